@@ -1,0 +1,5 @@
+pub mod Name
+pub mod Price
+pub mod Value
+pub mod Field
+pub mod Message
