@@ -1,0 +1,48 @@
+use mama_msg::Msg;
+
+/// What a message of the market is.
+#[derive(Clone, Copy, Debug, PartialEq, Eq, Hash)]
+pub enum MsgKind {
+    /// The whole record, sent because a subscription asked for a first image.
+    Initial,
+    /// The fields that one update changes.
+    Update,
+    /// The whole record, sent again.
+    Recap,
+}
+
+/// Whether an image is the sender's record, or may lack updates.
+#[derive(Clone, Copy, Debug, PartialEq, Eq, Hash)]
+pub enum Quality {
+    Ok,
+    Stale,
+}
+
+/// How a subscription treats its messages.
+#[derive(Clone, Copy, Debug, PartialEq, Eq, Hash)]
+pub enum SubKind {
+    /// An initial image, then updates with gaps found and healed by recaps.
+    Market,
+    /// The first image alone.
+    Snapshot,
+    /// Each message as it comes, with neither image nor quality.
+    Basic,
+}
+
+/// A message of the market. The sender is the publisher's number plus one. An update is numbered one above the
+/// update before it; an image carries the number of the last update in it.
+#[derive(Debug, Drop)]
+pub struct MarketMsg {
+    pub kind: MsgKind,
+    pub sender: u32,
+    pub seq: u32,
+    pub body: Msg,
+}
+
+/// What is told of an image beside its fields: whose record it is, the last update in it, and its quality.
+#[derive(Clone, Copy, Debug, PartialEq, Eq)]
+pub struct ImageHead {
+    pub sender: u32,
+    pub last: u32,
+    pub quality: Quality,
+}
