@@ -7,3 +7,4 @@ pub mod Message
 pub mod Index
 pub mod Laws
 pub mod Get
+pub mod Equality

@@ -1,5 +1,6 @@
 //! Messages.
 ghost use Rattle.std.specs.Prelude.{◌≡◌, ◌≢◌, ◌+◌, ◌<◌, ◌≤◌, ◌↔◌, true, [], ◌∷◌, ◌++◌, length, fold, slice_get, IsTrue, IsOk, IfOk, OnOk, IfErr, OnErr, ◌⊎◌};
+ghost use Rattle.std.specs.Cmp.{partial_equiv_from_equiv};
 ghost use Rattle.std.specs.Option.{option_copied};
 ghost use Rattle.std.specs.Map.{values_of};
 ghost use Rattle.indexmap.specs.IndexMap.{spare, IsUnchanged};
@@ -10,7 +11,7 @@ ghost use Rattle.mama_msg.specs.Index.{indexed, IsIndexed};
 use crate::field::{Field, Key};
 use crate::name::Name;
 use indexmap::IndexMap;
-use mama_memory::OutOfMemory;
+use mama_memory::{Duplicate, OutOfMemory};
 use std::alloc::{AllocFailed, Global};
 use std::error::Error;
 use std::fmt;
@@ -20,7 +21,7 @@ use std::marker::Model;
 type Fields = IndexMap<Key, Field>;
 
 /// Why a field was not added. The field comes back.
-#[derive(Debug, Drop)]
+#[derive(Debug, PartialEq, Eq, Drop)]
 pub enum AddFault {
     /// The message has a field with this key.
     Present(Field),
@@ -222,4 +223,31 @@ impl Msg {
         put_all(&mut fields, copies);
         Ok(Msg { fields })
     }
+}
+
+impl Duplicate for Msg {
+    fn try_clone(&self) -> Result<Msg, OutOfMemory> {
+        Msg::try_clone(self)
+    }
+}
+
+impl PartialEq for Msg {
+    ghost use Rattle.mama_msg.specs.Equality.{same_message, same_message_equivalence};
+
+    ghost eq = { same_message };
+
+    ghost laws = { partial_equiv_from_equiv same_message_equivalence };
+
+    fn eq(&self, other: &Msg) -> bool
+        ensures value { result ≡ same_message self.now other.now }
+        ensures exact { IsTrue result ↔ (self.now ≡ other.now) }
+    {
+        self.fields.values().as_slice() == other.fields.values().as_slice()
+    }
+}
+
+impl Eq for Msg {
+    ghost use Rattle.mama_msg.specs.Equality.{same_message_equivalence};
+
+    ghost laws = { same_message_equivalence };
 }
