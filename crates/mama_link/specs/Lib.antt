@@ -2,3 +2,4 @@ pub mod Faults
 pub mod Table
 pub mod Outbox
 pub mod Link
+pub mod Slots

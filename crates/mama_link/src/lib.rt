@@ -3,6 +3,7 @@
 
 mod faults;
 mod outbox;
+mod slots;
 
 pub use faults::{Fault, FaultRow, Faults, FaultsFault};
 pub use mama_memory::{Duplicate, OutOfMemory};
