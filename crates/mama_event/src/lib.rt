@@ -8,6 +8,8 @@ mod fids;
 mod ids;
 mod market;
 mod order;
+mod shape;
+mod stream;
 
 pub use callback::{CallNote, Callback};
 pub use fids::Fids;
@@ -15,3 +17,5 @@ pub use ids::{InboxId, ObjectId, SubId, TimerId};
 pub use mama_memory::{Duplicate, OutOfMemory};
 pub use market::{ImageHead, MarketMsg, MsgKind, Quality, SubKind};
 pub use order::{MOST_ORDERS, Order, Orders, PlanRow};
+pub use shape::{Bounds, Shape, Took, Topics};
+pub use stream::{Stream, Tagged};
