@@ -12,7 +12,7 @@ mod shape;
 mod stream;
 
 pub use callback::{CallNote, Callback};
-pub use fids::Fids;
+pub use fids::{Fids, MOST_FIDS};
 pub use ids::{InboxId, ObjectId, SubId, TimerId};
 pub use mama_memory::{Duplicate, OutOfMemory};
 pub use market::{ImageHead, MarketMsg, MsgKind, Quality, SubKind};
