@@ -3,6 +3,10 @@ pub mod FidList
 pub mod Lawful
 pub mod LawfulLaws
 pub mod Object
+pub mod Ports
+pub mod Publisher
 pub mod Record
+pub mod ToBridge
 pub mod ToPublisher
+pub mod ToQueue
 pub mod ToTimers

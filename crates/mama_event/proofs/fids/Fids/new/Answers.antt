@@ -7,7 +7,7 @@ loop-i-preserved c = record {
   size = simp length-set c.loop-i.invariant.size;
   front = fid_kept _ _ _ (omega arith) (omega arith) c.loop-i.invariant.front;
   back = blank_left c.loop-i.kept c.loop-i.i _ c.loop-i.invariant.size (omega arith) c.loop-i.invariant.back;
-  rest = ascending_rest c.args.fids.now c.loop-i.i c.loop-i.before (omega arith) (omega arith) ∙ c.loop-i.invariant.rest
+  rest = ascending_rest c.args.fids.now c.loop-i.i c.loop-i.before (omega arith) (omega arith) ∙ c.loop-i.invariant.rest;
 }
 
 pub invariant_of-result : goal.invariant_of-result
