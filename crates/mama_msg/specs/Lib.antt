@@ -5,3 +5,4 @@ pub mod Field
 pub mod Keys
 pub mod Message
 pub mod Index
+pub mod Laws
