@@ -1,2 +1,5 @@
 pub mod Faults
 pub mod Table
+pub mod Outbox
+pub mod Link
+pub mod Slots

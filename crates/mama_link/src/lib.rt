@@ -2,6 +2,9 @@
 #![tactic(auto)]
 
 mod faults;
+mod outbox;
+mod slots;
 
 pub use faults::{Fault, FaultRow, Faults, FaultsFault};
 pub use mama_memory::{Duplicate, OutOfMemory};
+pub use outbox::Outbox;
