@@ -1,2 +1,12 @@
 pub mod Fids
+pub mod FidList
+pub mod Lawful
+pub mod LawfulLaws
+pub mod Object
+pub mod Ports
+pub mod Publisher
 pub mod Record
+pub mod ToBridge
+pub mod ToPublisher
+pub mod ToQueue
+pub mod ToTimers

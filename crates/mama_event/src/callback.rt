@@ -1,5 +1,8 @@
+ghost use Rattle.std.specs.Prelude.{◌≡◌, IfOk};
+
 use crate::market::{MarketMsg, Quality};
 use crate::order::Orders;
+use mama_memory::{Duplicate, OutOfMemory};
 use mama_msg::Msg;
 
 /// One callback of an object's listener.
@@ -25,9 +28,44 @@ pub enum Callback {
     Reply { body: Msg },
 }
 
+impl Duplicate for Callback {
+    fn try_clone(&self) -> Result<Callback, OutOfMemory> {
+        match self {
+            Callback::Create => Ok(Callback::Create),
+            Callback::Msg { msg, quality } => Ok(Callback::Msg {
+                msg: msg.try_clone()?,
+                quality: *quality,
+            }),
+            Callback::Gap { first, to } => Ok(Callback::Gap {
+                first: *first,
+                to: *to,
+            }),
+            Callback::Quality { quality, number } => Ok(Callback::Quality {
+                quality: *quality,
+                number: *number,
+            }),
+            Callback::RecapRequest { sender } => Ok(Callback::RecapRequest { sender: *sender }),
+            Callback::Error { code } => Ok(Callback::Error { code: *code }),
+            Callback::Destroy => Ok(Callback::Destroy),
+            Callback::Tick { moment } => Ok(Callback::Tick { moment: *moment }),
+            Callback::Reply { body } => Ok(Callback::Reply {
+                body: body.try_clone()?,
+            }),
+        }
+    }
+}
+
 /// A callback that was made, and the orders that the listener gave in it.
 #[derive(Debug, Drop)]
 pub struct CallNote {
     pub call: Callback,
     pub orders: Orders,
+}
+
+impl Duplicate for CallNote {
+    fn try_clone(&self) -> Result<CallNote, OutOfMemory> {
+        let call = self.call.try_clone()?;
+        let orders = self.orders.copied();
+        Ok(CallNote { call, orders })
+    }
 }

@@ -1,3 +1,6 @@
+ghost use Rattle.std.specs.Prelude.{◌≡◌, IfOk};
+
+use mama_memory::{Duplicate, OutOfMemory};
 use mama_msg::Msg;
 
 /// What a message of the market is.
@@ -37,6 +40,18 @@ pub struct MarketMsg {
     pub sender: u32,
     pub seq: u32,
     pub body: Msg,
+}
+
+impl Duplicate for MarketMsg {
+    fn try_clone(&self) -> Result<MarketMsg, OutOfMemory> {
+        let body = self.body.try_clone()?;
+        Ok(MarketMsg {
+            kind: self.kind,
+            sender: self.sender,
+            seq: self.seq,
+            body,
+        })
+    }
 }
 
 /// What is told of an image beside its fields: whose record it is, the last update in it, and its quality.
