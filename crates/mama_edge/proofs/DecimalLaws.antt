@@ -112,9 +112,11 @@ pub record BeginsAsNumeral (text : List ℕ) : Type 0 where
   pub some : 0 < length text
   pub lead : get_or text 0 0 ≡ 48 → length text ≡ 1
 
-pub begins : (text : List ℕ) → 0 < length text → (get_or text 0 0 ≡ 48 × (length text ≤ 1)) ⊎ (get_or text 0 0 ≢ 48) → BeginsAsNumeral text
-begins text some (inl short) = record { some = some; lead = λ _. omega (arith, some, short.1) }
-begins text some (inr other) = record { some = some; lead = λ e. absurd (other e) }
+pub begins : (text : List ℕ) → 0 < length text → ¬ ((get_or text 0 0 ≡ 48) × (1 < length text)) → BeginsAsNumeral text
+begins text some no_spare = record {
+  some = some;
+  lead = λ e. elim (cases_lt 1 (length text)) [ inl long ↦ absurd (no_spare (e, long)) | inr short ↦ omega arith ];
+}
 
 pub read_found : (r : Option ℕ) (text : List ℕ) → BeginsAsNumeral text → IfSome r (λ n. AllDigits 10 text × (n ≡ digits_value 10 text)) → IfSome r (λ n. n < 2 ^ 64) → IfSome r (λ n. text ≡ decimal n)
 read_found None text start found fits = tt

@@ -1,6 +1,5 @@
 ghost use Rattle.std.specs.Prelude.{◌≡◌, ◌↔◌, ◌⊎◌, ◌+◌, ◌-◌, ◌<◌, ◌≤◌, [], ◌++◌, Some, length, take, min, Contains, IsErr, IfOk, OnErr, MatchResult, vec_len, vec_capacity};
 ghost use Rattle.mama_edge.specs.Count.{Rose, raised};
-ghost use Rattle.mama_edge.specs.Told.{with_end};
 
 use crate::sink::{Sink, WriteFailed};
 use mama_memory::OutOfMemory;
@@ -74,7 +73,7 @@ impl Sink for MemorySink {
         requires { 0 < length buf.now }
         ensures some { IfOk result (λ n. 0 < n) }
         ensures bound { IfOk result (λ n. n ≤ length buf.now) }
-        ensures appended { IfOk result (λ n. Some self.new.written ≡ with_end (Some self.old.written) (take n buf.now)) }
+        ensures appended { IfOk result (λ n. self.new.written ≡ self.old.written ++ take n buf.now) }
 
         ensures failed { OnErr result (Rose self.old.faults self.new.faults) }
         ensures unchanged { OnErr result (self.new.written ≡ self.old.written) }

@@ -1,6 +1,5 @@
-ghost use Rattle.std.specs.Prelude.{◌≡◌, ◌↔◌, ℕ, ◌<◌, ◌≤◌, [], Some, length, take, drop, min, Contains, IsErr, IfOk, OnErr, MatchResult};
+ghost use Rattle.std.specs.Prelude.{◌≡◌, ◌↔◌, ℕ, ◌<◌, ◌≤◌, [], ◌++◌, Some, length, take, drop, min, Contains, IsErr, IfOk, OnErr, MatchResult};
 ghost use Rattle.mama_edge.specs.Count.{Rose, raised};
-ghost use Rattle.mama_edge.specs.Told.{with_front};
 
 use crate::source::{ReadFailed, Source};
 use std::marker::Model;
@@ -64,7 +63,7 @@ impl Source for MemorySource {
     fn read(&mut self, buf: &mut [u8]) -> Result<usize, ReadFailed>
         requires { 0 < length buf.old }
         ensures bound { IfOk result (λ n. n ≤ length buf.new) }
-        ensures given { IfOk result (λ n. Some self.old.left ≡ with_front (take n buf.new) (Some self.new.left)) }
+        ensures given { IfOk result (λ n. self.old.left ≡ take n buf.new ++ self.new.left) }
         ensures end { IfOk result (λ n. (n ≡ 0) ↔ (self.old.left ≡ [])) }
 
         ensures failed { OnErr result (Rose self.old.faults self.new.faults) }

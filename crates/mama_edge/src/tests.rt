@@ -1,3 +1,5 @@
+ghost use Rattle.std.specs.Prelude.{◌≡◌, ℕ, take, IfOk};
+
 use crate::*;
 use std::alloc::{AllocError, Global};
 use std::io;
@@ -36,9 +38,17 @@ fn writes_up_to_a_fault(rt: HostRuntime) -> Result<(), Fail> {
             Some(_) => assert_eq!(rt; answer, Err(WriteFault { written }), "room {room}"),
             None => assert_eq!(rt; answer, Ok(()), "room {room}"),
         }
-        assert!(rt; written <= 400);
-        assert_eq!(rt; sink.written(), &text[..written as usize], "room {room}");
+        assert_eq!(rt;
+            Some(sink.written()),
+            text.get(..written as usize),
+            "room {room}"
+        );
     }
+    assert_eq!(rt;
+        copied(alloc, Vec::from_slice(alloc, &text)?)?.as_slice(),
+        text.as_slice()
+    );
+    assert_eq!(rt; written(alloc, &text)?.written().len(), 100);
     let mut full = MemorySink::new(alloc, 0, 1, Vec::new(alloc))?;
     assert_eq!(rt; write_all_counted(&mut full, b""), Ok(()));
     assert_eq!(rt;
@@ -100,6 +110,25 @@ fn gives_moments_in_turn(rt: HostRuntime) -> Result<(), Fail> {
     assert!(rt; real.now() > 1_500_000_000_000);
     OpenGate.turn(GateActor::Queue(1));
     Ok(())
+}
+
+/// A copy, by way of a source over memory.
+fn copied(alloc: Global, bytes: Vec<u8>) -> Result<Vec<u8>, ReadAll>
+    ensures { IfOk result (λ copy. copy.items ≡ bytes.items) }
+{
+    let mut source = MemorySource::new(bytes, 1, Vec::new(alloc));
+    read_all(alloc, &mut source, usize::MAX)
+}
+
+/// The same, by way of a sink over memory, as far as the piece and the room allow.
+fn written(alloc: Global, text: &[u8]) -> Result<MemorySink, OutOfMemory>
+    ensures { IfOk result (λ sink. (k : ℕ) × (sink.written ≡ take k text.now)) }
+{
+    let mut sink = MemorySink::new(alloc, 100, 10, Vec::new(alloc))?;
+    match write_all_counted(&mut sink, text) {
+        Ok(()) => Ok(sink),
+        Err(_) => Ok(sink),
+    }
 }
 
 /// A reader that gives, and a writer that takes, a byte a call, and fails at the call with this number. The writer takes
