@@ -1,4 +1,4 @@
-ghost use Rattle.std.specs.Prelude.{◌≡◌, ℕ, take, IfOk};
+ghost use Rattle.std.specs.Prelude.{◌≡◌, IfOk, IfSome};
 
 use crate::*;
 use std::alloc::{AllocError, Global};
@@ -48,7 +48,8 @@ fn writes_up_to_a_fault(rt: HostRuntime) -> Result<(), Fail> {
         copied(alloc, Vec::from_slice(alloc, &text)?)?.as_slice(),
         text.as_slice()
     );
-    assert_eq!(rt; written(alloc, &text)?.written().len(), 100);
+    assert!(rt; written(alloc, &text)?.is_none());
+    assert!(rt; written(alloc, b"mama")?.is_some());
     let mut full = MemorySink::new(alloc, 0, 1, Vec::new(alloc))?;
     assert_eq!(rt; write_all_counted(&mut full, b""), Ok(()));
     assert_eq!(rt;
@@ -120,14 +121,14 @@ fn copied(alloc: Global, bytes: Vec<u8>) -> Result<Vec<u8>, ReadAll>
     read_all(alloc, &mut source, usize::MAX)
 }
 
-/// The same, by way of a sink over memory, as far as the piece and the room allow.
-fn written(alloc: Global, text: &[u8]) -> Result<MemorySink, OutOfMemory>
-    ensures { IfOk result (λ sink. (k : ℕ) × (sink.written ≡ take k text.now)) }
+/// A sink over memory with the text, if that has 100 bytes at most.
+fn written(alloc: Global, text: &[u8]) -> Result<Option<MemorySink>, OutOfMemory>
+    ensures { IfOk result (λ answer. IfSome answer (λ sink. sink.written ≡ text.now)) }
 {
     let mut sink = MemorySink::new(alloc, 100, 10, Vec::new(alloc))?;
     match write_all_counted(&mut sink, text) {
-        Ok(()) => Ok(sink),
-        Err(_) => Ok(sink),
+        Ok(()) => Ok(Some(sink)),
+        Err(_) => Ok(None),
     }
 }
 

@@ -1,4 +1,4 @@
-use Rattle.std.proofs.Common.{◌≡◌, ℕ, ◌-◌, ◌≤◌, vec_len}
+use Rattle.std.proofs.Common.{◌-◌, ◌≤◌, vec_len}
 use Rattle.mama_edge.specs.Told.{Gave}
 use Rattle.mama_edge.proofs.reading.read_all.Given as goal
 

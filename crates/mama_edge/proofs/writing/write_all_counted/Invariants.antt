@@ -1,4 +1,4 @@
-use Rattle.std.proofs.Common.{◌≡◌, ℕ, ◌-◌, ◌≤◌, length, take}
+use Rattle.std.proofs.Common.{◌-◌, ◌≤◌, length, take}
 use Rattle.mama_edge.specs.Told.{Appended}
 use Rattle.mama_edge.proofs.writing.write_all_counted.Given as goal
 
