@@ -44,7 +44,8 @@ fn digits_number(digits: &[u8]) -> Option<u64>
 
 /// The number with one digit more behind it.
 fn next_number(number: u64, byte: u8) -> Option<u64>
-    ensures { SomeIff result ((digit_value byte < 10) × (number * 10 + digit_value byte < 2 ^ 64)) (number * 10 + digit_value byte) }
+    ensures { let next = number * 10 + digit_value byte in
+        SomeIff result ((digit_value byte < 10) × (next < 2 ^ 64)) next }
 {
     let digit = char::from(byte).to_digit(10)?;
     number.checked_mul(10)?.checked_add(u64::from(digit))
