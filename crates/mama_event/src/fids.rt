@@ -18,11 +18,11 @@ impl Model for Fids {
 
     ghost Value = { List ℕ };
 
-    ghost use Rattle.mama_event.specs.Fids.{list_of, IsPadded, inside_of, inside_of-list_of};
+    ghost use Rattle.mama_event.specs.Fids.{list_of, AreFids, inside_of, inside_of-list_of};
 
     ghost view = { list_of };
 
-    ghost invariant = { IsPadded };
+    ghost invariant = { AreFids };
 
     ghost inverse = { inside_of };
 
@@ -58,7 +58,7 @@ impl Fids {
     /// How many fids there are: 1 to 8.
     pub fn len(&self) -> usize
         ensures len { result ≡ length self.now }
-        ensures most { result ≤ 8 }
+        ensures form { is_fid_list self.now ≡ true }
     {
         self.length as usize
     }
