@@ -42,7 +42,7 @@ fid_list_kept kept fids before some most front rest =
     let same : take (length fids) kept ≡ fids = front ∙ take_all (length fids) fids (omega arith) in
     let ascending : is_ascending_above 0 fids ≡ true = sym rest ∙ ap (λ (xs : List ℕ). is_ascending_above before xs) (drop-length fids) in
     rw same (and_from (nat_le 1 (length fids) && nat_le (length fids) 8) (is_ascending_above 0 fids)
-      (and_from (nat_le 1 (length fids)) (nat_le (length fids) 8) (le-leb 1 (length fids) some) (le-leb (length fids) 8 most)) ascending)
+    (and_from (nat_le 1 (length fids)) (nat_le (length fids) 8) (le-leb 1 (length fids) some) (le-leb (length fids) 8 most)) ascending)
 
 -- each fid of an ascending list is above the bound
 pub ascending_at : (bound : ℕ) (fids : List ℕ) (i : ℕ) → is_ascending_above bound fids ≡ true → i < length fids → bound < get_or fids i 0
@@ -64,3 +64,14 @@ ascending_fresh bound (f ∷ fs) (suc i) ascending within =
     let above : f < get_or fs i 0 = ascending_at f fs i parts.1 (omega arith) in
     let other : (f == get_or fs i 0) ≡ false = ne_eqb f (get_or fs i 0) (λ same. omega arith) in
     ap (λ (b : Bool). b || list_any (λ fid. fid == get_or fs i 0) (take i fs)) other ∙ ascending_fresh f fs i parts.1 (omega arith)
+
+-- no fid of an ascending list is 0
+pub ascending_above_none : (bound : ℕ) (fids : List ℕ) (i : ℕ) → is_ascending_above bound fids ≡ true
+    → list_any (λ fid. fid == 0) (take i fids) ≡ false
+ascending_above_none bound fids zero ascending = refl
+ascending_above_none bound [] (suc i) ascending = refl
+ascending_above_none bound (f ∷ fs) (suc i) ascending =
+    let parts = and_parts (nat_lt bound f) (is_ascending_above f fs) ascending in
+    let above : bound < f = ltb-true bound f parts.0 in
+    let other : (f == 0) ≡ false = ne_eqb f 0 (λ same. omega arith) in
+    ap (λ (b : Bool). b || list_any (λ fid. fid == 0) (take i fs)) other ∙ ascending_above_none f fs i parts.1

@@ -45,7 +45,7 @@ abbrev script : PublisherScript
 script = record {
   number = 0;
   base = bid 100 ∷ [];
-  lines = SendLine.Update (bid 101 ∷ []) ∷ SendLine.Update (ask 103 ∷ []) ∷ SendLine.Recap ∷ []
+  lines = SendLine.Update (bid 101 ∷ []) ∷ SendLine.Update (ask 103 ∷ []) ∷ SendLine.Recap ∷ [];
 }
 
 abbrev journal : List PublisherEntry

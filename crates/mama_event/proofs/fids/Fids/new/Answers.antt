@@ -15,4 +15,7 @@ invariant_of-result c =
     let all : c.loop-i.i ≡ length c.args.fids.now = omega arith in
     record {
       form = fid_list_kept c.loop-i.kept c.args.fids.now c.loop-i.before (omega arith) (omega arith) (rw (← all) c.loop-i.invariant.front) (rw (← all) c.loop-i.invariant.rest);
-      short = omega arith; size = c.loop-i.invariant.size; rest = rw (← all) c.loop-i.invariant.back }
+      short = omega arith;
+      size = c.loop-i.invariant.size;
+      rest = rw (← all) c.loop-i.invariant.back;
+    }
