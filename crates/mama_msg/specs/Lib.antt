@@ -6,3 +6,5 @@ pub mod Keys
 pub mod Message
 pub mod Index
 pub mod Laws
+pub mod Get
+pub mod Equality
