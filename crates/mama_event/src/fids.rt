@@ -7,7 +7,7 @@ use std::marker::Model;
 pub const MOST_FIDS: usize = 8;
 
 /// 1 to 8 fids that a reply is asked to have, each from 1 and strictly ascending. They lie in the value itself.
-#[derive(Clone, Copy, Debug, PartialEq, Eq)]
+#[derive(Clone, Copy, Debug)]
 pub struct Fids {
     length: u8,
     fids: [u16; 8],
@@ -27,6 +27,29 @@ impl Model for Fids {
     ghost inverse = { inside_of };
 
     ghost inverse_ok = { inside_of-list_of };
+}
+
+impl PartialEq for Fids {
+    ghost use Rattle.std.specs.Prelude.{◌≡◌};
+    ghost use Rattle.std.specs.Cmp.{partial_equiv_from_equiv};
+    ghost use Rattle.std.specs.Str.{bytes_eq};
+    ghost use Rattle.std.specs.Cmp.Lexicographic.{nat_list_eq_equiv};
+
+    ghost eq = { bytes_eq };
+
+    ghost laws = { partial_equiv_from_equiv nat_list_eq_equiv };
+
+    fn eq(&self, other: &Fids) -> bool
+        ensures { result ≡ bytes_eq self.now other.now }
+    {
+        self.as_slice() == other.as_slice()
+    }
+}
+
+impl Eq for Fids {
+    ghost use Rattle.std.specs.Cmp.Lexicographic.{nat_list_eq_equiv};
+
+    ghost laws = { nat_list_eq_equiv };
 }
 
 impl Fids {
@@ -70,5 +93,12 @@ impl Fids {
     {
         let fids = &self.fids;
         fids[i]
+    }
+
+    /// The fids in order.
+    pub fn as_slice(&self) -> &[u16]
+        ensures { result.now ≡ self.now }
+    {
+        &self.fids[..self.length as usize]
     }
 }

@@ -19,3 +19,6 @@ pub use laws::{
 };
 pub use mama_memory::OutOfMemory;
 pub use publisher::{MOST_FIELDS, Publisher, SendFault};
+
+#[cfg(test)]
+mod tests;

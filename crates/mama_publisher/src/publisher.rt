@@ -1,6 +1,5 @@
-ghost use Rattle.std.specs.Prelude.{◌≡◌, ◌≢◌, ◌↔◌, ◌+◌, ◌-◌, ◌^◌, ◌<◌, ◌≤◌, not, map, [], ◌∷◌, ◌++◌, length, count_by, IsTrue, IsErr, IfOk, OnOk, IfErr, OnErr};
-ghost use Rattle.mama_msg.specs.Field.{key_of};
-ghost use Rattle.mama_msg.specs.Message.{has_key, apply};
+ghost use Rattle.std.specs.Prelude.{◌≡◌, ◌≢◌, ◌↔◌, ◌+◌, ◌-◌, ◌^◌, ◌<◌, ◌≤◌, map, [], ◌∷◌, ◌++◌, length, IsErr, IfOk, OnOk, IfErr, OnErr};
+ghost use Rattle.mama_msg.specs.Message.{apply};
 ghost use Rattle.mama_event.specs.Publisher.{message_of, asked_fields, answer_of};
 ghost use Rattle.mama_event.specs.ToPublisher.{note_of};
 ghost use Rattle.mama_event.specs.ToBridge.{note_of as bridge_note_of};
@@ -72,28 +71,6 @@ impl Model for Publisher {
     ghost invariant = { λ p. (length p.held ≤ 64) × (p.number + 1 < 2 ^ 32) };
 }
 
-/// How many fields of an update have keys that a record does not have.
-fn new_keys(held: &Msg, update: &Msg) -> usize
-    ensures { result ≡ count_by (λ f. not (has_key (key_of f) held.now)) update.now }
-{
-    let mut count = 0;
-    for i in 0..update.len() {
-        let field = update.at(i);
-        if !held.has_key(field.fid(), field.name()) {
-            count += 1;
-        }
-    }
-    count
-}
-
-/// Whether a record would have more than 64 fields with an update.
-fn is_full_with(held: &Msg, update: &Msg) -> bool
-    requires { length held.now ≤ 64 }
-    ensures { IsTrue result ↔ (64 < length (apply held.now update.now)) }
-{
-    new_keys(held, update) > MOST_FIELDS - held.len()
-}
-
 /// Puts an event last.
 fn put<L: Tagged>(event: ToBridge<L>, out: &mut Outbox<ToBridge<L>>) -> Result<(), OutOfMemory>
     ensures ok { OnOk result (out.new.items ≡ out.old.items ++ event ∷ []) }
@@ -137,18 +114,13 @@ impl Publisher {
         if self.seq == u32::MAX {
             return Err(SendFault::NumbersSpent);
         }
-        if is_full_with(&self.held, update) {
+        if self.held.len_after(update) > MOST_FIELDS {
             return Err(SendFault::RecordFull);
         }
         let body = update.try_clone()?;
         self.held.apply(update)?;
         self.seq += 1;
-        Ok(MarketMsg {
-            kind: MsgKind::Update,
-            sender: self.number + 1,
-            seq: self.seq,
-            body,
-        })
+        Ok(self.message(MsgKind::Update, body))
     }
 
     /// The whole record, under the number of the last update in it, as an `Initial` or a `Recap`. It uses up no
@@ -198,17 +170,24 @@ impl Publisher {
         self.seq
     }
 
+    /// A message under the number of the last update.
+    fn message(&self, kind: MsgKind, body: Msg) -> MarketMsg
+        ensures { result ≡ message_of self.now.number kind self.now.seq body }
+    {
+        MarketMsg {
+            kind,
+            sender: self.number + 1,
+            seq: self.seq,
+            body,
+        }
+    }
+
     /// The whole record as a message of some kind.
     fn whole(&self, kind: MsgKind) -> Result<MarketMsg, OutOfMemory>
         ensures { IfOk result (λ msg. msg ≡ message_of self.now.number kind self.now.seq self.now.held) }
     {
         let body = self.held.try_clone()?;
-        Ok(MarketMsg {
-            kind,
-            sender: self.number + 1,
-            seq: self.seq,
-            body,
-        })
+        Ok(self.message(kind, body))
     }
 
     /// The fields that are asked for.
