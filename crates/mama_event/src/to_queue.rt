@@ -86,6 +86,20 @@ pub enum QueueNote {
     Fin,
 }
 
+/// Whether two ids name one object.
+fn same(a: &ObjectId, b: &ObjectId) -> bool
+    ensures { result ≡ same_object a.now b.now }
+{
+    a == b
+}
+
+/// Whether two objects are made alike.
+fn made_alike(a: &Make, b: &Make) -> bool
+    ensures { result ≡ same_make a.now b.now }
+{
+    a == b
+}
+
 /// Whether an object, what it is made as and its listener's tag are the same on both sides.
 fn same_making(
     object: &ObjectId,
@@ -97,7 +111,7 @@ fn same_making(
 ) -> bool
     ensures { result ≡ (same_object object.now other_object.now && same_make make.now other_make.now && same_object tag.now other_tag.now) }
 {
-    object == other_object && make == other_make && tag == other_tag
+    same(object, other_object) && made_alike(make, other_make) && same(tag, other_tag)
 }
 
 impl PartialEq for QueueNote {
