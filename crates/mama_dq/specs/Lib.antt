@@ -1,0 +1,4 @@
+pub mod Table
+pub mod Cache
+pub mod Context
+pub mod Strategy
