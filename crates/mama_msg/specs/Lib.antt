@@ -2,4 +2,9 @@ pub mod Name
 pub mod Price
 pub mod Value
 pub mod Field
+pub mod Keys
 pub mod Message
+pub mod Index
+pub mod Laws
+pub mod Get
+pub mod Equality
