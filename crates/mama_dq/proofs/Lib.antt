@@ -1,2 +1,4 @@
 pub mod CacheLemmas
 pub mod StrategyLemmas
+pub mod Relations
+pub mod ImageLaw

@@ -2,3 +2,4 @@ pub mod Table
 pub mod Cache
 pub mod Context
 pub mod Strategy
+pub mod Image

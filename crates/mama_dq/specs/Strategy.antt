@@ -108,15 +108,20 @@ cached_above c m = if c.sender == m.sender then above m.seq c.cache.updates else
 abbrev pub started : ContextData → MarketMsg → Step
 started c m = preceded_by (on.Msg m quality.Ok ∷ []) (handled (with_image_of m (turned_to m.sender c)) (cached_above c m))
 
--- An image while the own one may lack updates: it is taken, with the cached updates that follow it without a hole, if
--- it then reaches the last number; otherwise a recap is asked for.
+-- an image that reaches the last number is taken, and is the sender's record
+abbrev pub reached_last : Reached → ContextData → MarketMsg → Step
+reached_last r c m = record {
+  context = record c { phase = LiveOk; last = r.number; image = r.body; cache = emptied c.cache };
+  calls = on.Msg m quality.Ok ∷ on.Quality quality.Ok r.number ∷ [];
+}
+
+-- an image that does not is passed over, and a recap is asked for
+abbrev pub stopped_short : ContextData → Step
+stopped_short c = record { context = c; calls = on.RecapRequest c.sender ∷ [] }
+
+-- an image while the own one may lack updates, by what it reaches with the cached updates that follow it without a hole
 abbrev pub healed : Reached → ContextData → MarketMsg → Step
-healed r c m = if nat_le c.last r.number
-    then record {
-      context = record c { phase = LiveOk; last = r.number; image = r.body; cache = emptied c.cache };
-      calls = on.Msg m quality.Ok ∷ on.Quality quality.Ok r.number ∷ [];
-    }
-    else record { context = c; calls = on.RecapRequest c.sender ∷ [] }
+healed r c m = if nat_le c.last r.number then reached_last r c m else stopped_short c
 
 -- what a message does, by its action
 abbrev pub acted : Action → ContextData → MarketMsg → Step

@@ -4,11 +4,13 @@
 mod cache;
 mod calls;
 mod context;
+mod laws;
 mod table;
 
 pub use cache::Cache;
 pub use calls::Calls;
 pub use context::DqContext;
+pub use laws::image_law;
 pub use mama_event::{Callback, MarketMsg, MsgKind, Quality, SubKind};
 pub use mama_memory::OutOfMemory;
 pub use mama_msg::Msg;
