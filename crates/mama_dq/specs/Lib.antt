@@ -3,3 +3,4 @@ pub mod Cache
 pub mod Context
 pub mod Strategy
 pub mod Image
+pub mod Gap

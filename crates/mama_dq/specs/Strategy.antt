@@ -56,6 +56,10 @@ with_cached c m = record c { cache = added c.cache m.seq m.body }
 abbrev pub turned_to : ℕ → ContextData → ContextData
 turned_to sender c = record c { sender = sender; cache = emptied c.cache }
 
+-- while there is no image, the context for an update of this sender: the cache is emptied, if it is another's
+abbrev pub waiting_for : ℕ → ContextData → ContextData
+waiting_for sender c = if c.sender == sender then c else turned_to sender c
+
 -- the context with the body of an image message as its image
 abbrev pub with_image_of : MarketMsg → ContextData → ContextData
 with_image_of m c = record c { phase = LiveOk; last = m.seq; image = m.body }
@@ -125,7 +129,7 @@ healed r c m = if nat_le c.last r.number then reached_last r c m else stopped_sh
 
 -- what a message does, by its action
 abbrev pub acted : Action → ContextData → MarketMsg → Step
-acted Keep c m = record { context = with_cached (if c.sender == m.sender then c else turned_to m.sender c) m; calls = [] }
+acted Keep c m = record { context = with_cached (waiting_for m.sender c) m; calls = [] }
 acted Start c m = started c m
 acted Replace c m = record { context = with_image_of m c; calls = on.Msg m quality.Ok ∷ [] }
 acted Heal c m = healed (reached c.cache.updates m.seq m.body) c m
