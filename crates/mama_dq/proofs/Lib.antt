@@ -5,3 +5,5 @@ pub mod ImageLaw
 pub mod CacheOrder
 pub mod SameKind
 pub mod GapLaw
+pub mod StaleLaw
+pub mod OrderlyLaw

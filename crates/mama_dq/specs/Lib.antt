@@ -4,3 +4,4 @@ pub mod Context
 pub mod Strategy
 pub mod Image
 pub mod Gap
+pub mod Orderly

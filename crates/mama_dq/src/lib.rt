@@ -10,7 +10,7 @@ mod table;
 pub use cache::Cache;
 pub use calls::Calls;
 pub use context::DqContext;
-pub use laws::{gap_law, image_law, stale_law};
+pub use laws::{gap_law, image_law, orderly_law, stale_law};
 pub use mama_event::{Callback, MarketMsg, MsgKind, Quality, SubKind};
 pub use mama_memory::OutOfMemory;
 pub use mama_msg::Msg;
