@@ -6,6 +6,8 @@ mod calls;
 mod context;
 mod laws;
 mod table;
+#[cfg(test)]
+mod tests;
 
 pub use cache::Cache;
 pub use calls::Calls;
