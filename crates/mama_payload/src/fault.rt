@@ -1,0 +1,54 @@
+//! Why a message could not be written, and why bytes could not be read.
+
+/// A rule of the payload that bytes can break.
+#[derive(Clone, Copy, Debug, PartialEq, Eq)]
+pub enum Rule {
+    Truncated,
+    BadTag,
+    BadText,
+    Repeated,
+    TooMany,
+    Trailing,
+}
+
+/// A broken rule, and how many bytes were left where it is broken.
+#[derive(Clone, Copy, Debug, PartialEq, Eq)]
+pub struct Fault {
+    pub rule: Rule,
+    pub left: usize,
+}
+
+/// Why reading stopped.
+#[derive(Clone, Copy, Debug, PartialEq, Eq)]
+pub enum Stop {
+    OutOfMemory,
+    Fault(Fault),
+}
+
+/// Why a message was not written.
+#[derive(Clone, Copy, Debug, PartialEq, Eq)]
+pub enum EncodeFault {
+    /// The message has more than 64 fields.
+    TooMany,
+    /// There was no memory for the bytes.
+    OutOfMemory,
+}
+
+/// Why bytes were not read. Places count from 0.
+#[derive(Clone, Copy, Debug, PartialEq, Eq)]
+pub enum DecodeFault {
+    /// A byte is needed where the bytes end: `at` is their number.
+    Truncated { at: usize },
+    /// The first byte is not 1, a tag is unknown, or the byte of a Bool is neither 0 nor 1.
+    BadTag { at: usize },
+    /// A byte that may not stand in a name or in a text, or the length byte of a name that is empty where the fid is 0.
+    BadText { at: usize },
+    /// The tag of a field whose key an earlier field has.
+    Repeated { at: usize },
+    /// The number of fields is above 64, the length of a name above 32, or the decimals of a price above 18.
+    TooMany { at: usize },
+    /// The first byte after the last field.
+    Trailing { at: usize },
+    /// There was no memory for the message.
+    OutOfMemory,
+}

@@ -1,0 +1,7 @@
+//! Messages as bytes.
+#![tactic(auto)]
+
+mod fault;
+mod kind;
+
+pub use fault::{DecodeFault, EncodeFault};
