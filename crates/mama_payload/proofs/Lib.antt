@@ -2,3 +2,5 @@ pub mod Steps
 pub mod Parts
 pub mod Keys
 pub mod Fields
+pub mod Messages
+pub mod Lettering

@@ -13,19 +13,20 @@ use Rattle.mama_payload.specs.declared.fault.Fault.{Fault}
 use Rattle.mama_payload.specs.declared.fault.Rule.TheVariants as rules
 use Rattle.mama_msg.specs.declared.value.Value.TheVariants as values
 use Rattle.mama_payload.specs.Spelling.{signed, value_bytes}
-use Rattle.mama_payload.specs.Reading.{◌>>=◌, fault_at, seen_as, byte_at, limited_at, number_at, signed_at, bytes_at, letters_at, flag_at}
+use Rattle.mama_payload.specs.Stop.{fault_at}
+use Rattle.mama_payload.specs.Reading.{◌>>=◌, seen_as, byte_at, limited_at, number_at, signed_at, bytes_at, letters_at, flag_at}
 use Rattle.mama_payload.proofs.Steps.{IsBytes, IsBytes-take, IsBytes-drop, IsBytes-rest, Reader, truncated, bind_ok, guard_ok, ok_is, Reads, Reads-then, Reads-seen, Spells, Spells-then, Spells-seen}
 
 abbrev pub one : ℕ → List ℕ
 one n = n ∷ []
 
 -- a front of one byte is empty
-front_of_one : (n : ℕ) (front : List ℕ) (c : ℕ) (rest : List ℕ) → one n ≡ front ++ c ∷ rest → front ≡ []
+pub front_of_one : (n : ℕ) (front : List ℕ) (c : ℕ) (rest : List ℕ) → one n ≡ front ++ c ∷ rest → front ≡ []
 front_of_one n [] c rest e = refl
 front_of_one n (x ∷ []) c rest e = absurd cc
 front_of_one n (x ∷ y ∷ front) c rest e = absurd cc
 
-and_parts : (a b : Bool) → (a && b) ≡ true → (a ≡ true) × (b ≡ true)
+pub and_parts : (a b : Bool) → (a && b) ≡ true → (a ≡ true) × (b ≡ true)
 and_parts true b e = (refl, e)
 and_parts false b e = absurd cc
 
@@ -180,7 +181,7 @@ bytes_spells n = record { takes = bytes_taken n }
 
 -- ---- letters
 
-letters_again : (test : ℕ → Bool) (letters rest : List ℕ) → list_all test letters ≡ true → letters_at test (length letters) (letters ++ rest) ≡ Ok (letters, rest)
+pub letters_again : (test : ℕ → Bool) (letters rest : List ℕ) → list_all test letters ≡ true → letters_at test (length letters) (letters ++ rest) ≡ Ok (letters, rest)
 unfolding letters_at
 letters_again test [] rest all = refl
 letters_again test (b ∷ letters) rest all =

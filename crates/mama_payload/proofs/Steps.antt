@@ -4,7 +4,8 @@ use Rattle.std.proofs.lemmas.Bool.{cases_lt}
 use Rattle.std.proofs.lemmas.List.{length-take, get_or-drop, get_or-take, get_or_past}
 use Rattle.mama_payload.specs.declared.fault.Fault.{Fault}
 use Rattle.mama_payload.specs.declared.fault.Rule.TheVariants as rules
-use Rattle.mama_payload.specs.Reading.{◌>>=◌, fault_at, seen_as}
+use Rattle.mama_payload.specs.Stop.{fault_at}
+use Rattle.mama_payload.specs.Reading.{◌>>=◌, seen_as}
 
 abbrev pub IsBytes : List ℕ → Type 0
 IsBytes bytes = (i : ℕ) → get_or bytes i 0 < 256

@@ -1,3 +1,3 @@
-pub mod Letters
+pub mod Stop
 pub mod Spelling
 pub mod Reading

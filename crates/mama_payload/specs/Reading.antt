@@ -3,26 +3,21 @@ use Rattle.std.specs.Prelude.{◌≡◌, ℕ, ℤ, zero, suc, ◌-◌, Bool, tru
 use Rattle.std.specs.Int.{Width, w8, w16, w32, w64, byte_len, from_be_bytes, cast_signed}
 use Rattle.mama_msg.specs.declared.value.Value.{Value}
 use Rattle.mama_msg.specs.declared.value.Value.TheVariants as values
-use Rattle.mama_msg.specs.declared.field.Key.{Key}
-use Rattle.mama_msg.specs.declared.field.Key.TheVariants.{Numbered, Named}
 use Rattle.mama_msg.specs.Price.{PriceData}
 use Rattle.mama_msg.specs.Value.{is_printable}
-use Rattle.mama_msg.specs.Field.{FieldData, key_of}
+use Rattle.mama_msg.specs.Field.{FieldData, key_from}
 use Rattle.mama_msg.specs.Message.{has_key}
+use Rattle.mama_payload.specs.Stop.{fault_at}
+use Rattle.mama_payload.specs.declared.letters.Alphabet.{Alphabet}
+use Rattle.mama_payload.specs.declared.letters.Alphabet.TheVariants as alphabets
 use Rattle.mama_payload.specs.declared.kind.Kind.{Kind}
 use Rattle.mama_payload.specs.declared.kind.Kind.TheVariants as kinds
 use Rattle.mama_payload.specs.declared.fault.Rule.{Rule}
 use Rattle.mama_payload.specs.declared.fault.Rule.TheVariants as rules
 use Rattle.mama_payload.specs.declared.fault.Fault.{Fault}
-use Rattle.mama_payload.specs.declared.fault.Stop.{Stop}
-use Rattle.mama_payload.specs.declared.fault.Stop.TheVariants as stops
 use Rattle.mama_payload.specs.declared.fault.DecodeFault.{DecodeFault}
 use Rattle.mama_payload.specs.declared.fault.DecodeFault.TheVariants as faults
-use Rattle.mama_payload.specs.Letters.{is_name_byte}
-
--- a fault at the first of these bytes
-abbrev pub fault_at : Rule → List ℕ → Fault
-fault_at rule bytes = record { rule = rule; left = length bytes }
+use Rattle.mama_msg.specs.Name.{is_name_byte}
 
 infixl 10 ◌>>=◌
 abbrev pub ◌>>=◌ : {A B : Type 0} → Result A Fault → (A → Result B Fault) → Result B Fault
@@ -62,8 +57,14 @@ letters_at test zero bytes = Ok ([], bytes)
 letters_at test (suc n) [] = Err (fault_at rules.Truncated [])
 letters_at test (suc n) (b ∷ bytes) = if test b then seen_as (λ letters. b ∷ letters) (letters_at test n bytes) else Err (fault_at rules.BadText (b ∷ bytes))
 
+-- the bytes that an alphabet allows
+abbrev pub allowed : Alphabet → ℕ → Bool
+allowed alphabets.Name = is_name_byte
+allowed alphabets.Text = is_printable
+
 -- ---- values
 
+-- a byte that is 0 or 1
 abbrev pub flag_at : List ℕ → Result (Bool × List ℕ) Fault
 flag_at [] = Err (fault_at rules.Truncated [])
 flag_at (zero ∷ bytes) = Ok (false, bytes)
@@ -71,7 +72,7 @@ flag_at (suc zero ∷ bytes) = Ok (true, bytes)
 flag_at (suc (suc b) ∷ bytes) = Err (fault_at rules.BadTag (suc (suc b) ∷ bytes))
 
 unfoldable pub text_at : List ℕ → Result (List ℕ × List ℕ) Fault
-text_at bytes = byte_at bytes >>= λ n. letters_at is_printable n.0 n.1
+text_at bytes = byte_at bytes >>= λ n. letters_at (allowed alphabets.Text) n.0 n.1
 
 unfoldable pub block_at : List ℕ → Result (List ℕ × List ℕ) Fault
 block_at bytes = byte_at bytes >>= λ n. bytes_at n.0 n.1
@@ -125,11 +126,7 @@ kind_at bytes = byte_at bytes >>= λ tag. known (kind_with_tag tag.0) bytes tag.
 unfoldable pub name_at : ℕ → List ℕ → Result (List ℕ × List ℕ) Fault
 name_at fid bytes = do
   n ← limited_at 32 bytes
-  if n.0 == 0 && fid == 0 then Err (fault_at rules.BadText bytes) else letters_at is_name_byte n.0 n.1
-
--- the key of a field with this fid and name
-abbrev pub key_from : ℕ → List ℕ → Key
-key_from fid name = if fid == 0 then Named name else Numbered fid
+  if n.0 == 0 && fid == 0 then Err (fault_at rules.BadText bytes) else letters_at (allowed alphabets.Name) n.0 n.1
 
 -- A field, behind these. Its key is looked up when the name was read, and the fault then stands at the tag.
 unfoldable pub field_at : List FieldData → List ℕ → Result (FieldData × List ℕ) Fault
@@ -186,14 +183,3 @@ placed size (Err fault) = Err (broken fault.rule (size - fault.left))
 -- the message that the bytes spell, or the first fault and its place
 abbrev pub decoded : List ℕ → Result (List FieldData) DecodeFault
 decoded bytes = placed (length bytes) (whole bytes)
-
--- ---- what the code answers
-
--- What a function returned, seen by view, is what reading gives, unless memory ran out.
-abbrev pub Stops : {Y : Type 0} → Stop → Result Y Fault → Type 0
-Stops stops.OutOfMemory read = Unit {0}
-Stops (stops.Fault fault) read = read ≡ Err fault
-
-abbrev pub Gives : {X Y : Type 0} → (X → Y) → Result X Stop → Result Y Fault → Type 0
-Gives view (Ok x) read = read ≡ Ok (view x)
-Gives view (Err stop) read = Stops stop read

@@ -12,7 +12,7 @@ use Rattle.mama_msg.specs.Field.{FieldData, IsKeyed}
 use Rattle.mama_msg.specs.Message.{AreDistinct}
 use Rattle.mama_payload.specs.declared.kind.Kind.{Kind}
 use Rattle.mama_payload.specs.declared.kind.Kind.TheVariants as kinds
-use Rattle.mama_payload.specs.Letters.{IsNameText}
+use Rattle.mama_msg.specs.Name.{IsNameText}
 
 -- the kind of a value
 abbrev pub kind_of : Value → Kind

@@ -1,4 +1,7 @@
-//! Why a message could not be written, and why bytes could not be read.
+//! Why a message was not written, and why bytes were not read.
+ghost use Rattle.std.specs.Prelude.{◌≡◌, []};
+
+use mama_memory::OutOfMemory;
 
 /// A rule of the payload that bytes can break.
 #[derive(Clone, Copy, Debug, PartialEq, Eq)]
@@ -11,7 +14,7 @@ pub enum Rule {
     Trailing,
 }
 
-/// A broken rule, and how many bytes were left where it is broken.
+/// A broken rule, and how many bytes are left from the place on at which it is broken.
 #[derive(Clone, Copy, Debug, PartialEq, Eq)]
 pub struct Fault {
     pub rule: Rule,
@@ -25,6 +28,36 @@ pub enum Stop {
     Fault(Fault),
 }
 
+impl Stop {
+    ghost use Rattle.mama_payload.specs.Stop.{stop_at};
+
+    /// A rule is broken at the first of these bytes.
+    pub fn at(rule: Rule, bytes: &[u8]) -> Stop
+        ensures { result ≡ stop_at rule bytes.now }
+    {
+        Stop::Fault(Fault {
+            rule,
+            left: bytes.len(),
+        })
+    }
+
+    /// A byte is needed where the bytes end.
+    pub fn at_end() -> Stop
+        ensures { result ≡ stop_at Rule.Truncated [] }
+    {
+        Stop::at(Rule::Truncated, &[])
+    }
+}
+
+impl From<OutOfMemory> for Stop {
+    ghost use Rattle.mama_payload.specs.declared.fault.Stop.TheVariants as stops;
+
+    ghost from_gives = { λ _ e. e ≡ stops.OutOfMemory };
+
+    fn from(_error: OutOfMemory) -> Stop {
+        Stop::OutOfMemory
+    }
+}
 /// Why a message was not written.
 #[derive(Clone, Copy, Debug, PartialEq, Eq)]
 pub enum EncodeFault {

@@ -1,4 +1,7 @@
-/// The kind of a value, with its tag byte.
+//! The kinds of values, and their tags.
+ghost use Rattle.std.specs.Prelude.{◌≡◌};
+
+/// The kind of a value. Its number is its tag.
 #[derive(Clone, Copy, Debug, PartialEq, Eq)]
 pub enum Kind {
     Bool = 0x01,
@@ -15,4 +18,39 @@ pub enum Kind {
     Bytes = 0x0c,
     Price = 0x0d,
     Moment = 0x0e,
+}
+
+impl Kind {
+    ghost use Rattle.mama_payload.specs.Spelling.{tag_of};
+    ghost use Rattle.mama_payload.specs.Reading.{kind_with_tag};
+
+    /// The tag byte.
+    pub fn tag(self) -> u8
+        ensures { result ≡ tag_of self }
+    {
+        self as u8
+    }
+
+    /// The kind with this tag, if there is one.
+    pub fn with_tag(tag: u8) -> Option<Kind>
+        ensures { result ≡ kind_with_tag tag }
+    {
+        match tag {
+            0x01 => Some(Kind::Bool),
+            0x02 => Some(Kind::Char),
+            0x03 => Some(Kind::I8),
+            0x04 => Some(Kind::I16),
+            0x05 => Some(Kind::I32),
+            0x06 => Some(Kind::I64),
+            0x07 => Some(Kind::U8),
+            0x08 => Some(Kind::U16),
+            0x09 => Some(Kind::U32),
+            0x0a => Some(Kind::U64),
+            0x0b => Some(Kind::Text),
+            0x0c => Some(Kind::Bytes),
+            0x0d => Some(Kind::Price),
+            0x0e => Some(Kind::Moment),
+            _ => None,
+        }
+    }
 }

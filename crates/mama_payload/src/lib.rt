@@ -3,5 +3,7 @@
 
 mod fault;
 mod kind;
+mod letters;
+mod reading;
 
 pub use fault::{DecodeFault, EncodeFault};
