@@ -12,7 +12,7 @@ use Rattle.mama_payload.proofs.Parts.{and_parts, letters_again}
 abbrev pub bad_letter : ℕ → Fault
 bad_letter left = record { rule = rules.BadText; left = left }
 
-abbrev failed : Fault → Result (List ℕ × List ℕ) Fault
+abbrev pub failed : Fault → Result (List ℕ × List ℕ) Fault
 failed fault = Err fault
 
 -- the first letter that does not pass is the fault

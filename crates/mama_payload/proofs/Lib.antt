@@ -4,3 +4,4 @@ pub mod Keys
 pub mod Fields
 pub mod Messages
 pub mod Lettering
+pub mod Loops

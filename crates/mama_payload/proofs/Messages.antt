@@ -1,5 +1,6 @@
 -- Messages: what is written is read, what is read is written so, and what faults there are beside.
-use Rattle.std.proofs.Common.{◌≡◌, ℕ, zero, suc, ◌+◌, ◌-◌, ◌<◌, ◌≤◌, Bool, true, false, cond, eqb, List, [], ◌∷◌, ◌++◌, length, Result, Ok, Err, refl, sym, ap, subst, ◌∙◌, append_assoc, arith}
+use Rattle.std.proofs.Common.{◌≡◌, ℕ, zero, suc, ◌+◌, ◌-◌, ◌<◌, ◌≤◌, Bool, true, false, cond, eqb, List, [], ◌∷◌, ◌++◌, length, Result, Ok, Err, refl, sym, ap, subst, ◌∙◌, append_assoc, arith, ◌⊎◌, inl, inr}
+use Rattle.std.specs.Prelude.{IfOk}
 use Rattle.std.specs.List.{flat_map, AllByRecursion}
 use Rattle.std.proofs.lemmas.Bool.{eqb-true}
 use Rattle.std.proofs.lemmas.List.{append-nil, length-append}
@@ -151,3 +152,18 @@ spellings_apart a b x y fits others e =
     let first : List FieldData × List ℕ = (a, x) in
     let same = ok_is first (b, y) (sym ((message_reads a fits).again x) ∙ ap message_at e ∙ (message_reads b others).again y) in
     (ap (λ (r : List FieldData × List ℕ). r.0) same, ap (λ (r : List FieldData × List ℕ). r.1) same)
+
+-- ---- what `decode` ensures
+
+-- the answer is what reading gives, unless memory ran out
+abbrev pub IsAnswer : List ℕ → Result (List FieldData) DecodeFault → Type 0
+IsAnswer bytes answer = (answer ≡ Err faults.OutOfMemory) ⊎ (answer ≡ decoded bytes)
+
+pub found_is : (bytes : List ℕ) (answer : Result (List FieldData) DecodeFault) → IsBytes bytes → IsAnswer bytes answer → IfOk answer (λ m. HasSpelling m × (bytes ≡ spelling m))
+found_is bytes (Ok m) fits (inl e) = absurd cc
+found_is bytes (Ok m) fits (inr e) = decoded_taken bytes m fits (sym e)
+found_is bytes (Err fault) fits is = tt
+
+pub only_is : (bytes : List ℕ) (answer : Result (List FieldData) DecodeFault) → IsAnswer bytes answer → (m : List FieldData) → HasSpelling m → bytes ≡ spelling m → (answer ≡ Err faults.OutOfMemory) ⊎ (answer ≡ Ok m)
+only_is bytes answer (inl e) m fits spelled = inl e
+only_is bytes answer (inr e) m fits spelled = inr (e ∙ ap decoded spelled ∙ decoded-spelling m fits)

@@ -15,6 +15,8 @@ use Rattle.mama_payload.specs.declared.kind.Kind.TheVariants as kinds
 use Rattle.mama_payload.specs.declared.fault.Rule.{Rule}
 use Rattle.mama_payload.specs.declared.fault.Rule.TheVariants as rules
 use Rattle.mama_payload.specs.declared.fault.Fault.{Fault}
+use Rattle.mama_payload.specs.declared.fault.Stop.{Stop}
+use Rattle.mama_payload.specs.declared.fault.Stop.TheVariants as stops
 use Rattle.mama_payload.specs.declared.fault.DecodeFault.{DecodeFault}
 use Rattle.mama_payload.specs.declared.fault.DecodeFault.TheVariants as faults
 use Rattle.mama_msg.specs.Name.{is_name_byte}
@@ -183,3 +185,8 @@ placed size (Err fault) = Err (broken fault.rule (size - fault.left))
 -- the message that the bytes spell, or the first fault and its place
 abbrev pub decoded : List ℕ → Result (List FieldData) DecodeFault
 decoded bytes = placed (length bytes) (whole bytes)
+
+-- the answer to this many bytes in which reading stopped
+abbrev pub stopped : ℕ → Stop → DecodeFault
+stopped size stops.OutOfMemory = faults.OutOfMemory
+stopped size (stops.Fault fault) = broken fault.rule (size - fault.left)

@@ -1,6 +1,8 @@
 //! The kinds of values, and their tags.
 ghost use Rattle.std.specs.Prelude.{◌≡◌};
 
+use mama_msg::Value;
+
 /// The kind of a value. Its number is its tag.
 #[derive(Clone, Copy, Debug, PartialEq, Eq)]
 pub enum Kind {
@@ -21,8 +23,30 @@ pub enum Kind {
 }
 
 impl Kind {
-    ghost use Rattle.mama_payload.specs.Spelling.{tag_of};
+    ghost use Rattle.mama_payload.specs.Spelling.{kind_of, tag_of};
     ghost use Rattle.mama_payload.specs.Reading.{kind_with_tag};
+
+    /// The kind of a value.
+    pub fn of(value: &Value) -> Kind
+        ensures { result ≡ kind_of value.now }
+    {
+        match value {
+            Value::Bool(_) => Kind::Bool,
+            Value::Char(_) => Kind::Char,
+            Value::I8(_) => Kind::I8,
+            Value::I16(_) => Kind::I16,
+            Value::I32(_) => Kind::I32,
+            Value::I64(_) => Kind::I64,
+            Value::U8(_) => Kind::U8,
+            Value::U16(_) => Kind::U16,
+            Value::U32(_) => Kind::U32,
+            Value::U64(_) => Kind::U64,
+            Value::Text(_) => Kind::Text,
+            Value::Bytes(_) => Kind::Bytes,
+            Value::Price(_) => Kind::Price,
+            Value::Moment(_) => Kind::Moment,
+        }
+    }
 
     /// The tag byte.
     pub fn tag(self) -> u8

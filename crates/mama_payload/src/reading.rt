@@ -1,6 +1,7 @@
 //! The parts of a field, each from the front of the bytes.
 ghost use Rattle.std.specs.Prelude.{◌≡◌, ◌≤◌, length, IfOk};
 ghost use Rattle.std.specs.Int.{w8, w16, w32, w64};
+ghost use Rattle.mama_msg.specs.Name.{IsNameText};
 ghost use Rattle.mama_msg.specs.Field.{IsKeyed};
 ghost use Rattle.mama_payload.specs.Stop.{Gives};
 ghost use Rattle.mama_payload.specs.Reading.{byte_at, limited_at, number_at, signed_at, bytes_at, flag_at, text_at, block_at, price_at, value_at, kind_with_tag, kind_at, name_at};
@@ -8,7 +9,7 @@ ghost use Rattle.mama_payload.specs.Reading.{byte_at, limited_at, number_at, sig
 use crate::fault::{Rule, Stop};
 use crate::kind::Kind;
 use crate::letters::{Alphabet, letters_of};
-use mama_msg::{BytesValue, Name, Price, TextValue, Value};
+use mama_msg::{BytesValue, Price, TextValue, Value};
 use std::alloc::Global;
 
 /// A byte, and the bytes after it.
@@ -232,19 +233,16 @@ pub fn kind_of(bytes: &[u8]) -> Result<(Kind, &[u8]), Stop>
     }
 }
 
-/// The name of a field with this fid.
+/// The text of the name of a field with this fid.
 #[tactic(auto, unfolding(crate::specs::Reading::name_at))]
-pub fn name_of(fid: u16, bytes: &[u8]) -> Result<(Name, &[u8]), Stop>
-    ensures gives { Gives (λ x. (x.0, x.1.now)) result (name_at fid bytes.now) }
-    ensures keyed { IfOk result (λ x. IsKeyed fid x.0) }
+pub fn name_of(fid: u16, bytes: &[u8]) -> Result<(&[u8], &[u8]), Stop>
+    ensures gives { Gives (λ x. (x.0.now, x.1.now)) result (name_at fid bytes.now) }
+    ensures text { IfOk result (λ x. IsNameText x.0.now) }
+    ensures keyed { IfOk result (λ x. IsKeyed fid x.0.now) }
 {
     let (count, rest) = limited_of(32, bytes)?;
     if count == 0 && fid == 0 {
         return Err(Stop::at(Rule::BadText, bytes));
     }
-    let (letters, rest) = letters_of(Alphabet::Name, count, rest)?;
-    match Name::new(letters) {
-        Some(name) => Ok((name, rest)),
-        None => unreachable!(),
-    }
+    letters_of(Alphabet::Name, count, rest)
 }
