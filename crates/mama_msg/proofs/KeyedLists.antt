@@ -266,7 +266,7 @@ module _ {F K : Type 0} (key : F → K) (same : K → K → Bool) (exact : (a b 
       ∙ ap (λ (r : List F). r ++ (f ∷ fresh m fs)) front
       ∙ sym (ap (λ c. map (over (f ∷ fs)) m ++ (if not c then f ∷ fresh m fs else fresh m fs)) h))
 
-  merged_nil : (m : List F) → merged m [] ≡ m
+  pub merged_nil : (m : List F) → merged m [] ≡ m
   merged_nil m = append_nil (map (over []) m) ∙ same_all m
     where
       append_nil : (xs : List F) → xs ++ [] ≡ xs

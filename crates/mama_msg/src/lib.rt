@@ -2,6 +2,8 @@
 #![tactic(auto)]
 
 mod field;
+mod get;
+pub mod laws;
 mod msg;
 mod name;
 mod price;
@@ -10,6 +12,7 @@ mod text;
 mod value;
 
 pub use field::{Field, Key};
+pub use get::GetFault;
 pub use mama_memory::{Duplicate, OutOfMemory};
 pub use msg::{AddFault, Msg};
 pub use name::{Name, is_name_byte};
