@@ -5,3 +5,6 @@ pub mod Fields
 pub mod Messages
 pub mod Lettering
 pub mod Loops
+pub mod Going
+pub mod GoingOn
+pub mod Places
