@@ -153,6 +153,11 @@ spellings_apart a b x y fits others e =
     let same = ok_is first (b, y) (sym ((message_reads a fits).again x) ∙ ap message_at e ∙ (message_reads b others).again y) in
     (ap (λ (r : List FieldData × List ℕ). r.0) same, ap (λ (r : List FieldData × List ℕ). r.1) same)
 
+pub spellings_equal : (a b : List FieldData) → HasSpelling a → HasSpelling b → spelling a ≡ spelling b → a ≡ b
+spellings_equal a b fits others e =
+    let longer : spelling a ++ [] ≡ spelling b ++ [] = ap (λ (t : List ℕ). t ++ []) e in
+    (spellings_apart a b [] [] fits others longer).0
+
 -- ---- what `decode` ensures
 
 -- the answer is what reading gives, unless memory ran out

@@ -7,7 +7,9 @@ use Rattle.mama_payload.specs.declared.fault.Rule.TheVariants as rules
 use Rattle.mama_payload.specs.declared.fault.Fault.{Fault}
 use Rattle.mama_payload.specs.declared.fault.DecodeFault.{DecodeFault}
 use Rattle.mama_payload.specs.declared.fault.DecodeFault.TheVariants as faults
-use Rattle.mama_payload.specs.Stop.{fault_at}
+use Rattle.mama_payload.specs.declared.fault.Stop.{Stop}
+use Rattle.mama_payload.specs.declared.fault.Stop.TheVariants as stops
+use Rattle.mama_payload.specs.Stop.{fault_at, Stops, IsWithin}
 use Rattle.mama_payload.specs.Reading.{◌>>=◌, message_at, ended, whole, broken, placed, decoded}
 use Rattle.mama_payload.proofs.Going.{later, failed, failed_with, failed_is, bind_err}
 use Rattle.mama_payload.proofs.GoingOn.{message_goes}
@@ -41,6 +43,10 @@ whole-within bytes f e = elim (whole_stops bytes f e) [
 
 trailing_is_not : rules.Trailing ≡ rules.Truncated → ⊥
 trailing_is_not e = cc
+
+pub stop-within : (bytes : List ℕ) (stop : Stop) → Stops stop (whole bytes) → IsWithin (length bytes) stop
+stop-within bytes stops.OutOfMemory e = tt
+stop-within bytes (stops.Fault f) e = whole-within bytes f e
 
 whole-truncated : (bytes : List ℕ) (f : Fault) → whole bytes ≡ Err f → f.rule ≡ rules.Truncated → f.left ≡ 0
 whole-truncated bytes f e is = elim (whole_stops bytes f e) [

@@ -1,5 +1,5 @@
 -- Why reading stops.
-use Rattle.std.specs.Prelude.{◌≡◌, ℕ, List, length, Result, Ok, Err}
+use Rattle.std.specs.Prelude.{◌≡◌, ◌≤◌, ℕ, List, length, Result, Ok, Err}
 use Rattle.mama_payload.specs.declared.fault.Rule.{Rule}
 use Rattle.mama_payload.specs.declared.fault.Fault.{Fault}
 use Rattle.mama_payload.specs.declared.fault.Stop.{Stop}
@@ -11,6 +11,11 @@ fault_at rule bytes = record { rule = rule; left = length bytes }
 
 abbrev pub stop_at : Rule → List ℕ → Stop
 stop_at rule bytes = stops.Fault (fault_at rule bytes)
+
+-- a fault is not before the front of so many bytes
+abbrev pub IsWithin : ℕ → Stop → Type 0
+IsWithin size stops.OutOfMemory = Unit {0}
+IsWithin size (stops.Fault fault) = fault.left ≤ size
 
 -- what a function returned, seen by view, is what reading gives, unless memory ran out
 abbrev pub Stops : {Y : Type 0} → Stop → Result Y Fault → Type 0

@@ -2,7 +2,7 @@
 ghost use Rattle.std.specs.Prelude.{◌≡◌, ◌⊎◌, false, List, [], ◌∷◌, ◌++◌, length, IfOk, OnOk, IfErr, Ok, Err};
 ghost use Rattle.mama_msg.specs.Field.{FieldData, key_of};
 ghost use Rattle.mama_msg.specs.Message.{has_key};
-ghost use Rattle.mama_payload.specs.Stop.{Gives};
+ghost use Rattle.mama_payload.specs.Stop.{Gives, IsWithin};
 ghost use Rattle.mama_payload.specs.Spelling.{spelling, HasSpelling};
 ghost use Rattle.mama_payload.specs.Reading.{field_at, fields_at, version_at, message_at, whole, broken, stopped, decoded};
 
@@ -106,13 +106,14 @@ fn whole_of(alloc: Global, bytes: &[u8]) -> Result<Msg, Stop>
 
 /// The answer to bytes of this size in which reading stopped.
 fn answer(size: usize, stop: Stop) -> DecodeFault
+    requires { IsWithin size stop }
     ensures { result ≡ stopped size stop }
 {
     let Fault { rule, left } = match stop {
         Stop::OutOfMemory => return DecodeFault::OutOfMemory,
         Stop::Fault(fault) => fault,
     };
-    let at = size.saturating_sub(left);
+    let at = size - left;
     match rule {
         Rule::Truncated => DecodeFault::Truncated { at },
         Rule::BadTag => DecodeFault::BadTag { at },
