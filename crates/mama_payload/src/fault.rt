@@ -2,6 +2,8 @@
 ghost use Rattle.std.specs.Prelude.{◌≡◌, []};
 
 use mama_memory::OutOfMemory;
+use std::error::Error;
+use std::fmt;
 
 /// A rule of the payload that bytes can break.
 #[derive(Clone, Copy, Debug, PartialEq, Eq)]
@@ -67,6 +69,17 @@ pub enum EncodeFault {
     OutOfMemory,
 }
 
+impl fmt::Display for EncodeFault {
+    fn fmt<W: fmt::Write>(&self, f: &mut fmt::Formatter<W>) -> fmt::Result {
+        match self {
+            EncodeFault::TooMany => write!(f, "the message has more than 64 fields"),
+            EncodeFault::OutOfMemory => write!(f, "out of memory"),
+        }
+    }
+}
+
+impl Error for EncodeFault {}
+
 /// Why bytes were not read. Places count from 0.
 #[derive(Clone, Copy, Debug, PartialEq, Eq)]
 pub enum DecodeFault {
@@ -85,3 +98,19 @@ pub enum DecodeFault {
     /// There was no memory for the message.
     OutOfMemory,
 }
+
+impl fmt::Display for DecodeFault {
+    fn fmt<W: fmt::Write>(&self, f: &mut fmt::Formatter<W>) -> fmt::Result {
+        match self {
+            DecodeFault::Truncated { at } => write!(f, "the payload ends early at byte {at}"),
+            DecodeFault::BadTag { at } => write!(f, "an unknown tag at byte {at}"),
+            DecodeFault::BadText { at } => write!(f, "a bad letter at byte {at}"),
+            DecodeFault::Repeated { at } => write!(f, "a repeated key at byte {at}"),
+            DecodeFault::TooMany { at } => write!(f, "a number above its limit at byte {at}"),
+            DecodeFault::Trailing { at } => write!(f, "a byte after the payload at byte {at}"),
+            DecodeFault::OutOfMemory => write!(f, "out of memory"),
+        }
+    }
+}
+
+impl Error for DecodeFault {}

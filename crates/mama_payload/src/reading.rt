@@ -12,6 +12,9 @@ use crate::letters::{Alphabet, letters_of};
 use mama_msg::{BytesValue, Price, TextValue, Value};
 use std::alloc::Global;
 
+/// The longest name.
+const MAX_NAME: u8 = 32;
+
 /// A byte, and the bytes after it.
 pub fn byte_of(bytes: &[u8]) -> Result<(u8, &[u8]), Stop>
     ensures { Gives (λ x. (x.0, x.1.now)) result (byte_at bytes.now) }
@@ -240,7 +243,7 @@ pub fn name_of(fid: u16, bytes: &[u8]) -> Result<(&[u8], &[u8]), Stop>
     ensures text { IfOk result (λ x. IsNameText x.0.now) }
     ensures keyed { IfOk result (λ x. IsKeyed fid x.0.now) }
 {
-    let (count, rest) = limited_of(32, bytes)?;
+    let (count, rest) = limited_of(MAX_NAME, bytes)?;
     if count == 0 && fid == 0 {
         return Err(Stop::at(Rule::BadText, bytes));
     }

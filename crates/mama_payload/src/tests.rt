@@ -1,7 +1,8 @@
 mod vectors;
 
+use super::DecodeFault::{BadTag, BadText, Repeated, TooMany, Trailing, Truncated};
 use super::{DecodeFault, EncodeFault, decode, encode};
-use mama_msg::{AddFault, BytesValue, Field, Msg, Name, Price, TextValue, Value};
+use mama_msg::{BytesValue, Field, Msg, Name, Price, TextValue, Value};
 use std::alloc::Global;
 use std::test::Fail;
 
@@ -29,6 +30,87 @@ type Entry = (u16, &'static [u8], Plain);
 
 /// Bytes, and the fields that they spell.
 type Row = (&'static [u8], &'static [Entry]);
+
+/// Bytes and the fields that they spell: none, each kind at its least and its greatest, the order of a number's
+/// bytes, keys that look alike, and names of 32 letters.
+const SPELLED: [Row; 6] = [
+    (b"\x01\x00", &[]),
+    (b"\x01\x0e\x01\x00\x01\x02n0\x00\x02\x00\x02\x00\x00\x03\x00\x03\x02n2\x80\x04\x00\x04\x00\x80\x00\x05\x00\x05\x02n4\x80\x00\x00\x00\x06\x00\x06\x00\x80\x00\x00\x00\x00\x00\x00\x00\x07\x00\x07\x02n6\x00\x08\x00\x08\x00\x00\x00\x09\x00\x09\x02n8\x00\x00\x00\x00\x0a\x00\x0a\x00\x00\x00\x00\x00\x00\x00\x00\x00\x0b\x00\x0b\x03n10\x00\x0c\x00\x0c\x00\x00\x0d\x00\x0d\x03n12\x80\x00\x00\x00\x00\x00\x00\x00\x00\x0e\x00\x0e\x00\x00\x00\x00\x00\x00\x00\x00\x00", &[(1, b"n0", Plain::Bool(false)), (2, b"", Plain::Char(0)), (3, b"n2", Plain::I8(-128)), (4, b"", Plain::I16(-32_768)), (5, b"n4", Plain::I32(-2_147_483_648)), (6, b"", Plain::I64(-9_223_372_036_854_775_808)), (7, b"n6", Plain::U8(0)), (8, b"", Plain::U16(0)), (9, b"n8", Plain::U32(0)), (10, b"", Plain::U64(0)), (11, b"n10", Plain::Text(b"")), (12, b"", Plain::Bytes(b"")), (13, b"n12", Plain::Price(-9_223_372_036_854_775_808, 0)), (14, b"", Plain::Moment(0))]),
+    (b"\x01\x0e\x01\xff\xff\x02n0\x01\x02\xff\xfe\x00\xff\x03\xff\xfd\x02n2\x7f\x04\xff\xfc\x00\x7f\xff\x05\xff\xfb\x02n4\x7f\xff\xff\xff\x06\xff\xfa\x00\x7f\xff\xff\xff\xff\xff\xff\xff\x07\xff\xf9\x02n6\xff\x08\xff\xf8\x00\xff\xff\x09\xff\xf7\x02n8\xff\xff\xff\xff\x0a\xff\xf6\x00\xff\xff\xff\xff\xff\xff\xff\xff\x0b\xff\xf5\x03n10\x02 ~\x0c\xff\xf4\x00\x02\x00\xff\x0d\xff\xf3\x03n12\x7f\xff\xff\xff\xff\xff\xff\xff\x12\x0e\xff\xf2\x00\xff\xff\xff\xff\xff\xff\xff\xff", &[(65535, b"n0", Plain::Bool(true)), (65534, b"", Plain::Char(255)), (65533, b"n2", Plain::I8(127)), (65532, b"", Plain::I16(32_767)), (65531, b"n4", Plain::I32(2_147_483_647)), (65530, b"", Plain::I64(9_223_372_036_854_775_807)), (65529, b"n6", Plain::U8(255)), (65528, b"", Plain::U16(65_535)), (65527, b"n8", Plain::U32(4_294_967_295)), (65526, b"", Plain::U64(18_446_744_073_709_551_615)), (65525, b"n10", Plain::Text(b" ~")), (65524, b"", Plain::Bytes(b"\x00\xff")), (65523, b"n12", Plain::Price(9_223_372_036_854_775_807, 18)), (65522, b"", Plain::Moment(18_446_744_073_709_551_615))]),
+    (b"\x01\x07\x03\x01\x00\x02n0\xff\x04\x02\x00\x00\xff\xfe\x05\x03\x00\x02n2\xff\xff\xff\xfd\x06\x04\x00\x00\xff\xff\xff\xff\xff\xff\xff\x00\x08\x05\x00\x02n4\x01\x02\x09\x06\x00\x00\x01\x02\x03\x04\x0a\x07\x00\x02n6\x01\x02\x03\x04\x05\x06\x07\x08", &[(256, b"n0", Plain::I8(-1)), (512, b"", Plain::I16(-2)), (768, b"n2", Plain::I32(-3)), (1024, b"", Plain::I64(-256)), (1280, b"n4", Plain::U16(258)), (1536, b"", Plain::U32(16_909_060)), (1792, b"n6", Plain::U64(72_623_859_790_382_856))]),
+    (b"\x01\x05\x01\x00\x00\x02px\x01\x01\x00\x07\x02px\x00\x02\x00\x08\x02px\x01\x02\x00\x00\x01p\x02\x02\x00\x00\x02PX\x03", &[(0, b"px", Plain::Bool(true)), (7, b"px", Plain::Bool(false)), (8, b"px", Plain::Char(1)), (0, b"p", Plain::Char(2)), (0, b"PX", Plain::Char(3))]),
+    (b"\x01\x02\x07\x00\x01 abcdefghijklmnopqrstuvwxyz012345\x01\x07\x00\x02 ABCDEFGHIJKLMNOPQRSTUVWXYZ6789__\x02", &[(1, b"abcdefghijklmnopqrstuvwxyz012345", Plain::U8(1)), (2, b"ABCDEFGHIJKLMNOPQRSTUVWXYZ6789__", Plain::U8(2))]),
+];
+
+/// Each fault, in each kind of place.
+const FAULTY: [(&[u8], DecodeFault); 66] = [
+    (b"", Truncated { at: 0 }),
+    (b"\x01", Truncated { at: 1 }),
+    (b"\x01\x01", Truncated { at: 2 }),
+    (b"\x01\x01\x01", Truncated { at: 3 }),
+    (b"\x01\x01\x01\x00", Truncated { at: 4 }),
+    (b"\x01\x01\x01\x00\x07", Truncated { at: 5 }),
+    (b"\x01\x01\x01\x00\x07\x02", Truncated { at: 6 }),
+    (b"\x01\x01\x01\x00\x07\x02p", Truncated { at: 7 }),
+    (b"\x01\x01\x01\x00\x07\x02px", Truncated { at: 8 }),
+    (b"\x01\x01\x02\x00\x07\x02px", Truncated { at: 8 }),
+    (b"\x01\x01\x03\x00\x07\x02px", Truncated { at: 8 }),
+    (b"\x01\x01\x04\x00\x07\x02px\x01", Truncated { at: 9 }),
+    (b"\x01\x01\x05\x00\x07\x02px\x01\x01\x01", Truncated { at: 11 }),
+    (b"\x01\x01\x06\x00\x07\x02px\x01\x01\x01\x01\x01\x01\x01", Truncated { at: 15 }),
+    (b"\x01\x01\x07\x00\x07\x02px", Truncated { at: 8 }),
+    (b"\x01\x01\x08\x00\x07\x02px\x01", Truncated { at: 9 }),
+    (b"\x01\x01\x09\x00\x07\x02px\x01\x01\x01", Truncated { at: 11 }),
+    (b"\x01\x01\x0a\x00\x07\x02px\x01\x01\x01\x01\x01\x01\x01", Truncated { at: 15 }),
+    (b"\x01\x01\x0b\x00\x07\x02px", Truncated { at: 8 }),
+    (b"\x01\x01\x0c\x00\x07\x02px", Truncated { at: 8 }),
+    (b"\x01\x01\x0d\x00\x07\x02px\x01\x01\x01\x01\x01\x01\x01\x01", Truncated { at: 16 }),
+    (b"\x01\x01\x0e\x00\x07\x02px\x01\x01\x01\x01\x01\x01\x01", Truncated { at: 15 }),
+    (b"\x01\x01\x0b\x00\x07\x02px\x03ab", Truncated { at: 11 }),
+    (b"\x01\x01\x0c\x00\x07\x02px\x03\x00\xff", Truncated { at: 11 }),
+    (b"\x01\x02\x01\x00\x07\x02px\x00", Truncated { at: 9 }),
+    (b"\x00", BadTag { at: 0 }),
+    (b"\x02\x00", BadTag { at: 0 }),
+    (b"\x01\x01\x00", BadTag { at: 2 }),
+    (b"\x01\x01\x0f", BadTag { at: 2 }),
+    (b"\x01\x01\xff", BadTag { at: 2 }),
+    (b"\x01\x01\x01\x00\x07\x02px\x02", BadTag { at: 8 }),
+    (b"\x01\x01\x01\x00\x07\x02px\xff", BadTag { at: 8 }),
+    (b"\x01\x02\x01\x00\x07\x02px\x01\x00", BadTag { at: 9 }),
+    (b"\x01A", TooMany { at: 1 }),
+    (b"\x01\xff", TooMany { at: 1 }),
+    (b"\x01\x01\x01\x00\x07!", TooMany { at: 5 }),
+    (b"\x01\x01\x01\x00\x00\xff", TooMany { at: 5 }),
+    (b"\x01\x01\x0d\x00\x07\x02px\x00\x00\x00\x00\x00\x00\x00\x00\x13", TooMany { at: 16 }),
+    (b"\x01\x01\x0d\x00\x07\x02px\x00\x00\x00\x00\x00\x00\x00\x00\xff", TooMany { at: 16 }),
+    (b"\x01\x01\x01\x00\x07\x02p/", BadText { at: 7 }),
+    (b"\x01\x01\x01\x00\x07\x02p:", BadText { at: 7 }),
+    (b"\x01\x01\x01\x00\x07\x02p@", BadText { at: 7 }),
+    (b"\x01\x01\x01\x00\x07\x02p[", BadText { at: 7 }),
+    (b"\x01\x01\x01\x00\x07\x02p^", BadText { at: 7 }),
+    (b"\x01\x01\x01\x00\x07\x02p`", BadText { at: 7 }),
+    (b"\x01\x01\x01\x00\x07\x02p{", BadText { at: 7 }),
+    (b"\x01\x01\x01\x00\x07\x02p ", BadText { at: 7 }),
+    (b"\x01\x01\x01\x00\x07\x02p\x00", BadText { at: 7 }),
+    (b"\x01\x01\x01\x00\x07\x02p\xff", BadText { at: 7 }),
+    (b"\x01\x01\x01\x00\x07 -", BadText { at: 6 }),
+    (b"\x01\x01\x01\x00\x00\x00", BadText { at: 5 }),
+    (b"\x01\x01\x0b\x00\x07\x02px\x02 \x1f", BadText { at: 10 }),
+    (b"\x01\x01\x0b\x00\x07\x02px\x02 \x7f", BadText { at: 10 }),
+    (b"\x01\x01\x0b\x00\x07\x02px\x02 \x00", BadText { at: 10 }),
+    (b"\x01\x01\x0b\x00\x07\x02px\x02 \xff", BadText { at: 10 }),
+    (b"\x01\x01\x0b\x00\x07\x02px\xff~\x0a", BadText { at: 10 }),
+    (b"\x01\x02\x01\x00\x07\x02px\x01\x09\x00\x07\x03ask\x00", Repeated { at: 9 }),
+    (b"\x01\x02\x01\x00\x07\x02px\x01\x0f", BadTag { at: 9 }),
+    (b"\x01\x02\x01\x00\x07\x02px\x01\x01\x00\x07\x01 ", BadText { at: 13 }),
+    (b"\x01\x02\x01\x00\x00\x02px\x01\x01\x00\x00\x02px\x02", Repeated { at: 9 }),
+    (b"\x01\x03\x01\x00\x00\x02px\x01\x01\x00\x07\x02px\x00\x02\x00\x00\x02px", Repeated { at: 16 }),
+    (b"\x01\x03\x01\x00\x07\x02px\x01\x01\x00\x08\x02px\x00\x02\x00\x07\x00", Repeated { at: 16 }),
+    (b"\x01\x00\x00", Trailing { at: 2 }),
+    (b"\x01\x00\x01\x00", Trailing { at: 2 }),
+    (b"\x01\x01\x01\x00\x07\x02px\x01\x00", Trailing { at: 9 }),
+    (b"\x01\x01\x01\x00\x07\x02px\x01\x01\x00\x07\x02px\x01", Trailing { at: 9 }),
+];
 
 fn value_of(alloc: Global, plain: Plain) -> Result<Value, Fail> {
     Ok(match plain {
@@ -86,16 +168,55 @@ fn a_quote_is_spelled_and_read(rt: HostRuntime) -> Result<(), Fail> {
 }
 
 #[test]
-fn vectors_are_spelled_and_read(rt: HostRuntime) -> Result<(), Fail> {
-    for (row, (bytes, entries)) in vectors::SPELLED.iter().enumerate() {
+fn each_kind_is_spelled_and_read(rt: HostRuntime) -> Result<(), Fail> {
+    for (row, (bytes, entries)) in SPELLED.iter().chain(&vectors::SPELLED).enumerate() {
         assert!(rt; is_spelled(rt.alloc(), entries, bytes)?, "row {row}");
     }
     Ok(())
 }
 
 #[test]
-fn vectors_have_their_faults(rt: HostRuntime) {
-    for (row, (bytes, fault)) in vectors::FAULTY.iter().enumerate() {
+fn each_fault_has_its_place(rt: HostRuntime) {
+    for (row, (bytes, fault)) in FAULTY.iter().chain(&vectors::FAULTY).enumerate() {
         assert_eq!(rt; fault_of(rt.alloc(), bytes), Some(*fault), "row {row}");
     }
+}
+
+#[test]
+fn the_longest_values_are_spelled_and_read(rt: HostRuntime) -> Result<(), Fail> {
+    const TILDES: [u8; 255] = [b'~'; 255];
+    const BYTES: [u8; 255] = [0xff; 255];
+    let mut spelling = Vec::new(rt.alloc());
+    spelling.extend_from_slice(b"\x01\x02\x0b\x00\x01\x00\xff")?;
+    spelling.extend_from_slice(&TILDES)?;
+    spelling.extend_from_slice(b"\x0c\xff\xff\x00\xff")?;
+    spelling.extend_from_slice(&BYTES)?;
+    let entries: [Entry; 2] = [
+        (1, b"", Plain::Text(&TILDES)),
+        (65_535, b"", Plain::Bytes(&BYTES)),
+    ];
+    assert!(rt; is_spelled(rt.alloc(), &entries, &spelling)?);
+    Ok(())
+}
+
+/// A message of so many flags, with the fids from 1 on.
+fn flags(alloc: Global, count: u16) -> Result<Msg, Fail> {
+    let mut msg = Msg::new(alloc);
+    for i in 0..count {
+        msg.update(field_of(alloc, &(i.saturating_add(1), b"", Plain::Bool(true)))?)?;
+    }
+    Ok(msg)
+}
+
+#[test]
+fn sixty_four_fields_are_written_and_no_more(rt: HostRuntime) -> Result<(), Fail> {
+    let longest = flags(rt.alloc(), 64)?;
+    assert_eq!(rt; longest.len(), 64);
+    let bytes = encode(rt.alloc(), &longest)?;
+    assert_eq!(rt; bytes.len(), 2 + 64 * 5);
+    assert!(rt; decode(rt.alloc(), &bytes)? == longest);
+    let longer = flags(rt.alloc(), 65)?;
+    assert_eq!(rt; longer.len(), 65);
+    assert_eq!(rt; encode(rt.alloc(), &longer).err(), Some(EncodeFault::TooMany));
+    Ok(())
 }
