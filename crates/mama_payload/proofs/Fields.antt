@@ -29,35 +29,35 @@ text_reads : (text : List ℕ) → IsText text → Reads text_at (counted text) 
 unfolding text_at
 text_reads text is_text =
     Reads-then byte_at (λ bytes n rest. letters_at is_printable n rest) (one (length text)) text (length text) text
-      (byte_reads (length text)) (λ bytes. letters_reads is_printable text is_text.printable)
+    (byte_reads (length text)) (λ bytes. letters_reads is_printable text is_text.printable)
 
 text_spells : Spells text_at counted IsText
 unfolding text_at
 text_spells =
     Spells-then byte_at (λ bytes n rest. letters_at is_printable n rest) one (λ n text. text) counted (λ n. n < 2 ^ 8) (λ n text. (length text ≡ n) × (list_all is_printable text ≡ true)) IsText
-      byte_spells (λ bytes n lt. letters_spells is_printable n)
-      (λ n text lt letters. (ap (λ (k : ℕ). k ∷ text) (sym letters.0), record { short = omega arith; printable = letters.1 }))
+    byte_spells (λ bytes n lt. letters_spells is_printable n)
+    (λ n text lt letters. (ap (λ (k : ℕ). k ∷ text) (sym letters.0), record { short = omega arith; printable = letters.1 }))
 
 block_reads : (block : List ℕ) → Reads block_at (counted block) block
 unfolding block_at
 block_reads block =
     Reads-then byte_at (λ bytes n rest. bytes_at n rest) (one (length block)) block (length block) block
-      (byte_reads (length block)) (λ bytes. bytes_reads block)
+    (byte_reads (length block)) (λ bytes. bytes_reads block)
 
 block_spells : Spells block_at counted (λ block. length block ≤ 255)
 unfolding block_at
 block_spells =
     Spells-then byte_at (λ bytes n rest. bytes_at n rest) one (λ n block. block) counted (λ n. n < 2 ^ 8) (λ n block. length block ≡ n) (λ block. length block ≤ 255)
-      byte_spells (λ bytes n lt. bytes_spells n)
-      (λ n block lt len. (ap (λ (k : ℕ). k ∷ block) (sym len), omega arith))
+    byte_spells (λ bytes n lt. bytes_spells n)
+    (λ n block lt len. (ap (λ (k : ℕ). k ∷ block) (sym len), omega arith))
 
 price_reads : (price : PriceData) → IsInRange (values.Price price) → Reads price_at (value_bytes (values.Price price)) price
 unfolding price_at
 price_reads price fits =
     Reads-then (signed_at w64) (λ bytes mantissa rest. seen_as (λ decimals. record { mantissa = mantissa; decimals = decimals }) (limited_at 18 rest))
-      (signed w64 price.mantissa) (one price.decimals) price.mantissa price
-      (signed_reads w64 wide64 price.mantissa fits.0)
-      (λ bytes. Reads-seen (limited_at 18) (λ decimals. record { mantissa = price.mantissa; decimals = decimals }) (one price.decimals) price.decimals (limited_reads 18 price.decimals fits.1))
+    (signed w64 price.mantissa) (one price.decimals) price.mantissa price
+    (signed_reads w64 wide64 price.mantissa fits.0)
+    (λ bytes. Reads-seen (limited_at 18) (λ decimals. record { mantissa = price.mantissa; decimals = decimals }) (one price.decimals) price.decimals (limited_reads 18 price.decimals fits.1))
 
 abbrev price_bytes : PriceData → List ℕ
 price_bytes price = value_bytes (values.Price price)
@@ -69,11 +69,11 @@ price_spells : Spells price_at price_bytes HasPrice
 unfolding price_at
 price_spells =
     Spells-then (signed_at w64) (λ bytes mantissa rest. seen_as (λ decimals. record { mantissa = mantissa; decimals = decimals }) (limited_at 18 rest))
-      (signed w64) (λ mantissa price. one price.decimals) price_bytes (λ z. IsInRange (values.I64 z)) (λ mantissa price. (price.mantissa ≡ mantissa) × (price.decimals ≤ 18)) HasPrice
-      (signed_spells w64 wide64)
-      (λ bytes mantissa fits. Spells-seen (limited_at 18) (λ decimals. record { mantissa = mantissa; decimals = decimals }) one (λ price. one price.decimals) (λ n. n ≤ 18)
-        (λ price. (price.mantissa ≡ mantissa) × (price.decimals ≤ 18)) (limited_spells 18) (λ n le. (refl, (refl, le))))
-      (λ mantissa price fits made. (ap (λ (z : ℤ). signed w64 z ++ one price.decimals) (sym made.0), (subst (λ (z : ℤ). IsInRange (values.I64 z)) (sym made.0) fits, made.1)))
+    (signed w64) (λ mantissa price. one price.decimals) price_bytes (λ z. IsInRange (values.I64 z)) (λ mantissa price. (price.mantissa ≡ mantissa) × (price.decimals ≤ 18)) HasPrice
+    (signed_spells w64 wide64)
+    (λ bytes mantissa fits. Spells-seen (limited_at 18) (λ decimals. record { mantissa = mantissa; decimals = decimals }) one (λ price. one price.decimals) (λ n. n ≤ 18)
+    (λ price. (price.mantissa ≡ mantissa) × (price.decimals ≤ 18)) (limited_spells 18) (λ n le. (refl, (refl, le))))
+    (λ mantissa price fits made. (ap (λ (z : ℤ). signed w64 z ++ one price.decimals) (sym made.0), (subst (λ (z : ℤ). IsInRange (values.I64 z)) (sym made.0) fits, made.1)))
 
 pub value_reads : (v : Value) → IsInRange v → Reads (value_at (kind_of v)) (value_bytes v) v
 unfolding value_at
@@ -198,9 +198,9 @@ name_reads : (fid : ℕ) (name : List ℕ) → IsNameText name → IsKeyed fid n
 unfolding name_at
 name_reads fid name is_text keyed =
     Reads-then (limited_at 32) (λ bytes n rest. cond (is_missing fid n) (Err (fault_at rules.BadText bytes)) (letters_at is_name_byte n rest))
-      (one (length name)) name (length name) name (limited_reads 32 (length name) is_text.short)
-      (λ bytes. Reads-guard (is_missing fid (length name)) (fault_at rules.BadText bytes) (letters_at is_name_byte (length name)) name name (keyed_is_there fid name keyed)
-        (letters_reads is_name_byte name is_text.letters))
+    (one (length name)) name (length name) name (limited_reads 32 (length name) is_text.short)
+    (λ bytes. Reads-guard (is_missing fid (length name)) (fault_at rules.BadText bytes) (letters_at is_name_byte (length name)) name name (keyed_is_there fid name keyed)
+    (letters_reads is_name_byte name is_text.letters))
 
 -- the name of a field with this fid
 record IsNameOf (fid : ℕ) (name : List ℕ) : Type 0 where
@@ -211,13 +211,16 @@ name_spells : (fid : ℕ) → Spells (name_at fid) counted (IsNameOf fid)
 unfolding name_at
 name_spells fid =
     Spells-then (limited_at 32) (λ bytes n rest. cond (is_missing fid n) (Err (fault_at rules.BadText bytes)) (letters_at is_name_byte n rest))
-      one (λ n name. name) counted (λ n. n ≤ 32) (λ n name. (is_missing fid n ≡ false) × ((length name ≡ n) × (list_all is_name_byte name ≡ true))) (IsNameOf fid)
-      (limited_spells 32)
-      (λ bytes n le. Spells-guard (is_missing fid n) (fault_at rules.BadText bytes) (letters_at is_name_byte n) (λ name. name) (λ name. (length name ≡ n) × (list_all is_name_byte name ≡ true)) (letters_spells is_name_byte n))
-      (λ n name le letters. (ap (λ (k : ℕ). k ∷ name) (sym letters.1.0), record {
+    one (λ n name. name) counted (λ n. n ≤ 32) (λ n name. (is_missing fid n ≡ false) × ((length name ≡ n) × (list_all is_name_byte name ≡ true))) (IsNameOf fid)
+    (limited_spells 32)
+    (λ bytes n le. Spells-guard (is_missing fid n) (fault_at rules.BadText bytes) (letters_at is_name_byte n) (λ name. name) (λ name. (length name ≡ n) × (list_all is_name_byte name ≡ true)) (letters_spells is_name_byte n))
+    (λ n name le letters. (
+      ap (λ (k : ℕ). k ∷ name) (sym letters.1.0),
+      record {
         text = record { short = omega arith; letters = letters.1.1 };
         keyed = there_is_keyed fid name (ap (is_missing fid) letters.1.0 ∙ letters.0);
-      }))
+      },
+    ))
 
 -- ---- fields
 
@@ -225,20 +228,20 @@ pub field_reads : (before : List FieldData) (f : FieldData) → IsField f → ha
 unfolding field_at
 field_reads before f fits new =
     Reads-then kind_at (λ bytes kind rest. number_at w16 rest >>= λ fid. name_at fid.0 fid.1 >>= λ name.
-        seen_as (λ value. record { fid = fid.0; name = name.0; value = value }) (cond (has_key (key_from fid.0 name.0) before) (Err (fault_at rules.Repeated bytes)) (value_at kind name.1)))
-      (one (tag_of (kind_of f.value))) (to_be_bytes w16 f.fid ++ (counted f.name ++ value_bytes f.value)) (kind_of f.value) f
-      (kind_reads (kind_of f.value))
-      (λ bytes. Reads-then (number_at w16) (λ _ fid rest. name_at fid rest >>= λ name.
-          seen_as (λ value. record { fid = fid; name = name.0; value = value }) (cond (has_key (key_from fid name.0) before) (Err (fault_at rules.Repeated bytes)) (value_at (kind_of f.value) name.1)))
-        (to_be_bytes w16 f.fid) (counted f.name ++ value_bytes f.value) f.fid f
-        (number_reads w16 (2 ^ 16) wide16 f.fid fits.fid)
-        (λ _. Reads-then (name_at f.fid) (λ _ name rest.
-            seen_as (λ value. record { fid = f.fid; name = name; value = value }) (cond (has_key (key_from f.fid name) before) (Err (fault_at rules.Repeated bytes)) (value_at (kind_of f.value) rest)))
-          (counted f.name) (value_bytes f.value) f.name f
-          (name_reads f.fid f.name fits.name fits.keyed)
-          (λ _. Reads-seen (λ rest. cond (has_key (key_of f) before) (Err (fault_at rules.Repeated bytes)) (value_at (kind_of f.value) rest)) (λ value. record { fid = f.fid; name = f.name; value = value })
-            (value_bytes f.value) f.value
-            (Reads-guard (has_key (key_of f) before) (fault_at rules.Repeated bytes) (value_at (kind_of f.value)) (value_bytes f.value) f.value new (value_reads f.value fits.value)))))
+    seen_as (λ value. record { fid = fid.0; name = name.0; value = value }) (cond (has_key (key_from fid.0 name.0) before) (Err (fault_at rules.Repeated bytes)) (value_at kind name.1)))
+    (one (tag_of (kind_of f.value))) (to_be_bytes w16 f.fid ++ (counted f.name ++ value_bytes f.value)) (kind_of f.value) f
+    (kind_reads (kind_of f.value))
+    (λ bytes. Reads-then (number_at w16) (λ _ fid rest. name_at fid rest >>= λ name.
+    seen_as (λ value. record { fid = fid; name = name.0; value = value }) (cond (has_key (key_from fid name.0) before) (Err (fault_at rules.Repeated bytes)) (value_at (kind_of f.value) name.1)))
+    (to_be_bytes w16 f.fid) (counted f.name ++ value_bytes f.value) f.fid f
+    (number_reads w16 (2 ^ 16) wide16 f.fid fits.fid)
+    (λ _. Reads-then (name_at f.fid) (λ _ name rest.
+    seen_as (λ value. record { fid = f.fid; name = name; value = value }) (cond (has_key (key_from f.fid name) before) (Err (fault_at rules.Repeated bytes)) (value_at (kind_of f.value) rest)))
+    (counted f.name) (value_bytes f.value) f.name f
+    (name_reads f.fid f.name fits.name fits.keyed)
+    (λ _. Reads-seen (λ rest. cond (has_key (key_of f) before) (Err (fault_at rules.Repeated bytes)) (value_at (kind_of f.value) rest)) (λ value. record { fid = f.fid; name = f.name; value = value })
+    (value_bytes f.value) f.value
+    (Reads-guard (has_key (key_of f) before) (fault_at rules.Repeated bytes) (value_at (kind_of f.value)) (value_bytes f.value) f.value new (value_reads f.value fits.value)))))
 
 -- a field that may stand behind these
 pub record IsNext (before : List FieldData) (f : FieldData) : Type 0 where
@@ -268,36 +271,41 @@ pub field_spells : (before : List FieldData) → Spells (field_at before) field_
 unfolding field_at
 field_spells before =
     Spells-then kind_at (λ bytes kind rest. number_at w16 rest >>= λ fid. name_at fid.0 fid.1 >>= λ name.
-        seen_as (λ value. record { fid = fid.0; name = name.0; value = value }) (cond (has_key (key_from fid.0 name.0) before) (Err (fault_at rules.Repeated bytes)) (value_at kind name.1)))
-      (λ kind. one (tag_of kind)) (λ kind f. to_be_bytes w16 f.fid ++ (counted f.name ++ value_bytes f.value)) field_bytes
-      (λ kind. Unit {0}) (IsTagged before) (IsNext before)
-      kind_spells
-      (λ bytes kind _. Spells-then (number_at w16) (λ _ fid rest. name_at fid rest >>= λ name.
-          seen_as (λ value. record { fid = fid; name = name.0; value = value }) (cond (has_key (key_from fid name.0) before) (Err (fault_at rules.Repeated bytes)) (value_at kind name.1)))
-        (to_be_bytes w16) (λ fid f. counted f.name ++ value_bytes f.value) (λ f. to_be_bytes w16 f.fid ++ (counted f.name ++ value_bytes f.value))
-        (λ fid. fid < 2 ^ 16) (IsNumbered before kind) (IsTagged before kind)
-        (number_spells w16 (2 ^ 16) wide16)
-        (λ _ fid lt. Spells-then (name_at fid) (λ _ name rest.
-            seen_as (λ value. record { fid = fid; name = name; value = value }) (cond (has_key (key_from fid name) before) (Err (fault_at rules.Repeated bytes)) (value_at kind rest)))
-          counted (λ name f. value_bytes f.value) (λ f. counted f.name ++ value_bytes f.value)
-          (IsNameOf fid) (IsNamed before kind fid) (IsNumbered before kind fid)
-          (name_spells fid)
-          (λ _ name is_name. Spells-seen (λ rest. cond (has_key (key_from fid name) before) (Err (fault_at rules.Repeated bytes)) (value_at kind rest)) (λ value. record { fid = fid; name = name; value = value })
-            value_bytes (λ f. value_bytes f.value) (λ value. (has_key (key_from fid name) before ≡ false) × IsValueOf kind value) (IsNamed before kind fid name)
-            (Spells-guard (has_key (key_from fid name) before) (fault_at rules.Repeated bytes) (value_at kind) value_bytes (IsValueOf kind) (value_spells kind))
-            (λ value p. (refl, record { fid_is = refl; name_is = refl; new = p.0; value = p.1 })))
-          (λ name f is_name made. (ap (λ (n : List ℕ). counted n ++ value_bytes f.value) (sym made.name_is),
-            record { fid_is = made.fid_is; name = subst (IsNameOf fid) (sym made.name_is) is_name; new = made.new; value = made.value })))
-        (λ fid f lt made. (ap (λ (n : ℕ). to_be_bytes w16 n ++ (counted f.name ++ value_bytes f.value)) (sym made.fid_is), record {
-          next = record {
-            field = record {
-              fid = subst (λ (n : ℕ). n < 2 ^ 16) (sym made.fid_is) lt;
-              name = made.name.text;
-              keyed = subst (λ (n : ℕ). IsKeyed n f.name) (sym made.fid_is) made.name.keyed;
-              value = made.value.in_range;
-            };
-            new = made.new;
+    seen_as (λ value. record { fid = fid.0; name = name.0; value = value }) (cond (has_key (key_from fid.0 name.0) before) (Err (fault_at rules.Repeated bytes)) (value_at kind name.1)))
+    (λ kind. one (tag_of kind)) (λ kind f. to_be_bytes w16 f.fid ++ (counted f.name ++ value_bytes f.value)) field_bytes
+    (λ kind. Unit {0}) (IsTagged before) (IsNext before)
+    kind_spells
+    (λ bytes kind _. Spells-then (number_at w16) (λ _ fid rest. name_at fid rest >>= λ name.
+    seen_as (λ value. record { fid = fid; name = name.0; value = value }) (cond (has_key (key_from fid name.0) before) (Err (fault_at rules.Repeated bytes)) (value_at kind name.1)))
+    (to_be_bytes w16) (λ fid f. counted f.name ++ value_bytes f.value) (λ f. to_be_bytes w16 f.fid ++ (counted f.name ++ value_bytes f.value))
+    (λ fid. fid < 2 ^ 16) (IsNumbered before kind) (IsTagged before kind)
+    (number_spells w16 (2 ^ 16) wide16)
+    (λ _ fid lt. Spells-then (name_at fid) (λ _ name rest.
+    seen_as (λ value. record { fid = fid; name = name; value = value }) (cond (has_key (key_from fid name) before) (Err (fault_at rules.Repeated bytes)) (value_at kind rest)))
+    counted (λ name f. value_bytes f.value) (λ f. counted f.name ++ value_bytes f.value)
+    (IsNameOf fid) (IsNamed before kind fid) (IsNumbered before kind fid)
+    (name_spells fid)
+    (λ _ name is_name. Spells-seen (λ rest. cond (has_key (key_from fid name) before) (Err (fault_at rules.Repeated bytes)) (value_at kind rest)) (λ value. record { fid = fid; name = name; value = value })
+    value_bytes (λ f. value_bytes f.value) (λ value. (has_key (key_from fid name) before ≡ false) × IsValueOf kind value) (IsNamed before kind fid name)
+    (Spells-guard (has_key (key_from fid name) before) (fault_at rules.Repeated bytes) (value_at kind) value_bytes (IsValueOf kind) (value_spells kind))
+    (λ value p. (refl, record { fid_is = refl; name_is = refl; new = p.0; value = p.1 })))
+    (λ name f is_name made. (
+      ap (λ (n : List ℕ). counted n ++ value_bytes f.value) (sym made.name_is),
+      record { fid_is = made.fid_is; name = subst (IsNameOf fid) (sym made.name_is) is_name; new = made.new; value = made.value },
+    )))
+    (λ fid f lt made. (
+      ap (λ (n : ℕ). to_be_bytes w16 n ++ (counted f.name ++ value_bytes f.value)) (sym made.fid_is),
+      record {
+        next = record {
+          field = record {
+            fid = subst (λ (n : ℕ). n < 2 ^ 16) (sym made.fid_is) lt;
+            name = made.name.text;
+            keyed = subst (λ (n : ℕ). IsKeyed n f.name) (sym made.fid_is) made.name.keyed;
+            value = made.value.in_range;
           };
-          kind_is = made.value.kind_is;
-        })))
-      (λ kind f _ made. (ap (λ (k : Kind). one (tag_of k) ++ (to_be_bytes w16 f.fid ++ (counted f.name ++ value_bytes f.value))) (sym made.kind_is), made.next))
+          new = made.new;
+        };
+        kind_is = made.value.kind_is;
+      },
+    )))
+    (λ kind f _ made. (ap (λ (k : Kind). one (tag_of k) ++ (to_be_bytes w16 f.fid ++ (counted f.name ++ value_bytes f.value))) (sym made.kind_is), made.next))

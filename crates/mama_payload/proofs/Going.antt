@@ -46,15 +46,15 @@ pub Goes-then : {X Y : Type 0} (read : Within X) (next : List ℕ → X → Read
     → Goes read → ((x : X) → Goes (λ whole. next whole x)) → Goes (λ whole bytes. read whole bytes >>= λ r. next whole r.0 r.1)
 Goes-then {X} {Y} read next first second = record {
   ok = λ whole bytes more y rest e.
-    let a = bind_ok (read whole bytes) (λ r. next whole r.0 r.1) (y, rest) e in
-    rw (first.ok whole bytes more a.0.0 a.0.1 a.1) ((second a.0.0).ok whole a.0.1 more y rest a.2);
+      let a = bind_ok (read whole bytes) (λ r. next whole r.0 r.1) (y, rest) e in
+      rw (first.ok whole bytes more a.0.0 a.0.1 a.1) ((second a.0.0).ok whole a.0.1 more y rest a.2);
   err = λ whole bytes more f e other. elim (bind_err (read whole bytes) (λ r. next whole r.0 r.1) f e) [
     | inl stopped ↦ rw (first.err whole bytes more f stopped other) refl
     | inr a ↦ rw (first.ok whole bytes more a.0.0 a.0.1 a.1) ((second a.0.0).err whole a.0.1 more f a.2 other)
   ];
   shorter = λ whole bytes y rest e.
-    let a = bind_ok (read whole bytes) (λ r. next whole r.0 r.1) (y, rest) e in
-    omega (arith, first.shorter whole bytes a.0.0 a.0.1 a.1, (second a.0.0).shorter whole a.0.1 y rest a.2);
+      let a = bind_ok (read whole bytes) (λ r. next whole r.0 r.1) (y, rest) e in
+      omega (arith, first.shorter whole bytes a.0.0 a.0.1 a.1, (second a.0.0).shorter whole a.0.1 y rest a.2);
   within = λ whole bytes f e le. elim (bind_err (read whole bytes) (λ r. next whole r.0 r.1) f e) [
     | inl stopped ↦ first.within whole bytes f stopped le
     | inr a ↦ (second a.0.0).within whole a.0.1 f a.2 (omega (arith, first.shorter whole bytes a.0.0 a.0.1 a.1))
@@ -79,14 +79,14 @@ Goes-closed {X} read first = record {
 pub Goes-ok : {X : Type 0} (x : X) → Goes (λ _ bytes. Ok (x, bytes))
 Goes-ok {X} x = record {
   ok = λ whole bytes more y rest e.
-    let made : X × List ℕ = (x, bytes) in
-    let same = ok_is made (y, rest) e in
-    ap (λ (r : X × List ℕ). read_as r.0 (r.1 ++ more)) same;
+      let made : X × List ℕ = (x, bytes) in
+      let same = ok_is made (y, rest) e in
+      ap (λ (r : X × List ℕ). read_as r.0 (r.1 ++ more)) same;
   err = λ whole bytes more f e other. absurd cc;
   shorter = λ whole bytes y rest e.
-    let made : X × List ℕ = (x, bytes) in
-    let same : bytes ≡ rest = ap (λ (r : X × List ℕ). r.1) (ok_is made (y, rest) e) in
-    omega (arith, ap length same);
+      let made : X × List ℕ = (x, bytes) in
+      let same : bytes ≡ rest = ap (λ (r : X × List ℕ). r.1) (ok_is made (y, rest) e) in
+      omega (arith, ap length same);
   within = λ whole bytes f e le. absurd cc;
   end = λ whole bytes f e is. absurd cc;
 }
@@ -96,13 +96,13 @@ pub Goes-fails : {X : Type 0} (rule : Rule) → rule ≢ rules.Truncated → Goe
 Goes-fails {X} rule other = record {
   ok = λ whole bytes more x rest e. absurd cc;
   err = λ whole bytes more f e others.
-    let same : fault_at rule whole ≡ f = failed_is {X = X × List ℕ} (fault_at rule whole) f e in
-    let left : length (whole ++ more) ≡ length whole + length more = length-append whole more in
-    ap (λ (k : ℕ). failed_with {X = X × List ℕ} rule k) left ∙ ap (λ (d : Fault). failed {X = X × List ℕ} (later more d)) same;
+      let same : fault_at rule whole ≡ f = failed_is {X = X × List ℕ} (fault_at rule whole) f e in
+      let left : length (whole ++ more) ≡ length whole + length more = length-append whole more in
+      ap (λ (k : ℕ). failed_with {X = X × List ℕ} rule k) left ∙ ap (λ (d : Fault). failed {X = X × List ℕ} (later more d)) same;
   shorter = λ whole bytes x rest e. absurd cc;
   within = λ whole bytes f e le.
-    let same : fault_at rule whole ≡ f = failed_is {X = X × List ℕ} (fault_at rule whole) f e in
-    omega (arith, ap (λ (d : Fault). d.left) same);
+      let same : fault_at rule whole ≡ f = failed_is {X = X × List ℕ} (fault_at rule whole) f e in
+      omega (arith, ap (λ (d : Fault). d.left) same);
   end = λ whole bytes f e is. absurd (other (ap (λ (d : Fault). d.rule) (failed_is {X = X × List ℕ} (fault_at rule whole) f e) ∙ is));
 }
 

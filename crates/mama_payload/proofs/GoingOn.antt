@@ -57,17 +57,17 @@ front_stops false r f e = absurd cc
 front_goes : {X : Type 0} (n : ℕ) (view : List ℕ → X) → Goes (λ _. front_at n view)
 front_goes {X} n view = record {
   ok = λ whole bytes more x rest e.
-    let read : X × List ℕ = (view (take n bytes), drop n bytes) in
-    let g = guard_ok (ltb (length bytes) n) truncated (Ok read) (x, rest) e in
-    let le : n ≤ length bytes = ltb-false _ _ g.0 in
-    let long : ltb (length (bytes ++ more)) n ≡ false = le-ltb _ _ (omega (arith, length-append bytes more)) in
-    rw (long, take-append-le n bytes more le, drop-append-le n bytes more le) (ap (λ (r : X × List ℕ). read_as r.0 (r.1 ++ more)) (ok_is read (x, rest) g.1));
+      let read : X × List ℕ = (view (take n bytes), drop n bytes) in
+      let g = guard_ok (ltb (length bytes) n) truncated (Ok read) (x, rest) e in
+      let le : n ≤ length bytes = ltb-false _ _ g.0 in
+      let long : ltb (length (bytes ++ more)) n ≡ false = le-ltb _ _ (omega (arith, length-append bytes more)) in
+      rw (long, take-append-le n bytes more le, drop-append-le n bytes more le) (ap (λ (r : X × List ℕ). read_as r.0 (r.1 ++ more)) (ok_is read (x, rest) g.1));
   err = λ whole bytes more f e other. absurd (other (sym (ap (λ (d : Fault). d.rule) (front_stops (ltb (length bytes) n) (view (take n bytes), drop n bytes) f e))));
   shorter = λ whole bytes x rest e.
-    let read : X × List ℕ = (view (take n bytes), drop n bytes) in
-    let g = guard_ok (ltb (length bytes) n) truncated (Ok read) (x, rest) e in
-    let same : drop n bytes ≡ rest = ap (λ (r : X × List ℕ). r.1) (ok_is read (x, rest) g.1) in
-    omega (arith, ap length same, length-drop n bytes);
+      let read : X × List ℕ = (view (take n bytes), drop n bytes) in
+      let g = guard_ok (ltb (length bytes) n) truncated (Ok read) (x, rest) e in
+      let same : drop n bytes ≡ rest = ap (λ (r : X × List ℕ). r.1) (ok_is read (x, rest) g.1) in
+      omega (arith, ap length same, length-drop n bytes);
   within = λ whole bytes f e le. omega (arith, ap (λ (d : Fault). d.left) (front_stops (ltb (length bytes) n) (view (take n bytes), drop n bytes) f e));
   end = λ whole bytes f e is. sym (ap (λ (d : Fault). d.left) (front_stops (ltb (length bytes) n) (view (take n bytes), drop n bytes) f e));
 }
@@ -87,8 +87,8 @@ repeated e = cc
 limited_goes : (limit : ℕ) → Goes (λ _. limited_at limit)
 limited_goes limit =
     Goes-closed (λ whole bytes. byte_at bytes >>= λ n. cond (ltb limit n.0) (Err (fault_at rules.TooMany whole)) (Ok n))
-      (Goes-then (λ _. byte_at) (λ whole n rest. cond (ltb limit n) (Err (fault_at rules.TooMany whole)) (Ok (n, rest))) byte_goes
-        (λ n. Goes-cond (ltb limit n) (λ whole _. Err (fault_at rules.TooMany whole)) (λ _ rest. Ok (n, rest)) (Goes-fails rules.TooMany too_many) (Goes-ok n)))
+    (Goes-then (λ _. byte_at) (λ whole n rest. cond (ltb limit n) (Err (fault_at rules.TooMany whole)) (Ok (n, rest))) byte_goes
+    (λ n. Goes-cond (ltb limit n) (λ whole _. Err (fault_at rules.TooMany whole)) (λ _ rest. Ok (n, rest)) (Goes-fails rules.TooMany too_many) (Goes-ok n)))
 
 number_goes : (w : Width) → Goes (λ _. number_at w)
 number_goes w = front_goes (byte_len w) (from_be_bytes w)
@@ -116,8 +116,8 @@ letters_by_byte test n (b ∷ bytes) = refl
 letters_more : (test : ℕ → Bool) (n : ℕ) → Goes (λ _. letters_at test n) → Goes (λ _. letters_at test (suc n))
 letters_more test n others =
     Goes-like (λ bytes. byte_at bytes >>= λ b. cond (test b.0) (seen_as (λ letters. b.0 ∷ letters) (letters_at test n b.1)) (Err (fault_at rules.BadText bytes))) (letters_at test (suc n)) (λ bytes. sym (letters_by_byte test n bytes))
-      (Goes-closed (λ whole bytes. byte_at bytes >>= λ b. cond (test b.0) (seen_as (λ letters. b.0 ∷ letters) (letters_at test n b.1)) (Err (fault_at rules.BadText whole)))
-        (Goes-then (λ _. byte_at) (λ whole b rest. cond (test b) (seen_as (λ letters. b ∷ letters) (letters_at test n rest)) (Err (fault_at rules.BadText whole))) byte_goes (λ b. letter_more test n b others)))
+    (Goes-closed (λ whole bytes. byte_at bytes >>= λ b. cond (test b.0) (seen_as (λ letters. b.0 ∷ letters) (letters_at test n b.1)) (Err (fault_at rules.BadText whole)))
+    (Goes-then (λ _. byte_at) (λ whole b rest. cond (test b) (seen_as (λ letters. b ∷ letters) (letters_at test n rest)) (Err (fault_at rules.BadText whole))) byte_goes (λ b. letter_more test n b others)))
 
 letters_goes : (test : ℕ → Bool) (n : ℕ) → Goes (λ _. letters_at test n)
 letters_goes test zero = letters_none test
@@ -143,7 +143,7 @@ flag_of_goes (suc (suc b)) = Goes-fails rules.BadTag bad_tag
 flag_goes : Goes (λ _. flag_at)
 flag_goes =
     Goes-like (λ bytes. byte_at bytes >>= λ b. flag_of b.0 bytes b.1) flag_at flag_by_byte
-      (Goes-closed (λ whole bytes. byte_at bytes >>= λ b. flag_of b.0 whole b.1) (Goes-then (λ _. byte_at) (λ whole b rest. flag_of b whole rest) byte_goes flag_of_goes))
+    (Goes-closed (λ whole bytes. byte_at bytes >>= λ b. flag_of b.0 whole b.1) (Goes-then (λ _. byte_at) (λ whole b rest. flag_of b whole rest) byte_goes flag_of_goes))
 
 text_goes : Goes (λ _. text_at)
 unfolding text_at
@@ -157,7 +157,7 @@ price_goes : Goes (λ _. price_at)
 unfolding price_at
 price_goes =
     Goes-then (λ _. signed_at w64) (λ _ mantissa rest. seen_as (λ decimals. record { mantissa = mantissa; decimals = decimals }) (limited_at 18 rest)) (signed_goes w64)
-      (λ mantissa. Goes-seen (λ _. limited_at 18) (λ decimals. record { mantissa = mantissa; decimals = decimals }) (limited_goes 18))
+    (λ mantissa. Goes-seen (λ _. limited_at 18) (λ decimals. record { mantissa = mantissa; decimals = decimals }) (limited_goes 18))
 
 value_goes : (kind : Kind) → Goes (λ _. value_at kind)
 unfolding value_at
@@ -184,36 +184,36 @@ kind_goes : Goes (λ _. kind_at)
 unfolding kind_at
 kind_goes =
     Goes-closed (λ whole bytes. byte_at bytes >>= λ tag. known (kind_with_tag tag.0) whole tag.1)
-      (Goes-then (λ _. byte_at) (λ whole tag rest. known (kind_with_tag tag) whole rest) byte_goes (λ tag. known_goes (kind_with_tag tag)))
+    (Goes-then (λ _. byte_at) (λ whole tag rest. known (kind_with_tag tag) whole rest) byte_goes (λ tag. known_goes (kind_with_tag tag)))
 
 name_goes : (fid : ℕ) → Goes (λ _. name_at fid)
 unfolding name_at
 name_goes fid =
     Goes-closed (λ whole bytes. limited_at 32 bytes >>= λ n. cond (eqb n.0 0 && eqb fid 0) (Err (fault_at rules.BadText whole)) (letters_at is_name_byte n.0 n.1))
-      (Goes-then (λ _. limited_at 32) (λ whole n rest. cond (eqb n 0 && eqb fid 0) (Err (fault_at rules.BadText whole)) (letters_at is_name_byte n rest)) (limited_goes 32)
-        (λ n. Goes-cond (eqb n 0 && eqb fid 0) (λ whole _. Err (fault_at rules.BadText whole)) (λ _. letters_at is_name_byte n) (Goes-fails rules.BadText bad_text) (letters_goes is_name_byte n)))
+    (Goes-then (λ _. limited_at 32) (λ whole n rest. cond (eqb n 0 && eqb fid 0) (Err (fault_at rules.BadText whole)) (letters_at is_name_byte n rest)) (limited_goes 32)
+    (λ n. Goes-cond (eqb n 0 && eqb fid 0) (λ whole _. Err (fault_at rules.BadText whole)) (λ _. letters_at is_name_byte n) (Goes-fails rules.BadText bad_text) (letters_goes is_name_byte n)))
 
 -- a field, of which the bytes are the end of all that may be faulty
 abbrev field_within : List FieldData → Within FieldData
 field_within before whole bytes =
     kind_at bytes >>= λ kind. number_at w16 kind.1 >>= λ fid. name_at fid.0 fid.1 >>= λ name.
-      seen_as (λ value. record { fid = fid.0; name = name.0; value = value }) (cond (has_key (key_from fid.0 name.0) before) (Err (fault_at rules.Repeated whole)) (value_at kind.0 name.1))
+    seen_as (λ value. record { fid = fid.0; name = name.0; value = value }) (cond (has_key (key_from fid.0 name.0) before) (Err (fault_at rules.Repeated whole)) (value_at kind.0 name.1))
 
 field_goes : (before : List FieldData) → Goes (λ _. field_at before)
 unfolding field_at
 field_goes before =
     Goes-closed (field_within before)
-      (Goes-then (λ _. kind_at) (λ whole kind rest. number_at w16 rest >>= λ fid. name_at fid.0 fid.1 >>= λ name.
-          seen_as (λ value. record { fid = fid.0; name = name.0; value = value }) (cond (has_key (key_from fid.0 name.0) before) (Err (fault_at rules.Repeated whole)) (value_at kind name.1)))
-        kind_goes
-        (λ kind. Goes-then (λ _. number_at w16) (λ whole fid rest. name_at fid rest >>= λ name.
-            seen_as (λ value. record { fid = fid; name = name.0; value = value }) (cond (has_key (key_from fid name.0) before) (Err (fault_at rules.Repeated whole)) (value_at kind name.1)))
-          (number_goes w16)
-          (λ fid. Goes-then (λ _. name_at fid) (λ whole name rest.
-              seen_as (λ value. record { fid = fid; name = name; value = value }) (cond (has_key (key_from fid name) before) (Err (fault_at rules.Repeated whole)) (value_at kind rest)))
-            (name_goes fid)
-            (λ name. Goes-seen (λ whole rest. cond (has_key (key_from fid name) before) (Err (fault_at rules.Repeated whole)) (value_at kind rest)) (λ value. record { fid = fid; name = name; value = value })
-              (Goes-cond (has_key (key_from fid name) before) (λ whole _. Err (fault_at rules.Repeated whole)) (λ _. value_at kind) (Goes-fails rules.Repeated repeated) (value_goes kind))))))
+    (Goes-then (λ _. kind_at) (λ whole kind rest. number_at w16 rest >>= λ fid. name_at fid.0 fid.1 >>= λ name.
+    seen_as (λ value. record { fid = fid.0; name = name.0; value = value }) (cond (has_key (key_from fid.0 name.0) before) (Err (fault_at rules.Repeated whole)) (value_at kind name.1)))
+    kind_goes
+    (λ kind. Goes-then (λ _. number_at w16) (λ whole fid rest. name_at fid rest >>= λ name.
+    seen_as (λ value. record { fid = fid; name = name.0; value = value }) (cond (has_key (key_from fid name.0) before) (Err (fault_at rules.Repeated whole)) (value_at kind name.1)))
+    (number_goes w16)
+    (λ fid. Goes-then (λ _. name_at fid) (λ whole name rest.
+    seen_as (λ value. record { fid = fid; name = name; value = value }) (cond (has_key (key_from fid name) before) (Err (fault_at rules.Repeated whole)) (value_at kind rest)))
+    (name_goes fid)
+    (λ name. Goes-seen (λ whole rest. cond (has_key (key_from fid name) before) (Err (fault_at rules.Repeated whole)) (value_at kind rest)) (λ value. record { fid = fid; name = name; value = value })
+    (Goes-cond (has_key (key_from fid name) before) (λ whole _. Err (fault_at rules.Repeated whole)) (λ _. value_at kind) (Goes-fails rules.Repeated repeated) (value_goes kind))))))
 
 fields_goes : (n : ℕ) (before : List FieldData) → Goes (λ _. fields_at n before)
 unfolding fields_at
@@ -224,11 +224,11 @@ version_goes : Goes (λ _. version_at)
 unfolding version_at
 version_goes =
     Goes-closed (λ whole bytes. byte_at bytes >>= λ version. cond (eqb version.0 1) (Ok version) (Err (fault_at rules.BadTag whole)))
-      (Goes-then (λ _. byte_at) (λ whole version rest. cond (eqb version 1) (Ok (version, rest)) (Err (fault_at rules.BadTag whole))) byte_goes
-        (λ version. Goes-cond (eqb version 1) (λ _ rest. Ok (version, rest)) (λ whole _. Err (fault_at rules.BadTag whole)) (Goes-ok version) (Goes-fails rules.BadTag bad_tag)))
+    (Goes-then (λ _. byte_at) (λ whole version rest. cond (eqb version 1) (Ok (version, rest)) (Err (fault_at rules.BadTag whole))) byte_goes
+    (λ version. Goes-cond (eqb version 1) (λ _ rest. Ok (version, rest)) (λ whole _. Err (fault_at rules.BadTag whole)) (Goes-ok version) (Goes-fails rules.BadTag bad_tag)))
 
 pub message_goes : Goes (λ _. message_at)
 unfolding message_at
 message_goes =
     Goes-then (λ _. version_at) (λ _ version rest. limited_at 64 rest >>= λ count. fields_at count.0 [] count.1) version_goes
-      (λ _. Goes-then (λ _. limited_at 64) (λ _ count rest. fields_at count [] rest) (limited_goes 64) (λ count. fields_goes count []))
+    (λ _. Goes-then (λ _. limited_at 64) (λ _ count rest. fields_at count [] rest) (limited_goes 64) (λ count. fields_goes count []))

@@ -36,7 +36,8 @@ next_is_new (g ∷ before) f fs distinct =
 pub distinct_push : (before : List FieldData) (f : FieldData) → AreDistinct before → has_key (key_of f) before ≡ false → AreDistinct (before ++ f ∷ [])
 distinct_push [] f distinct new = (refl, tt)
 distinct_push (g ∷ before) f distinct new =
-    let apart = or_parts (same_key (key_of g) (key_of f)) (has_key (key_of f) before) new in
-    (list_any-append (λ h. same_key (key_of h) (key_of g)) before (f ∷ [])
-      ∙ or_from (has_key (key_of g) before) (has_key (key_of g) (f ∷ [])) distinct.0 (or_from (same_key (key_of f) (key_of g)) false (same_key_turned (key_of f) (key_of g) ∙ apart.0) refl),
-      distinct_push before f distinct.1 apart.1)
+    let apart = or_parts (same_key (key_of g) (key_of f)) (has_key (key_of f) before) new in (
+      list_any-append (λ h. same_key (key_of h) (key_of g)) before (f ∷ [])
+          ∙ or_from (has_key (key_of g) before) (has_key (key_of g) (f ∷ [])) distinct.0 (or_from (same_key (key_of f) (key_of g)) false (same_key_turned (key_of f) (key_of g) ∙ apart.0) refl),
+      distinct_push before f distinct.1 apart.1,
+    )

@@ -41,7 +41,7 @@ fields_reads (f ∷ fs) before each distinct =
     let both = Reads-then (field_at before) (λ _ f rest. fields_at (length fs) (before ++ f ∷ []) rest) (field_bytes f) (flat_map field_bytes fs) f ((before ++ f ∷ []) ++ fs) first (λ _. others) in
     let text : field_bytes f ++ flat_map field_bytes fs ≡ flat_map field_bytes (f ∷ fs) = sym (flat_map-cons field_bytes f fs) in
     subst (λ (t : List ℕ). Reads (fields_at (suc (length fs)) before) t (before ++ f ∷ fs)) text
-      (subst (λ (all : List FieldData). Reads (fields_at (suc (length fs)) before) (field_bytes f ++ flat_map field_bytes fs) all) regrouped both)
+    (subst (λ (all : List FieldData). Reads (fields_at (suc (length fs)) before) (field_bytes f ++ flat_map field_bytes fs) all) regrouped both)
 
 -- what was read behind these fields
 record IsRead (n : ℕ) (before : List FieldData) (bytes : List ℕ) (all : List FieldData) (rest : List ℕ) : Type 0 where
@@ -58,7 +58,13 @@ unfolding fields_at
 fields_taken zero before bytes all rest fits distinct e =
     let made : List FieldData × List ℕ = (before, bytes) in
     subst (λ (x : List FieldData × List ℕ). IsRead 0 before bytes x.0 x.1) (ok_is made (all, rest) e) (record {
-      others = []; all_is = sym (append-nil before); parts = refl; rest_fits = fits; count = refl; each = tt; distinct = distinct;
+      others = [];
+      all_is = sym (append-nil before);
+      parts = refl;
+      rest_fits = fits;
+      count = refl;
+      each = tt;
+      distinct = distinct;
     })
 fields_taken (suc n) before bytes all rest fits distinct e =
     let a = bind_ok (field_at before bytes) (λ f. fields_at n (before ++ f.0 ∷ []) f.1) (all, rest) e in
@@ -94,10 +100,10 @@ pub message_reads : (m : List FieldData) → HasSpelling m → Reads message_at 
 unfolding message_at
 message_reads m fits =
     Reads-then version_at (λ _ version rest. limited_at 64 rest >>= λ count. fields_at count.0 [] count.1)
-      (one 1) (length m ∷ flat_map field_bytes m) 1 m version_reads
-      (λ _. Reads-then (limited_at 64) (λ _ count rest. fields_at count [] rest)
-        (one (length m)) (flat_map field_bytes m) (length m) m (limited_reads 64 (length m) fits.short)
-        (λ _. fields_reads m [] fits.each fits.distinct))
+    (one 1) (length m ∷ flat_map field_bytes m) 1 m version_reads
+    (λ _. Reads-then (limited_at 64) (λ _ count rest. fields_at count [] rest)
+    (one (length m)) (flat_map field_bytes m) (length m) m (limited_reads 64 (length m) fits.short)
+    (λ _. fields_reads m [] fits.each fits.distinct))
 
 pub message_taken : (bytes : List ℕ) (m : List FieldData) (rest : List ℕ) → IsBytes bytes → message_at bytes ≡ Ok (m, rest) → (bytes ≡ spelling m ++ rest) × HasSpelling m
 unfolding message_at
@@ -108,9 +114,10 @@ message_taken bytes m rest fits e =
     let q = (limited_spells 64).takes a.0.1 b.0.0 b.0.1 p.1 b.1 in
     let r = fields_taken b.0.0 [] b.0.1 m rest q.1 tt b.2 in
     let count : b.0.0 ≡ length m = sym r.count ∙ ap length (sym r.all_is) in
-    let whole_text : bytes ≡ 1 ∷ b.0.0 ∷ (flat_map field_bytes r.others ++ rest) = p.0 ∙ ap (λ (t : List ℕ). 1 ∷ t) (q.0 ∙ ap (λ (t : List ℕ). b.0.0 ∷ t) r.parts) in
-    (whole_text ∙ ap (λ (k : ℕ). 1 ∷ k ∷ (flat_map field_bytes r.others ++ rest)) count ∙ ap (λ (fs : List FieldData). 1 ∷ length m ∷ (flat_map field_bytes fs ++ rest)) (sym r.all_is),
-      record { short = subst (λ (k : ℕ). k ≤ 64) count q.2; each = subst (AllByRecursion IsField) (sym r.all_is) r.each; distinct = r.distinct })
+    let whole_text : bytes ≡ 1 ∷ b.0.0 ∷ (flat_map field_bytes r.others ++ rest) = p.0 ∙ ap (λ (t : List ℕ). 1 ∷ t) (q.0 ∙ ap (λ (t : List ℕ). b.0.0 ∷ t) r.parts) in (
+      whole_text ∙ ap (λ (k : ℕ). 1 ∷ k ∷ (flat_map field_bytes r.others ++ rest)) count ∙ ap (λ (fs : List FieldData). 1 ∷ length m ∷ (flat_map field_bytes fs ++ rest)) (sym r.all_is),
+      record { short = subst (λ (k : ℕ). k ≤ 64) count q.2; each = subst (AllByRecursion IsField) (sym r.all_is) r.each; distinct = r.distinct },
+    )
 
 -- ---- all of the bytes
 

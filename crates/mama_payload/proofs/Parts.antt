@@ -128,8 +128,8 @@ number_reads w limit wide n lt =
     let len = wide.len n in
     record {
       again = λ rest.
-        let long : ltb (length (to_be_bytes w n ++ rest)) (byte_len w) ≡ false = le-ltb _ _ (omega (arith, length-append (to_be_bytes w n) rest)) in
-        rw (long, take_at (to_be_bytes w n) rest (byte_len w) len, drop_at (to_be_bytes w n) rest (byte_len w) len, wide.again n lt) refl;
+          let long : ltb (length (to_be_bytes w n ++ rest)) (byte_len w) ≡ false = le-ltb _ _ (omega (arith, length-append (to_be_bytes w n) rest)) in
+          rw (long, take_at (to_be_bytes w n) rest (byte_len w) len, drop_at (to_be_bytes w n) rest (byte_len w) len, wide.again n lt) refl;
       cut = λ front c rest e. number_cut w (to_be_bytes w n) front c rest len e;
     }
 
@@ -140,7 +140,7 @@ number_taken w limit wide bytes n rest fits e =
     let long : byte_len w ≤ length bytes = ltb-false _ _ g.0 in
     let front : to_be_bytes w read.0 ≡ take (byte_len w) bytes = wide.back (take (byte_len w) bytes) (omega (arith, length-take (byte_len w) bytes)) (IsBytes-take (byte_len w) bytes fits) in
     subst (λ (x : ℕ × List ℕ). (bytes ≡ to_be_bytes w x.0 ++ x.1) × IsBytes x.1 × (x.0 < limit)) (ok_is read (n, rest) g.1)
-      (rw front (sym (take-append-drop (byte_len w) bytes)), IsBytes-drop (byte_len w) bytes fits, wide.below (take (byte_len w) bytes) (IsBytes-take (byte_len w) bytes fits))
+    (rw front (sym (take-append-drop (byte_len w) bytes)), IsBytes-drop (byte_len w) bytes fits, wide.below (take (byte_len w) bytes) (IsBytes-take (byte_len w) bytes fits))
 
 pub number_spells : (w : Width) (limit : ℕ) → IsWide w limit → Spells (number_at w) (to_be_bytes w) (λ n. n < limit)
 number_spells w limit wide = record { takes = number_taken w limit wide }
@@ -160,12 +160,12 @@ signed_spells w wide = Spells-seen (number_at w) (cast_signed w) (to_be_bytes w)
 pub bytes_reads : (block : List ℕ) → Reads (bytes_at (length block)) block block
 bytes_reads block = record {
   again = λ rest.
-    let long : ltb (length (block ++ rest)) (length block) ≡ false = le-ltb _ _ (omega (arith, length-append block rest)) in
-    rw (long, take_at block rest (length block) refl, drop_at block rest (length block) refl) refl;
+      let long : ltb (length (block ++ rest)) (length block) ≡ false = le-ltb _ _ (omega (arith, length-append block rest)) in
+      rw (long, take_at block rest (length block) refl, drop_at block rest (length block) refl) refl;
   cut = λ front c rest e.
-    let short : length front < length block = omega (arith, length-append front (c ∷ rest), ap length e) in
-    let test : ltb (length front) (length block) ≡ true = grind arith in
-    rw test refl;
+      let short : length front < length block = omega (arith, length-append front (c ∷ rest), ap length e) in
+      let test : ltb (length front) (length block) ≡ true = grind arith in
+      rw test refl;
 }
 
 bytes_taken : (n : ℕ) (bytes block rest : List ℕ) → IsBytes bytes → bytes_at n bytes ≡ Ok (block, rest) → (bytes ≡ block ++ rest) × IsBytes rest × (length block ≡ n)
@@ -174,7 +174,7 @@ bytes_taken n bytes block rest fits e =
     let g = guard_ok (ltb (length bytes) n) truncated (Ok read) (block, rest) e in
     let long : n ≤ length bytes = ltb-false _ _ g.0 in
     subst (λ (x : List ℕ × List ℕ). (bytes ≡ x.0 ++ x.1) × IsBytes x.1 × (length x.0 ≡ n)) (ok_is read (block, rest) g.1)
-      (sym (take-append-drop n bytes), IsBytes-drop n bytes fits, omega (arith, length-take n bytes))
+    (sym (take-append-drop n bytes), IsBytes-drop n bytes fits, omega (arith, length-take n bytes))
 
 pub bytes_spells : (n : ℕ) → Spells (bytes_at n) (λ block. block) (λ block. length block ≡ n)
 bytes_spells n = record { takes = bytes_taken n }
@@ -211,7 +211,7 @@ letters_taken test (suc n) (b ∷ bytes) letters rest fits e =
     let p = letters_taken test n bytes a.0.0 a.0.1 (IsBytes-rest b bytes fits) a.1 in
     let made : List ℕ × List ℕ = (b ∷ a.0.0, a.0.1) in
     subst (λ (x : List ℕ × List ℕ). (b ∷ bytes ≡ x.0 ++ x.1) × IsBytes x.1 × ((length x.0 ≡ suc n) × (list_all test x.0 ≡ true))) (ok_is made (letters, rest) a.2)
-      (ap (λ (r : List ℕ). b ∷ r) p.0, p.1, (ap suc p.2.0, and_from (test b) (list_all test a.0.0) g.0 p.2.1))
+    (ap (λ (r : List ℕ). b ∷ r) p.0, p.1, (ap suc p.2.0, and_from (test b) (list_all test a.0.0) g.0 p.2.1))
 
 pub letters_reads : (test : ℕ → Bool) (letters : List ℕ) → list_all test letters ≡ true → Reads (letters_at test (length letters)) letters letters
 letters_reads test letters all = record {

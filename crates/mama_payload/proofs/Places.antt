@@ -25,7 +25,11 @@ record Trails (bytes : List ℕ) (f : Fault) : Type 0 where
 ended_stops : (bytes : List ℕ) (fields : List FieldData) (rest : List ℕ) (f : Fault) → message_at bytes ≡ Ok (fields, rest) → ended (fields, rest) ≡ Err f → Trails bytes f
 ended_stops bytes fields [] f read e = absurd cc
 ended_stops bytes fields (b ∷ rest) f read e = record {
-  fields = fields; first = b; others = rest; read = read; fault = failed_is {X = List FieldData} (fault_at rules.Trailing (b ∷ rest)) f e;
+  fields = fields;
+  first = b;
+  others = rest;
+  read = read;
+  fault = failed_is {X = List FieldData} (fault_at rules.Trailing (b ∷ rest)) f e;
 }
 
 whole_stops : (bytes : List ℕ) (f : Fault) → whole bytes ≡ Err f → (message_at bytes ≡ Err f) ⊎ Trails bytes f
@@ -58,7 +62,7 @@ trails_more : (bytes more : List ℕ) (f : Fault) → Trails bytes f → whole (
 trails_more bytes more f t =
     let size : length (t.first ∷ (t.others ++ more)) ≡ length (t.first ∷ t.others) + length more = length-append (t.first ∷ t.others) more in
     rw (message_goes.ok bytes bytes more t.fields (t.first ∷ t.others) t.read)
-      (ap (λ (k : ℕ). failed_with {X = List FieldData} rules.Trailing k) size ∙ ap (λ (d : Fault). failed {X = List FieldData} (later more d)) t.fault)
+    (ap (λ (k : ℕ). failed_with {X = List FieldData} rules.Trailing k) size ∙ ap (λ (d : Fault). failed {X = List FieldData} (later more d)) t.fault)
 
 whole-more : (bytes more : List ℕ) (f : Fault) → whole bytes ≡ Err f → f.rule ≢ rules.Truncated → whole (bytes ++ more) ≡ Err (later more f)
 whole-more bytes more f e other = elim (whole_stops bytes f e) [

@@ -70,14 +70,14 @@ pub Reads-then : {X Y : Type 0} (read : Reader X) (next : List ℕ → X → Rea
     → Reads read a x → ((bytes : List ℕ) → Reads (next bytes x) b y) → Reads (λ bytes. read bytes >>= λ r. next bytes r.0 r.1) (a ++ b) y
 Reads-then {X} {Y} read next a b x y first second = record {
   again = λ rest.
-    let all = (a ++ b) ++ rest in
-    let e : read all ≡ Ok (x, b ++ rest) = ap read (append_assoc a b rest) ∙ first.again (b ++ rest) in
-    ap (λ (r : Result (X × List ℕ) Fault). r >>= λ r. next all r.0 r.1) e ∙ (second all).again rest;
+      let all = (a ++ b) ++ rest in
+      let e : read all ≡ Ok (x, b ++ rest) = ap read (append_assoc a b rest) ∙ first.again (b ++ rest) in
+      ap (λ (r : Result (X × List ℕ) Fault). r >>= λ r. next all r.0 r.1) e ∙ (second all).again rest;
   cut = λ front c rest e. elim (split a b front c rest e) [
     | inl w ↦ ap (λ (r : Result (X × List ℕ) Fault). r >>= λ r. next front r.0 r.1) (first.cut front w.0 w.1 w.2)
     | inr w ↦
-      let e : read front ≡ Ok (x, w.0) = ap read w.1 ∙ first.again w.0 in
-      ap (λ (r : Result (X × List ℕ) Fault). r >>= λ r. next front r.0 r.1) e ∙ (second front).cut w.0 c rest w.2
+        let e : read front ≡ Ok (x, w.0) = ap read w.1 ∙ first.again w.0 in
+        ap (λ (r : Result (X × List ℕ) Fault). r >>= λ r. next front r.0 r.1) e ∙ (second front).cut w.0 c rest w.2
   ];
 }
 
@@ -100,24 +100,24 @@ pub Spells-then : {X Y : Type 0} (read : Reader X) (next : List ℕ → X → Re
     → Spells (λ bytes. read bytes >>= λ r. next bytes r.0 r.1) v R
 Spells-then {X} {Y} read next t u v P Q R first second both = record {
   takes = λ bytes y rest fits e.
-    let a = bind_ok (read bytes) (λ r. next bytes r.0 r.1) (y, rest) e in
-    let x = a.0.0 in
-    let p = first.takes bytes x a.0.1 fits a.1 in
-    let q = (second bytes x p.2).takes a.0.1 y rest p.1 a.2 in
-    let w = both x y p.2 q.2 in
-    (p.0 ∙ ap (λ (r : List ℕ). t x ++ r) q.0 ∙ sym (append_assoc (t x) (u x y) rest) ∙ ap (λ (r : List ℕ). r ++ rest) w.0, q.1, w.1);
+      let a = bind_ok (read bytes) (λ r. next bytes r.0 r.1) (y, rest) e in
+      let x = a.0.0 in
+      let p = first.takes bytes x a.0.1 fits a.1 in
+      let q = (second bytes x p.2).takes a.0.1 y rest p.1 a.2 in
+      let w = both x y p.2 q.2 in
+      (p.0 ∙ ap (λ (r : List ℕ). t x ++ r) q.0 ∙ sym (append_assoc (t x) (u x y) rest) ∙ ap (λ (r : List ℕ). r ++ rest) w.0, q.1, w.1);
 }
 
 pub Spells-seen : {X Y : Type 0} (read : Reader X) (view : X → Y) (t : X → List ℕ) (v : Y → List ℕ) (P : X → Type 0) (R : Y → Type 0)
     → Spells read t P → ((x : X) → P x → (t x ≡ v (view x)) × R (view x)) → Spells (λ bytes. seen_as view (read bytes)) v R
 Spells-seen {X} {Y} read view t v P R first each = record {
   takes = λ bytes y rest fits e.
-    let a = bind_ok (read bytes) (λ x. Ok (view x.0, x.1)) (y, rest) e in
-    let x = a.0.0 in
-    let p = first.takes bytes x a.0.1 fits a.1 in
-    let w = each x p.2 in
-    let made : Y × List ℕ = (view x, a.0.1) in
-    subst (λ (z : Y × List ℕ). (bytes ≡ v z.0 ++ z.1) × IsBytes z.1 × R z.0) (ok_is made (y, rest) a.2)
+      let a = bind_ok (read bytes) (λ x. Ok (view x.0, x.1)) (y, rest) e in
+      let x = a.0.0 in
+      let p = first.takes bytes x a.0.1 fits a.1 in
+      let w = each x p.2 in
+      let made : Y × List ℕ = (view x, a.0.1) in
+      subst (λ (z : Y × List ℕ). (bytes ≡ v z.0 ++ z.1) × IsBytes z.1 × R z.0) (ok_is made (y, rest) a.2)
       (p.0 ∙ ap (λ (s : List ℕ). s ++ a.0.1) w.0, p.1, w.1);
 }
 

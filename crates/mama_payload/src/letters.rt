@@ -28,11 +28,7 @@ impl Alphabet {
 }
 
 /// As many letters as `count` says, and the bytes after them. A letter that the alphabet lacks comes before the end.
-pub fn letters_of(
-    alphabet: Alphabet,
-    count: u8,
-    bytes: &[u8],
-) -> Result<(&[u8], &[u8]), Stop>
+pub fn letters_of(alphabet: Alphabet, count: u8, bytes: &[u8]) -> Result<(&[u8], &[u8]), Stop>
     ensures gives { Gives (λ x. (x.0.now, x.1.now)) result (letters_at (allowed alphabet) count bytes.now) }
     ensures length { IfOk result (λ x. length x.0.now ≡ count) }
     ensures letters { IfOk result (λ x. list_all (allowed alphabet) x.0.now ≡ true) }

@@ -1,5 +1,3 @@
-mod vectors;
-
 use super::DecodeFault::{BadTag, BadText, Repeated, TooMany, Trailing, Truncated};
 use super::{DecodeFault, EncodeFault, decode, encode};
 use mama_msg::{BytesValue, Field, Msg, Name, Price, TextValue, Value};
@@ -35,81 +33,175 @@ type Row = (&'static [u8], &'static [Entry]);
 /// bytes, keys that look alike, and names of 32 letters.
 const SPELLED: [Row; 6] = [
     (b"\x01\x00", &[]),
-    (b"\x01\x0e\x01\x00\x01\x02n0\x00\x02\x00\x02\x00\x00\x03\x00\x03\x02n2\x80\x04\x00\x04\x00\x80\x00\x05\x00\x05\x02n4\x80\x00\x00\x00\x06\x00\x06\x00\x80\x00\x00\x00\x00\x00\x00\x00\x07\x00\x07\x02n6\x00\x08\x00\x08\x00\x00\x00\x09\x00\x09\x02n8\x00\x00\x00\x00\x0a\x00\x0a\x00\x00\x00\x00\x00\x00\x00\x00\x00\x0b\x00\x0b\x03n10\x00\x0c\x00\x0c\x00\x00\x0d\x00\x0d\x03n12\x80\x00\x00\x00\x00\x00\x00\x00\x00\x0e\x00\x0e\x00\x00\x00\x00\x00\x00\x00\x00\x00", &[(1, b"n0", Plain::Bool(false)), (2, b"", Plain::Char(0)), (3, b"n2", Plain::I8(-128)), (4, b"", Plain::I16(-32_768)), (5, b"n4", Plain::I32(-2_147_483_648)), (6, b"", Plain::I64(-9_223_372_036_854_775_808)), (7, b"n6", Plain::U8(0)), (8, b"", Plain::U16(0)), (9, b"n8", Plain::U32(0)), (10, b"", Plain::U64(0)), (11, b"n10", Plain::Text(b"")), (12, b"", Plain::Bytes(b"")), (13, b"n12", Plain::Price(-9_223_372_036_854_775_808, 0)), (14, b"", Plain::Moment(0))]),
-    (b"\x01\x0e\x01\xff\xff\x02n0\x01\x02\xff\xfe\x00\xff\x03\xff\xfd\x02n2\x7f\x04\xff\xfc\x00\x7f\xff\x05\xff\xfb\x02n4\x7f\xff\xff\xff\x06\xff\xfa\x00\x7f\xff\xff\xff\xff\xff\xff\xff\x07\xff\xf9\x02n6\xff\x08\xff\xf8\x00\xff\xff\x09\xff\xf7\x02n8\xff\xff\xff\xff\x0a\xff\xf6\x00\xff\xff\xff\xff\xff\xff\xff\xff\x0b\xff\xf5\x03n10\x02 ~\x0c\xff\xf4\x00\x02\x00\xff\x0d\xff\xf3\x03n12\x7f\xff\xff\xff\xff\xff\xff\xff\x12\x0e\xff\xf2\x00\xff\xff\xff\xff\xff\xff\xff\xff", &[(65535, b"n0", Plain::Bool(true)), (65534, b"", Plain::Char(255)), (65533, b"n2", Plain::I8(127)), (65532, b"", Plain::I16(32_767)), (65531, b"n4", Plain::I32(2_147_483_647)), (65530, b"", Plain::I64(9_223_372_036_854_775_807)), (65529, b"n6", Plain::U8(255)), (65528, b"", Plain::U16(65_535)), (65527, b"n8", Plain::U32(4_294_967_295)), (65526, b"", Plain::U64(18_446_744_073_709_551_615)), (65525, b"n10", Plain::Text(b" ~")), (65524, b"", Plain::Bytes(b"\x00\xff")), (65523, b"n12", Plain::Price(9_223_372_036_854_775_807, 18)), (65522, b"", Plain::Moment(18_446_744_073_709_551_615))]),
-    (b"\x01\x07\x03\x01\x00\x02n0\xff\x04\x02\x00\x00\xff\xfe\x05\x03\x00\x02n2\xff\xff\xff\xfd\x06\x04\x00\x00\xff\xff\xff\xff\xff\xff\xff\x00\x08\x05\x00\x02n4\x01\x02\x09\x06\x00\x00\x01\x02\x03\x04\x0a\x07\x00\x02n6\x01\x02\x03\x04\x05\x06\x07\x08", &[(256, b"n0", Plain::I8(-1)), (512, b"", Plain::I16(-2)), (768, b"n2", Plain::I32(-3)), (1024, b"", Plain::I64(-256)), (1280, b"n4", Plain::U16(258)), (1536, b"", Plain::U32(16_909_060)), (1792, b"n6", Plain::U64(72_623_859_790_382_856))]),
-    (b"\x01\x05\x01\x00\x00\x02px\x01\x01\x00\x07\x02px\x00\x02\x00\x08\x02px\x01\x02\x00\x00\x01p\x02\x02\x00\x00\x02PX\x03", &[(0, b"px", Plain::Bool(true)), (7, b"px", Plain::Bool(false)), (8, b"px", Plain::Char(1)), (0, b"p", Plain::Char(2)), (0, b"PX", Plain::Char(3))]),
-    (b"\x01\x02\x07\x00\x01 abcdefghijklmnopqrstuvwxyz012345\x01\x07\x00\x02 ABCDEFGHIJKLMNOPQRSTUVWXYZ6789__\x02", &[(1, b"abcdefghijklmnopqrstuvwxyz012345", Plain::U8(1)), (2, b"ABCDEFGHIJKLMNOPQRSTUVWXYZ6789__", Plain::U8(2))]),
+    (
+        b"\x01\x0e\x01\x00\x01\x02n0\x00\x02\x00\x02\x00\x00\x03\x00\x03\x02n2\x80\x04\x00\x04\x00\x80\x00\x05\x00\x05\x02n4\x80\x00\x00\x00\x06\x00\x06\x00\x80\x00\x00\x00\x00\x00\x00\x00\x07\x00\x07\x02n6\x00\x08\x00\x08\x00\x00\x00\x09\x00\x09\x02n8\x00\x00\x00\x00\x0a\x00\x0a\x00\x00\x00\x00\x00\x00\x00\x00\x00\x0b\x00\x0b\x03n10\x00\x0c\x00\x0c\x00\x00\x0d\x00\x0d\x03n12\x80\x00\x00\x00\x00\x00\x00\x00\x00\x0e\x00\x0e\x00\x00\x00\x00\x00\x00\x00\x00\x00",
+        &[
+            (1, b"n0", Plain::Bool(false)),
+            (2, b"", Plain::Char(0)),
+            (3, b"n2", Plain::I8(-128)),
+            (4, b"", Plain::I16(-32_768)),
+            (5, b"n4", Plain::I32(-2_147_483_648)),
+            (6, b"", Plain::I64(-9_223_372_036_854_775_808)),
+            (7, b"n6", Plain::U8(0)),
+            (8, b"", Plain::U16(0)),
+            (9, b"n8", Plain::U32(0)),
+            (10, b"", Plain::U64(0)),
+            (11, b"n10", Plain::Text(b"")),
+            (12, b"", Plain::Bytes(b"")),
+            (13, b"n12", Plain::Price(-9_223_372_036_854_775_808, 0)),
+            (14, b"", Plain::Moment(0)),
+        ],
+    ),
+    (
+        b"\x01\x0e\x01\xff\xff\x02n0\x01\x02\xff\xfe\x00\xff\x03\xff\xfd\x02n2\x7f\x04\xff\xfc\x00\x7f\xff\x05\xff\xfb\x02n4\x7f\xff\xff\xff\x06\xff\xfa\x00\x7f\xff\xff\xff\xff\xff\xff\xff\x07\xff\xf9\x02n6\xff\x08\xff\xf8\x00\xff\xff\x09\xff\xf7\x02n8\xff\xff\xff\xff\x0a\xff\xf6\x00\xff\xff\xff\xff\xff\xff\xff\xff\x0b\xff\xf5\x03n10\x02 ~\x0c\xff\xf4\x00\x02\x00\xff\x0d\xff\xf3\x03n12\x7f\xff\xff\xff\xff\xff\xff\xff\x12\x0e\xff\xf2\x00\xff\xff\xff\xff\xff\xff\xff\xff",
+        &[
+            (65535, b"n0", Plain::Bool(true)),
+            (65534, b"", Plain::Char(255)),
+            (65533, b"n2", Plain::I8(127)),
+            (65532, b"", Plain::I16(32_767)),
+            (65531, b"n4", Plain::I32(2_147_483_647)),
+            (65530, b"", Plain::I64(9_223_372_036_854_775_807)),
+            (65529, b"n6", Plain::U8(255)),
+            (65528, b"", Plain::U16(65_535)),
+            (65527, b"n8", Plain::U32(4_294_967_295)),
+            (65526, b"", Plain::U64(18_446_744_073_709_551_615)),
+            (65525, b"n10", Plain::Text(b" ~")),
+            (65524, b"", Plain::Bytes(b"\x00\xff")),
+            (65523, b"n12", Plain::Price(9_223_372_036_854_775_807, 18)),
+            (65522, b"", Plain::Moment(18_446_744_073_709_551_615)),
+        ],
+    ),
+    (
+        b"\x01\x07\x03\x01\x00\x02n0\xff\x04\x02\x00\x00\xff\xfe\x05\x03\x00\x02n2\xff\xff\xff\xfd\x06\x04\x00\x00\xff\xff\xff\xff\xff\xff\xff\x00\x08\x05\x00\x02n4\x01\x02\x09\x06\x00\x00\x01\x02\x03\x04\x0a\x07\x00\x02n6\x01\x02\x03\x04\x05\x06\x07\x08",
+        &[
+            (256, b"n0", Plain::I8(-1)),
+            (512, b"", Plain::I16(-2)),
+            (768, b"n2", Plain::I32(-3)),
+            (1024, b"", Plain::I64(-256)),
+            (1280, b"n4", Plain::U16(258)),
+            (1536, b"", Plain::U32(16_909_060)),
+            (1792, b"n6", Plain::U64(72_623_859_790_382_856)),
+        ],
+    ),
+    (
+        b"\x01\x05\x01\x00\x00\x02px\x01\x01\x00\x07\x02px\x00\x02\x00\x08\x02px\x01\x02\x00\x00\x01p\x02\x02\x00\x00\x02PX\x03",
+        &[
+            (0, b"px", Plain::Bool(true)),
+            (7, b"px", Plain::Bool(false)),
+            (8, b"px", Plain::Char(1)),
+            (0, b"p", Plain::Char(2)),
+            (0, b"PX", Plain::Char(3)),
+        ],
+    ),
+    (
+        b"\x01\x02\x07\x00\x01 abcdefghijklmnopqrstuvwxyz012345\x01\x07\x00\x02 ABCDEFGHIJKLMNOPQRSTUVWXYZ6789__\x02",
+        &[
+            (1, b"abcdefghijklmnopqrstuvwxyz012345", Plain::U8(1)),
+            (2, b"ABCDEFGHIJKLMNOPQRSTUVWXYZ6789__", Plain::U8(2)),
+        ],
+    ),
 ];
 
-/// Each fault, in each kind of place.
-const FAULTY: [(&[u8], DecodeFault); 66] = [
-    (b"", Truncated { at: 0 }),
-    (b"\x01", Truncated { at: 1 }),
-    (b"\x01\x01", Truncated { at: 2 }),
-    (b"\x01\x01\x01", Truncated { at: 3 }),
-    (b"\x01\x01\x01\x00", Truncated { at: 4 }),
-    (b"\x01\x01\x01\x00\x07", Truncated { at: 5 }),
-    (b"\x01\x01\x01\x00\x07\x02", Truncated { at: 6 }),
-    (b"\x01\x01\x01\x00\x07\x02p", Truncated { at: 7 }),
-    (b"\x01\x01\x01\x00\x07\x02px", Truncated { at: 8 }),
-    (b"\x01\x01\x02\x00\x07\x02px", Truncated { at: 8 }),
-    (b"\x01\x01\x03\x00\x07\x02px", Truncated { at: 8 }),
-    (b"\x01\x01\x04\x00\x07\x02px\x01", Truncated { at: 9 }),
-    (b"\x01\x01\x05\x00\x07\x02px\x01\x01\x01", Truncated { at: 11 }),
-    (b"\x01\x01\x06\x00\x07\x02px\x01\x01\x01\x01\x01\x01\x01", Truncated { at: 15 }),
-    (b"\x01\x01\x07\x00\x07\x02px", Truncated { at: 8 }),
-    (b"\x01\x01\x08\x00\x07\x02px\x01", Truncated { at: 9 }),
-    (b"\x01\x01\x09\x00\x07\x02px\x01\x01\x01", Truncated { at: 11 }),
-    (b"\x01\x01\x0a\x00\x07\x02px\x01\x01\x01\x01\x01\x01\x01", Truncated { at: 15 }),
-    (b"\x01\x01\x0b\x00\x07\x02px", Truncated { at: 8 }),
-    (b"\x01\x01\x0c\x00\x07\x02px", Truncated { at: 8 }),
-    (b"\x01\x01\x0d\x00\x07\x02px\x01\x01\x01\x01\x01\x01\x01\x01", Truncated { at: 16 }),
-    (b"\x01\x01\x0e\x00\x07\x02px\x01\x01\x01\x01\x01\x01\x01", Truncated { at: 15 }),
-    (b"\x01\x01\x0b\x00\x07\x02px\x03ab", Truncated { at: 11 }),
-    (b"\x01\x01\x0c\x00\x07\x02px\x03\x00\xff", Truncated { at: 11 }),
-    (b"\x01\x02\x01\x00\x07\x02px\x00", Truncated { at: 9 }),
-    (b"\x00", BadTag { at: 0 }),
-    (b"\x02\x00", BadTag { at: 0 }),
-    (b"\x01\x01\x00", BadTag { at: 2 }),
-    (b"\x01\x01\x0f", BadTag { at: 2 }),
-    (b"\x01\x01\xff", BadTag { at: 2 }),
-    (b"\x01\x01\x01\x00\x07\x02px\x02", BadTag { at: 8 }),
-    (b"\x01\x01\x01\x00\x07\x02px\xff", BadTag { at: 8 }),
-    (b"\x01\x02\x01\x00\x07\x02px\x01\x00", BadTag { at: 9 }),
-    (b"\x01A", TooMany { at: 1 }),
-    (b"\x01\xff", TooMany { at: 1 }),
-    (b"\x01\x01\x01\x00\x07!", TooMany { at: 5 }),
-    (b"\x01\x01\x01\x00\x00\xff", TooMany { at: 5 }),
-    (b"\x01\x01\x0d\x00\x07\x02px\x00\x00\x00\x00\x00\x00\x00\x00\x13", TooMany { at: 16 }),
-    (b"\x01\x01\x0d\x00\x07\x02px\x00\x00\x00\x00\x00\x00\x00\x00\xff", TooMany { at: 16 }),
-    (b"\x01\x01\x01\x00\x07\x02p/", BadText { at: 7 }),
-    (b"\x01\x01\x01\x00\x07\x02p:", BadText { at: 7 }),
-    (b"\x01\x01\x01\x00\x07\x02p@", BadText { at: 7 }),
-    (b"\x01\x01\x01\x00\x07\x02p[", BadText { at: 7 }),
-    (b"\x01\x01\x01\x00\x07\x02p^", BadText { at: 7 }),
-    (b"\x01\x01\x01\x00\x07\x02p`", BadText { at: 7 }),
-    (b"\x01\x01\x01\x00\x07\x02p{", BadText { at: 7 }),
-    (b"\x01\x01\x01\x00\x07\x02p ", BadText { at: 7 }),
-    (b"\x01\x01\x01\x00\x07\x02p\x00", BadText { at: 7 }),
-    (b"\x01\x01\x01\x00\x07\x02p\xff", BadText { at: 7 }),
-    (b"\x01\x01\x01\x00\x07 -", BadText { at: 6 }),
-    (b"\x01\x01\x01\x00\x00\x00", BadText { at: 5 }),
-    (b"\x01\x01\x0b\x00\x07\x02px\x02 \x1f", BadText { at: 10 }),
-    (b"\x01\x01\x0b\x00\x07\x02px\x02 \x7f", BadText { at: 10 }),
-    (b"\x01\x01\x0b\x00\x07\x02px\x02 \x00", BadText { at: 10 }),
-    (b"\x01\x01\x0b\x00\x07\x02px\x02 \xff", BadText { at: 10 }),
-    (b"\x01\x01\x0b\x00\x07\x02px\xff~\x0a", BadText { at: 10 }),
-    (b"\x01\x02\x01\x00\x07\x02px\x01\x09\x00\x07\x03ask\x00", Repeated { at: 9 }),
-    (b"\x01\x02\x01\x00\x07\x02px\x01\x0f", BadTag { at: 9 }),
-    (b"\x01\x02\x01\x00\x07\x02px\x01\x01\x00\x07\x01 ", BadText { at: 13 }),
-    (b"\x01\x02\x01\x00\x00\x02px\x01\x01\x00\x00\x02px\x02", Repeated { at: 9 }),
-    (b"\x01\x03\x01\x00\x00\x02px\x01\x01\x00\x07\x02px\x00\x02\x00\x00\x02px", Repeated { at: 16 }),
-    (b"\x01\x03\x01\x00\x07\x02px\x01\x01\x00\x08\x02px\x00\x02\x00\x07\x00", Repeated { at: 16 }),
-    (b"\x01\x00\x00", Trailing { at: 2 }),
-    (b"\x01\x00\x01\x00", Trailing { at: 2 }),
-    (b"\x01\x01\x01\x00\x07\x02px\x01\x00", Trailing { at: 9 }),
-    (b"\x01\x01\x01\x00\x07\x02px\x01\x01\x00\x07\x02px\x01", Trailing { at: 9 }),
+/// Bytes that end early: at each part of a message and in each kind of value.
+const TRUNCATED: [&[u8]; 25] = [
+    b"",
+    b"\x01",
+    b"\x01\x01",
+    b"\x01\x01\x01",
+    b"\x01\x01\x01\x00",
+    b"\x01\x01\x01\x00\x07",
+    b"\x01\x01\x01\x00\x07\x02",
+    b"\x01\x01\x01\x00\x07\x02p",
+    b"\x01\x01\x01\x00\x07\x02px",
+    b"\x01\x01\x02\x00\x07\x02px",
+    b"\x01\x01\x03\x00\x07\x02px",
+    b"\x01\x01\x04\x00\x07\x02px\x01",
+    b"\x01\x01\x05\x00\x07\x02px\x01\x01\x01",
+    b"\x01\x01\x06\x00\x07\x02px\x01\x01\x01\x01\x01\x01\x01",
+    b"\x01\x01\x07\x00\x07\x02px",
+    b"\x01\x01\x08\x00\x07\x02px\x01",
+    b"\x01\x01\x09\x00\x07\x02px\x01\x01\x01",
+    b"\x01\x01\x0a\x00\x07\x02px\x01\x01\x01\x01\x01\x01\x01",
+    b"\x01\x01\x0b\x00\x07\x02px",
+    b"\x01\x01\x0c\x00\x07\x02px",
+    b"\x01\x01\x0d\x00\x07\x02px\x01\x01\x01\x01\x01\x01\x01\x01",
+    b"\x01\x01\x0e\x00\x07\x02px\x01\x01\x01\x01\x01\x01\x01",
+    b"\x01\x01\x0b\x00\x07\x02px\x03ab",
+    b"\x01\x01\x0c\x00\x07\x02px\x03\x00\xff",
+    b"\x01\x02\x01\x00\x07\x02px\x00",
+];
+
+/// Bytes with a bad version, tag or flag, and its place.
+const BAD_TAGS: [(&[u8], usize); 9] = [
+    (b"\x00", 0),
+    (b"\x02\x00", 0),
+    (b"\x01\x01\x00", 2),
+    (b"\x01\x01\x0f", 2),
+    (b"\x01\x01\xff", 2),
+    (b"\x01\x01\x01\x00\x07\x02px\x02", 8),
+    (b"\x01\x01\x01\x00\x07\x02px\xff", 8),
+    (b"\x01\x02\x01\x00\x07\x02px\x01\x00", 9),
+    (b"\x01\x02\x01\x00\x07\x02px\x01\x0f", 9),
+];
+
+/// Bytes with a number of fields, a length of a name or decimals above the limit, and the place.
+const TOO_MANY: [(&[u8], usize); 6] = [
+    (b"\x01A", 1),
+    (b"\x01\xff", 1),
+    (b"\x01\x01\x01\x00\x07!", 5),
+    (b"\x01\x01\x01\x00\x00\xff", 5),
+    (
+        b"\x01\x01\x0d\x00\x07\x02px\x00\x00\x00\x00\x00\x00\x00\x00\x13",
+        16,
+    ),
+    (
+        b"\x01\x01\x0d\x00\x07\x02px\x00\x00\x00\x00\x00\x00\x00\x00\xff",
+        16,
+    ),
+];
+
+/// Bytes with a bad letter, also before an early end, or with no name where there is no fid, and the place.
+const BAD_TEXTS: [(&[u8], usize); 18] = [
+    (b"\x01\x01\x01\x00\x07\x02p/", 7),
+    (b"\x01\x01\x01\x00\x07\x02p:", 7),
+    (b"\x01\x01\x01\x00\x07\x02p@", 7),
+    (b"\x01\x01\x01\x00\x07\x02p[", 7),
+    (b"\x01\x01\x01\x00\x07\x02p^", 7),
+    (b"\x01\x01\x01\x00\x07\x02p`", 7),
+    (b"\x01\x01\x01\x00\x07\x02p{", 7),
+    (b"\x01\x01\x01\x00\x07\x02p ", 7),
+    (b"\x01\x01\x01\x00\x07\x02p\x00", 7),
+    (b"\x01\x01\x01\x00\x07\x02p\xff", 7),
+    (b"\x01\x01\x01\x00\x07 -", 6),
+    (b"\x01\x01\x01\x00\x00\x00", 5),
+    (b"\x01\x01\x0b\x00\x07\x02px\x02 \x1f", 10),
+    (b"\x01\x01\x0b\x00\x07\x02px\x02 \x7f", 10),
+    (b"\x01\x01\x0b\x00\x07\x02px\x02 \x00", 10),
+    (b"\x01\x01\x0b\x00\x07\x02px\x02 \xff", 10),
+    (b"\x01\x01\x0b\x00\x07\x02px\xff~\x0a", 10),
+    (b"\x01\x02\x01\x00\x07\x02px\x01\x01\x00\x07\x01 ", 13),
+];
+
+/// Bytes with a repeated key, also before a bad value, and its place.
+const REPEATED: [(&[u8], usize); 4] = [
+    (b"\x01\x02\x01\x00\x07\x02px\x01\x09\x00\x07\x03ask\x00", 9),
+    (b"\x01\x02\x01\x00\x00\x02px\x01\x01\x00\x00\x02px\x02", 9),
+    (
+        b"\x01\x03\x01\x00\x00\x02px\x01\x01\x00\x07\x02px\x00\x02\x00\x00\x02px",
+        16,
+    ),
+    (
+        b"\x01\x03\x01\x00\x07\x02px\x01\x01\x00\x08\x02px\x00\x02\x00\x07\x00",
+        16,
+    ),
+];
+
+/// Bytes with more behind the last field, and the place.
+const TRAILING: [(&[u8], usize); 4] = [
+    (b"\x01\x00\x00", 2),
+    (b"\x01\x00\x01\x00", 2),
+    (b"\x01\x01\x01\x00\x07\x02px\x01\x00", 9),
+    (b"\x01\x01\x01\x00\x07\x02px\x01\x01\x00\x07\x02px\x01", 9),
 ];
 
 fn value_of(alloc: Global, plain: Plain) -> Result<Value, Fail> {
@@ -126,7 +218,9 @@ fn value_of(alloc: Global, plain: Plain) -> Result<Value, Fail> {
         Plain::U64(n) => Value::U64(n),
         Plain::Text(text) => Value::Text(TextValue::new(alloc, text)?.ok_or("no text")?),
         Plain::Bytes(bytes) => Value::Bytes(BytesValue::new(alloc, bytes)?.ok_or("no bytes")?),
-        Plain::Price(mantissa, decimals) => Value::Price(Price::new(mantissa, decimals).ok_or("no price")?),
+        Plain::Price(mantissa, decimals) => Value::Price(Price::new(mantissa, decimals).ok_or(
+            "no price",
+        )?),
         Plain::Moment(n) => Value::Moment(n),
     })
 }
@@ -169,16 +263,68 @@ fn a_quote_is_spelled_and_read(rt: HostRuntime) -> Result<(), Fail> {
 
 #[test]
 fn each_kind_is_spelled_and_read(rt: HostRuntime) -> Result<(), Fail> {
-    for (row, (bytes, entries)) in SPELLED.iter().chain(&vectors::SPELLED).enumerate() {
+    for (row, (bytes, entries)) in SPELLED.iter().enumerate() {
         assert!(rt; is_spelled(rt.alloc(), entries, bytes)?, "row {row}");
     }
     Ok(())
 }
 
 #[test]
-fn each_fault_has_its_place(rt: HostRuntime) {
-    for (row, (bytes, fault)) in FAULTY.iter().chain(&vectors::FAULTY).enumerate() {
-        assert_eq!(rt; fault_of(rt.alloc(), bytes), Some(*fault), "row {row}");
+fn bytes_that_end_early_are_truncated_at_their_length(rt: HostRuntime) {
+    for (row, bytes) in TRUNCATED.iter().enumerate() {
+        let at = bytes.len();
+        assert_eq!(rt;
+            fault_of(rt.alloc(), bytes),
+            Some(Truncated { at }),
+            "row {row}"
+        );
+    }
+}
+
+#[test]
+fn tags_and_numbers_out_of_range_have_their_places(rt: HostRuntime) {
+    for (row, (bytes, at)) in BAD_TAGS.iter().enumerate() {
+        assert_eq!(rt;
+            fault_of(rt.alloc(), bytes),
+            Some(BadTag { at: *at }),
+            "row {row}"
+        );
+    }
+    for (row, (bytes, at)) in TOO_MANY.iter().enumerate() {
+        assert_eq!(rt;
+            fault_of(rt.alloc(), bytes),
+            Some(TooMany { at: *at }),
+            "row {row}"
+        );
+    }
+}
+
+#[test]
+fn bad_letters_have_their_places(rt: HostRuntime) {
+    for (row, (bytes, at)) in BAD_TEXTS.iter().enumerate() {
+        assert_eq!(rt;
+            fault_of(rt.alloc(), bytes),
+            Some(BadText { at: *at }),
+            "row {row}"
+        );
+    }
+}
+
+#[test]
+fn repeated_keys_and_trailing_bytes_have_their_places(rt: HostRuntime) {
+    for (row, (bytes, at)) in REPEATED.iter().enumerate() {
+        assert_eq!(rt;
+            fault_of(rt.alloc(), bytes),
+            Some(Repeated { at: *at }),
+            "row {row}"
+        );
+    }
+    for (row, (bytes, at)) in TRAILING.iter().enumerate() {
+        assert_eq!(rt;
+            fault_of(rt.alloc(), bytes),
+            Some(Trailing { at: *at }),
+            "row {row}"
+        );
     }
 }
 
@@ -217,6 +363,9 @@ fn sixty_four_fields_are_written_and_no_more(rt: HostRuntime) -> Result<(), Fail
     assert!(rt; decode(rt.alloc(), &bytes)? == longest);
     let longer = flags(rt.alloc(), 65)?;
     assert_eq!(rt; longer.len(), 65);
-    assert_eq!(rt; encode(rt.alloc(), &longer).err(), Some(EncodeFault::TooMany));
+    assert_eq!(rt;
+        encode(rt.alloc(), &longer).err(),
+        Some(EncodeFault::TooMany)
+    );
     Ok(())
 }

@@ -11,7 +11,7 @@ returns-then-not-allows-clause-gives c =
     let bytes : List ℕ = c.args.bytes.now in
     let left : length bytes - i ≡ length (take (length bytes - i) (drop i bytes)) = omega (arith, length-take (length bytes - i) (drop i bytes), length-drop i bytes) in
     rw c.at.ensures (letters_bad (allowed c.args.alphabet) c.args.count i bytes (omega arith) (omega arith) c.loop-i.invariant (sym c.allows.ensures ∙ c.if-not-allows.true)
-      ∙ ap (λ (k : ℕ). failed (bad_letter k)) left)
+    ∙ ap (λ (k : ℕ). failed (bad_letter k)) left)
 
 pub returns-then-bytes-count-clause-gives : goal.returns-then-bytes-count-clause-gives
 returns-then-bytes-count-clause-gives c =
