@@ -1,27 +1,23 @@
 -- Values, fields and messages: each is read as it is spelled, and spelled as it is read.
-use Rattle.std.proofs.Common.{◌≡◌, ℕ, ℤ, zero, suc, ◌+◌, ◌^◌, ◌<◌, ◌≤◌, Bool, true, false, cond, ltb, eqb, ◌&&◌, List, [], ◌∷◌, ◌++◌, length, Option, Some, None, Result, Ok, Err, refl, sym, ap, subst, ◌∙◌, append_assoc, arith, inl, inr}
-use Rattle.std.specs.List.{flat_map, list_all, AllByRecursion}
+use Rattle.std.proofs.Common.{◌≡◌, ℕ, ℤ, suc, ◌^◌, ◌<◌, ◌≤◌, Bool, true, false, cond, eqb, ◌&&◌, List, [], ◌∷◌, ◌++◌, length, Option, Some, None, Ok, Err, refl, sym, ap, subst, ◌∙◌, arith, inl, inr}
+use Rattle.std.specs.List.{list_all}
 use Rattle.std.specs.Int.{w8, w16, w32, w64, to_be_bytes}
 use Rattle.std.proofs.lemmas.Bool.{eqb-true, cond-true, cond-false, cases_Bool, ne_eqb, and_left, both_ways}
-use Rattle.std.proofs.lemmas.List.{append-nil}
-use Rattle.std.proofs.lemmas.List.Concat.{flat_map-cons}
 use Rattle.mama_msg.specs.declared.value.Value.{Value}
 use Rattle.mama_msg.specs.declared.value.Value.TheVariants as values
 use Rattle.mama_msg.specs.Price.{PriceData}
 use Rattle.mama_msg.specs.Value.{IsText, is_printable}
 use Rattle.mama_msg.specs.Field.{FieldData, key_from, key_of, IsKeyed}
-use Rattle.mama_msg.specs.Message.{has_key, AreDistinct}
+use Rattle.mama_msg.specs.Message.{has_key}
 use Rattle.mama_payload.specs.declared.kind.Kind.{Kind}
 use Rattle.mama_payload.specs.declared.kind.Kind.TheVariants as kinds
-use Rattle.mama_payload.specs.declared.fault.Fault.{Fault}
 use Rattle.mama_payload.specs.declared.fault.Rule.TheVariants as rules
 use Rattle.mama_msg.specs.Name.{is_name_byte, IsNameText}
-use Rattle.mama_payload.specs.Spelling.{kind_of, tag_of, signed, counted, value_bytes, field_bytes, spelling, IsInRange, IsField, HasSpelling}
+use Rattle.mama_payload.specs.Spelling.{kind_of, tag_of, signed, counted, value_bytes, field_bytes, IsInRange, IsField}
 use Rattle.mama_payload.specs.Stop.{fault_at}
-use Rattle.mama_payload.specs.Reading.{◌>>=◌, seen_as, byte_at, limited_at, number_at, signed_at, bytes_at, letters_at, flag_at, text_at, block_at, price_at, value_at, kind_with_tag, known, kind_at, name_at, field_at, fields_at, version_at, message_at, ended, whole}
-use Rattle.mama_payload.proofs.Steps.{IsBytes, Reader, truncated, bind_ok, guard_ok, ok_is, Reads, Reads-then, Reads-seen, Reads-guard, Spells, Spells-then, Spells-seen, Spells-guard}
+use Rattle.mama_payload.specs.Reading.{◌>>=◌, seen_as, byte_at, limited_at, number_at, signed_at, bytes_at, letters_at, flag_at, text_at, block_at, price_at, value_at, kind_with_tag, known, kind_at, name_at, field_at}
+use Rattle.mama_payload.proofs.Steps.{IsBytes, bind_ok, ok_is, Reads, Reads-then, Reads-seen, Reads-guard, Spells, Spells-then, Spells-seen, Spells-guard}
 use Rattle.mama_payload.proofs.Parts.{one, front_of_one, byte_reads, byte_spells, limited_reads, limited_spells, wide8, wide16, wide32, wide64, number_reads, number_spells, signed_reads, signed_spells, bytes_reads, bytes_spells, letters_reads, letters_spells, flag_reads, flag_spells}
-use Rattle.mama_payload.proofs.Keys.{next_is_new, distinct_push}
 
 -- ---- values
 

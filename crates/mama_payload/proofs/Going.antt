@@ -1,14 +1,12 @@
 -- What more bytes behind the input change: nothing of what was read, and of a fault only how far it is from the end.
-use Rattle.std.proofs.Common.{◌≡◌, ◌≢◌, ℕ, zero, suc, ◌+◌, ◌-◌, ◌<◌, ◌≤◌, Bool, true, false, cond, ltb, eqb, List, [], ◌∷◌, ◌++◌, length, take, drop, Option, Some, None, Result, Ok, Err, refl, sym, ap, subst, ◌∙◌, append_assoc, arith, ◌⊎◌, inl, inr}
-use Rattle.std.specs.Int.{Width, w16, w64, byte_len, from_be_bytes}
-use Rattle.std.proofs.lemmas.Bool.{ltb-false, le-ltb}
-use Rattle.std.proofs.lemmas.List.{length-append, length-drop, take-append-le}
+use Rattle.std.proofs.Common.{◌≡◌, ◌≢◌, ℕ, ◌+◌, ◌≤◌, Bool, true, false, cond, List, ◌++◌, length, Result, Ok, Err, refl, sym, ap, ◌∙◌, arith, ◌⊎◌, inl, inr}
+use Rattle.std.proofs.lemmas.List.{length-append}
 use Rattle.mama_payload.specs.declared.fault.Rule.{Rule}
 use Rattle.mama_payload.specs.declared.fault.Rule.TheVariants as rules
 use Rattle.mama_payload.specs.declared.fault.Fault.{Fault}
 use Rattle.mama_payload.specs.Stop.{fault_at}
-use Rattle.mama_payload.specs.Reading.{◌>>=◌, seen_as, byte_at, number_at, bytes_at, letters_at, flag_at}
-use Rattle.mama_payload.proofs.Steps.{Reader, truncated, bind_ok, guard_ok, ok_is}
+use Rattle.mama_payload.specs.Reading.{◌>>=◌, seen_as}
+use Rattle.mama_payload.proofs.Steps.{Reader, bind_ok, ok_is}
 
 -- the fault, with more bytes behind
 abbrev pub later : List ℕ → Fault → Fault

@@ -1,5 +1,5 @@
 -- What more bytes behind the input change, part by part.
-use Rattle.std.proofs.Common.{◌≡◌, ◌≢◌, ℕ, zero, suc, ◌+◌, ◌-◌, ◌<◌, ◌≤◌, Bool, true, false, cond, ltb, eqb, ◌&&◌, List, [], ◌∷◌, ◌++◌, length, take, drop, Option, Some, None, Result, Ok, Err, refl, sym, ap, subst, ◌∙◌, append_assoc, arith, ◌⊎◌, inl, inr}
+use Rattle.std.proofs.Common.{◌≡◌, ◌≢◌, ℕ, zero, suc, ◌≤◌, Bool, true, false, cond, ltb, eqb, ◌&&◌, List, [], ◌∷◌, ◌++◌, length, take, drop, Option, Some, None, Ok, Err, refl, sym, ap, arith}
 use Rattle.std.specs.Int.{Width, w8, w16, w32, w64, byte_len, from_be_bytes, cast_signed}
 use Rattle.std.proofs.lemmas.Bool.{ltb-false, le-ltb}
 use Rattle.std.proofs.lemmas.List.{length-append, length-drop, take-append-le, drop-append-le}
@@ -10,13 +10,12 @@ use Rattle.mama_msg.specs.Field.{FieldData, key_from}
 use Rattle.mama_msg.specs.Message.{has_key}
 use Rattle.mama_payload.specs.declared.kind.Kind.{Kind}
 use Rattle.mama_payload.specs.declared.kind.Kind.TheVariants as kinds
-use Rattle.mama_payload.specs.declared.fault.Rule.{Rule}
 use Rattle.mama_payload.specs.declared.fault.Rule.TheVariants as rules
 use Rattle.mama_payload.specs.declared.fault.Fault.{Fault}
 use Rattle.mama_payload.specs.Stop.{fault_at}
 use Rattle.mama_payload.specs.Reading.{◌>>=◌, seen_as, byte_at, limited_at, number_at, signed_at, bytes_at, letters_at, flag_at, text_at, block_at, price_at, value_at, kind_with_tag, known, kind_at, name_at, field_at, fields_at, version_at, message_at}
-use Rattle.mama_payload.proofs.Steps.{Reader, truncated, bind_ok, guard_ok, ok_is}
-use Rattle.mama_payload.proofs.Going.{later, Within, Goes, Goes-then, Goes-closed, Goes-ok, Goes-fails, Goes-cond, Goes-seen, Goes-like, read_as, failed_is}
+use Rattle.mama_payload.proofs.Steps.{Reader, truncated, guard_ok, ok_is}
+use Rattle.mama_payload.proofs.Going.{Within, Goes, Goes-then, Goes-closed, Goes-ok, Goes-fails, Goes-cond, Goes-seen, Goes-like, read_as, failed_is}
 
 -- ---- bytes and numbers
 

@@ -1,5 +1,5 @@
 -- Fields one after another, as loops read and write them.
-use Rattle.std.proofs.Common.{◌≡◌, ℕ, zero, suc, ◌+◌, ◌-◌, ◌<◌, ◌≤◌, List, [], ◌∷◌, ◌++◌, take, Option, Some, Result, Ok, Err, refl, sym, ap, ◌∙◌, append_assoc, arith}
+use Rattle.std.proofs.Common.{◌≡◌, ℕ, suc, ◌+◌, ◌-◌, ◌<◌, ◌≤◌, List, [], ◌∷◌, ◌++◌, take, Some, Result, Ok, Err, refl, sym, ap, ◌∙◌, arith}
 use Rattle.std.specs.List.{flat_map, AllByRecursion, slice_get}
 use Rattle.std.proofs.lemmas.Grind.{flat_map-append}
 use Rattle.std.proofs.lemmas.List.{append-nil, take_more}
@@ -10,7 +10,7 @@ use Rattle.mama_payload.specs.declared.fault.Fault.{Fault}
 use Rattle.mama_payload.specs.declared.fault.Stop.{Stop}
 use Rattle.mama_payload.specs.declared.fault.Stop.TheVariants as stops
 use Rattle.mama_payload.specs.Stop.{Stops}
-use Rattle.mama_payload.specs.Reading.{◌>>=◌, field_at, fields_at}
+use Rattle.mama_payload.specs.Reading.{field_at, fields_at}
 
 -- ---- reading
 

@@ -1,21 +1,21 @@
 -- Messages: what is written is read, what is read is written so, and what faults there are beside.
-use Rattle.std.proofs.Common.{◌≡◌, ℕ, zero, suc, ◌+◌, ◌-◌, ◌<◌, ◌≤◌, Bool, true, false, cond, eqb, List, [], ◌∷◌, ◌++◌, length, Result, Ok, Err, refl, sym, ap, subst, ◌∙◌, append_assoc, arith, ◌⊎◌, inl, inr}
+use Rattle.std.proofs.Common.{◌≡◌, ℕ, zero, suc, ◌-◌, ◌≤◌, cond, eqb, List, [], ◌∷◌, ◌++◌, length, Result, Ok, Err, refl, sym, ap, subst, ◌∙◌, append_assoc, arith, ◌⊎◌, inl, inr}
 use Rattle.std.specs.Prelude.{IfOk}
 use Rattle.std.specs.List.{flat_map, AllByRecursion}
 use Rattle.std.proofs.lemmas.Bool.{eqb-true}
 use Rattle.std.proofs.lemmas.List.{append-nil, length-append}
 use Rattle.std.proofs.lemmas.List.Concat.{flat_map-cons}
-use Rattle.mama_msg.specs.Field.{FieldData, key_of}
-use Rattle.mama_msg.specs.Message.{has_key, AreDistinct}
+use Rattle.mama_msg.specs.Field.{FieldData}
+use Rattle.mama_msg.specs.Message.{AreDistinct}
 use Rattle.mama_payload.specs.declared.fault.Fault.{Fault}
 use Rattle.mama_payload.specs.declared.fault.Rule.TheVariants as rules
 use Rattle.mama_payload.specs.declared.fault.DecodeFault.{DecodeFault}
 use Rattle.mama_payload.specs.declared.fault.DecodeFault.TheVariants as faults
 use Rattle.mama_payload.specs.Spelling.{field_bytes, spelling, IsField, HasSpelling}
 use Rattle.mama_payload.specs.Stop.{fault_at}
-use Rattle.mama_payload.specs.Reading.{◌>>=◌, byte_at, limited_at, field_at, fields_at, version_at, message_at, ended, whole, placed, decoded}
-use Rattle.mama_payload.proofs.Steps.{IsBytes, truncated, bind_ok, ok_is, Reads, Reads-then, Spells, Spells-then}
-use Rattle.mama_payload.proofs.Parts.{one, byte_reads, byte_spells, front_of_one, limited_reads, limited_spells, choice_ok}
+use Rattle.mama_payload.specs.Reading.{◌>>=◌, byte_at, limited_at, field_at, fields_at, version_at, message_at, ended, placed, decoded}
+use Rattle.mama_payload.proofs.Steps.{IsBytes, truncated, bind_ok, ok_is, Reads, Reads-then}
+use Rattle.mama_payload.proofs.Parts.{one, byte_spells, front_of_one, limited_reads, limited_spells, choice_ok}
 use Rattle.mama_payload.proofs.Keys.{next_is_new, distinct_push}
 use Rattle.mama_payload.proofs.Fields.{field_reads, field_spells}
 

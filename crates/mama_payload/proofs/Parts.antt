@@ -1,5 +1,5 @@
 -- The parts of a field: each is read as it is spelled, and spelled as it is read.
-use Rattle.std.proofs.Common.{◌≡◌, ℕ, ℤ, zero, suc, ◌+◌, ◌%◌, ◌^◌, ◌<◌, ◌≤◌, Bool, true, false, cond, ltb, ◌&&◌, List, [], ◌∷◌, ◌++◌, length, get_or, take, drop, Result, Ok, Err, refl, sym, ap, subst, ◌∙◌, append_assoc, arith, inl, inr}
+use Rattle.std.proofs.Common.{◌≡◌, ℕ, ℤ, zero, suc, ◌%◌, ◌^◌, ◌<◌, ◌≤◌, Bool, true, false, cond, ltb, ◌&&◌, List, [], ◌∷◌, ◌++◌, length, take, drop, Result, Ok, Err, refl, sym, ap, subst, ◌∙◌, arith}
 use Rattle.std.specs.List.{list_all}
 use Rattle.std.specs.Int.{Width, w8, w16, w32, w64, byte_len, from_be_bytes, to_be_bytes, cast_signed, cast_unsigned}
 use Rattle.std.specs.Int.RustNames.{FitsSigned}
@@ -14,8 +14,8 @@ use Rattle.mama_payload.specs.declared.fault.Rule.TheVariants as rules
 use Rattle.mama_msg.specs.declared.value.Value.TheVariants as values
 use Rattle.mama_payload.specs.Spelling.{signed, value_bytes}
 use Rattle.mama_payload.specs.Stop.{fault_at}
-use Rattle.mama_payload.specs.Reading.{◌>>=◌, seen_as, byte_at, limited_at, number_at, signed_at, bytes_at, letters_at, flag_at}
-use Rattle.mama_payload.proofs.Steps.{IsBytes, IsBytes-take, IsBytes-drop, IsBytes-rest, Reader, truncated, bind_ok, guard_ok, ok_is, Reads, Reads-then, Reads-seen, Spells, Spells-then, Spells-seen}
+use Rattle.mama_payload.specs.Reading.{seen_as, byte_at, limited_at, number_at, signed_at, bytes_at, letters_at, flag_at}
+use Rattle.mama_payload.proofs.Steps.{IsBytes, IsBytes-take, IsBytes-drop, IsBytes-rest, truncated, bind_ok, guard_ok, ok_is, Reads, Reads-seen, Spells, Spells-seen}
 
 abbrev pub one : ℕ → List ℕ
 one n = n ∷ []

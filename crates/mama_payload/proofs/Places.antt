@@ -1,5 +1,5 @@
 -- The places of faults, and what more bytes behind the input change of them: nothing.
-use Rattle.std.proofs.Common.{◌≡◌, ◌≢◌, ℕ, ◌+◌, ◌-◌, ◌<◌, ◌≤◌, List, [], ◌∷◌, ◌++◌, length, Result, Ok, Err, refl, sym, ap, subst, ◌∙◌, arith, ◌⊎◌, inl, inr}
+use Rattle.std.proofs.Common.{◌≡◌, ◌≢◌, ℕ, ◌+◌, ◌-◌, ◌≤◌, List, [], ◌∷◌, ◌++◌, length, Result, Ok, Err, refl, sym, ap, ◌∙◌, arith, ◌⊎◌, inl, inr}
 use Rattle.std.proofs.lemmas.List.{length-append}
 use Rattle.mama_msg.specs.Field.{FieldData}
 use Rattle.mama_payload.specs.declared.fault.Rule.{Rule}
@@ -10,7 +10,7 @@ use Rattle.mama_payload.specs.declared.fault.DecodeFault.TheVariants as faults
 use Rattle.mama_payload.specs.declared.fault.Stop.{Stop}
 use Rattle.mama_payload.specs.declared.fault.Stop.TheVariants as stops
 use Rattle.mama_payload.specs.Stop.{fault_at, Stops, IsWithin}
-use Rattle.mama_payload.specs.Reading.{◌>>=◌, message_at, ended, whole, broken, placed, decoded}
+use Rattle.mama_payload.specs.Reading.{message_at, ended, whole, broken, placed, decoded}
 use Rattle.mama_payload.proofs.Going.{later, failed, failed_with, failed_is, bind_err}
 use Rattle.mama_payload.proofs.GoingOn.{message_goes}
 

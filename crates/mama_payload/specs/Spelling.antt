@@ -1,12 +1,11 @@
 -- The one spelling of a message, payload version 1. All numbers have the most significant byte first; signed ones are
 -- two's complement.
-use Rattle.std.specs.Prelude.{ℕ, ℤ, ◌<◌, ◌≤◌, ◌^◌, Bool, true, false, List, [], ◌∷◌, ◌++◌, length}
+use Rattle.std.specs.Prelude.{ℕ, ℤ, ◌<◌, ◌≤◌, ◌^◌, true, false, List, [], ◌∷◌, ◌++◌, length}
 use Rattle.std.specs.List.{flat_map, AllByRecursion}
 use Rattle.std.specs.Int.{Width, w8, w16, w32, w64, to_be_bytes, cast_unsigned}
 use Rattle.std.specs.Int.RustNames.{FitsSigned}
 use Rattle.mama_msg.specs.declared.value.Value.{Value}
 use Rattle.mama_msg.specs.declared.value.Value.TheVariants as values
-use Rattle.mama_msg.specs.Price.{PriceData}
 use Rattle.mama_msg.specs.Value.{IsText}
 use Rattle.mama_msg.specs.Field.{FieldData, IsKeyed}
 use Rattle.mama_msg.specs.Message.{AreDistinct}

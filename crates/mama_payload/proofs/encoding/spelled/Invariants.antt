@@ -1,4 +1,4 @@
-use Rattle.std.proofs.Common.{◌≡◌, ◌∷◌, ◌++◌, length, take}
+use Rattle.std.proofs.Common.{◌≡◌, ◌∷◌, length, take}
 use Rattle.std.specs.List.{flat_map, AllByRecursion}
 use Rattle.mama_payload.specs.Spelling.{field_bytes, IsField}
 use Rattle.mama_payload.proofs.encoding.spelled.Given as goal

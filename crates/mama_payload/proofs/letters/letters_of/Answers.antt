@@ -1,7 +1,7 @@
-use Rattle.std.proofs.Common.{◌≡◌, ℕ, true, ◌-◌, ◌<◌, ◌≤◌, Result, Ok, List, length, take, drop, sym, ap, ◌∙◌, arith}
+use Rattle.std.proofs.Common.{◌≡◌, ℕ, true, ◌-◌, List, length, take, drop, sym, ap, ◌∙◌, arith}
 use Rattle.std.specs.List.{list_all}
 use Rattle.std.proofs.lemmas.List.{length-take, length-drop, take_all}
-use Rattle.mama_payload.specs.Reading.{allowed, letters_at}
+use Rattle.mama_payload.specs.Reading.{allowed}
 use Rattle.mama_payload.proofs.Lettering.{bad_letter, failed, letters_bad, letters_short, letters_fine}
 use Rattle.mama_payload.proofs.letters.letters_of.Goals as goal
 
