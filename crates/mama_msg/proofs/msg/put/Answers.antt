@@ -1,10 +1,10 @@
 -- An insert under the field's own key updates the fields, and leaves each under its key.
-use Rattle.std.specs.Prelude.{◌≡◌, List, None, is_some}
+use Rattle.std.specs.Prelude.{◌≡◌, None, is_some}
 use Rattle.std.specs.Map.{values_of, lookup}
 use Rattle.std.proofs.Common.{◌∙◌, ap, sym, subst, true≢false}
 use Rattle.indexmap.specs.IndexMap.{insert_entry}
 use Rattle.mama_msg.specs.declared.field.Key.{Key}
-use Rattle.mama_msg.specs.Field.{FieldData, key_of, same_key}
+use Rattle.mama_msg.specs.Field.{key_of, same_key}
 use Rattle.mama_msg.specs.Index.{IsIndexed}
 use Rattle.mama_msg.proofs.Indexing.{values_of-insert_entry, IsIndexed-insert_entry, is_some-lookup}
 use Rattle.mama_msg.proofs.msg.put.Goals as goal

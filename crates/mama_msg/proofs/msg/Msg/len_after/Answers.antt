@@ -1,5 +1,5 @@
 -- The message grows by the update's new keys.
-use Rattle.std.specs.Prelude.{◌≡◌, ℕ, ◌+◌, List, length}
+use Rattle.std.specs.Prelude.{◌≡◌, ◌+◌, List, length}
 use Rattle.std.specs.Map.{values_of}
 use Rattle.std.proofs.Common.{◌∙◌, ap, sym}
 use Rattle.std.proofs.lemmas.Map.Entries.{length-values_of}
