@@ -21,6 +21,7 @@ use Rattle.mama_payload.specs.declared.fault.DecodeFault.{DecodeFault}
 use Rattle.mama_payload.specs.declared.fault.DecodeFault.TheVariants as faults
 use Rattle.mama_msg.specs.Name.{is_name_byte}
 
+-- the next step reads on from what the first one read; a fault ends the reading
 infixl 10 ◌>>=◌
 abbrev pub ◌>>=◌ : {A B : Type 0} → Result A Fault → (A → Result B Fault) → Result B Fault
 (Ok x) >>= f = f x
@@ -73,12 +74,15 @@ flag_at (zero ∷ bytes) = Ok (false, bytes)
 flag_at (suc zero ∷ bytes) = Ok (true, bytes)
 flag_at (suc (suc b) ∷ bytes) = Err (fault_at rules.BadTag (suc (suc b) ∷ bytes))
 
+-- a text behind its length
 unfoldable pub text_at : List ℕ → Result (List ℕ × List ℕ) Fault
 text_at bytes = byte_at bytes >>= λ n. letters_at (allowed alphabets.Text) n.0 n.1
 
+-- bytes of any kind behind their length
 unfoldable pub block_at : List ℕ → Result (List ℕ × List ℕ) Fault
 block_at bytes = byte_at bytes >>= λ n. bytes_at n.0 n.1
 
+-- a price: the mantissa, and the decimals, at most 18
 unfoldable pub price_at : List ℕ → Result (PriceData × List ℕ) Fault
 price_at bytes = do
   mantissa ← signed_at w64 bytes
@@ -121,6 +125,7 @@ abbrev pub known : Option Kind → List ℕ → List ℕ → Result (Kind × Lis
 known None bytes rest = Err (fault_at rules.BadTag bytes)
 known (Some kind) bytes rest = Ok (kind, rest)
 
+-- the kind whose tag comes
 unfoldable pub kind_at : List ℕ → Result (Kind × List ℕ) Fault
 kind_at bytes = byte_at bytes >>= λ tag. known (kind_with_tag tag.0) bytes tag.1
 

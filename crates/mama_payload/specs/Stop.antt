@@ -9,6 +9,7 @@ use Rattle.mama_payload.specs.declared.fault.Stop.TheVariants as stops
 abbrev pub fault_at : Rule → List ℕ → Fault
 fault_at rule bytes = record { rule = rule; left = length bytes }
 
+-- reading stops with a rule that is broken at the first of these bytes
 abbrev pub stop_at : Rule → List ℕ → Stop
 stop_at rule bytes = stops.Fault (fault_at rule bytes)
 
@@ -18,6 +19,7 @@ IsWithin size stops.OutOfMemory = Unit {0}
 IsWithin size (stops.Fault fault) = fault.left ≤ size
 
 -- what a function returned, seen by view, is what reading gives, unless memory ran out
+-- why reading stopped is the fault that reading gives, unless memory ran out
 abbrev pub Stops : {Y : Type 0} → Stop → Result Y Fault → Type 0
 Stops stops.OutOfMemory read = Unit {0}
 Stops (stops.Fault fault) read = read ≡ Err fault
