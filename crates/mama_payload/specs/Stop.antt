@@ -18,12 +18,12 @@ abbrev pub IsWithin : ℕ → Stop → Type 0
 IsWithin size stops.OutOfMemory = Unit {0}
 IsWithin size (stops.Fault fault) = fault.left ≤ size
 
--- what a function returned, seen by view, is what reading gives, unless memory ran out
 -- why reading stopped is the fault that reading gives, unless memory ran out
 abbrev pub Stops : {Y : Type 0} → Stop → Result Y Fault → Type 0
 Stops stops.OutOfMemory read = Unit {0}
 Stops (stops.Fault fault) read = read ≡ Err fault
 
+-- what a function returned, seen by view, is what reading gives, unless memory ran out
 abbrev pub Gives : {X Y : Type 0} → (X → Y) → Result X Stop → Result Y Fault → Type 0
 Gives view (Ok x) read = read ≡ Ok (view x)
 Gives view (Err stop) read = Stops stop read
