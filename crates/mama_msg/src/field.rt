@@ -1,5 +1,9 @@
+//! A field of a message, and its key.
+ghost use Rattle.std.specs.Prelude.{◌≡◌, ◌↔◌, [], IsNone, IfOk, IfSome};
+
 use crate::name::Name;
 use crate::value::Value;
+use mama_memory::OutOfMemory;
 use std::marker::Model;
 
 /// What tells the fields of a message apart: the fid, or the name where the fid is 0.
@@ -29,4 +33,75 @@ impl Model for Field {
     ghost view = { λ f. record { fid = f.fid; name = f.name; value = f.value } };
 
     ghost invariant = { λ f. IsKeyed f.fid f.name };
+}
+
+impl Field {
+    ghost use Rattle.mama_msg.specs.Field.{IsKeyed, key_of};
+
+    /// The field with these parts. `None` where the fid is 0 and the name is empty; the value is dropped then.
+    pub fn new(fid: u16, name: Name, value: Value) -> Option<Field>
+        ensures none { IsNone result ↔ ((fid ≡ 0) × (name ≡ [])) }
+        ensures value { IfSome result (λ field. field ≡ record { fid = fid; name = name; value = value }) }
+        ensures keyed { IfSome result (λ field. IsKeyed field.fid field.name) }
+    {
+        if fid == 0 && name.bytes().is_empty() {
+            return None;
+        }
+        Some(Field { fid, name, value })
+    }
+
+    /// The fid, 0 where the field has none.
+    pub fn fid(&self) -> u16
+        ensures value { result ≡ self.now.fid }
+        ensures keyed { IsKeyed self.now.fid self.now.name }
+    {
+        self.fid
+    }
+
+    /// The name, which may be empty where the fid is not 0.
+    pub fn name(&self) -> &Name
+        ensures value { result.now ≡ self.now.name }
+        ensures keyed { IsKeyed self.now.fid self.now.name }
+    {
+        &self.name
+    }
+
+    /// The value.
+    pub fn value(&self) -> &Value
+        ensures { result.now ≡ self.now.value }
+    {
+        &self.value
+    }
+
+    /// The key: the fid, or the name where the fid is 0.
+    pub fn key(&self) -> Key
+        ensures { result ≡ key_of self.now }
+    {
+        if self.fid == 0 {
+            Key::Named(self.name)
+        } else {
+            Key::Numbered(self.fid)
+        }
+    }
+
+    /// The fid, the name and the value.
+    pub fn into_parts(self) -> (u16, Name, Value)
+        ensures value { result ≡ (self.fid, self.name, self.value) }
+        ensures keyed { IsKeyed self.fid self.name }
+    {
+        let Field { fid, name, value } = self;
+        (fid, name, value)
+    }
+
+    /// An equal field.
+    pub fn try_clone(&self) -> Result<Field, OutOfMemory>
+        ensures equal { IfOk result (λ copy. copy ≡ self.now) }
+    {
+        let value = self.value.try_clone()?;
+        Ok(Field {
+            fid: self.fid,
+            name: self.name,
+            value,
+        })
+    }
 }
