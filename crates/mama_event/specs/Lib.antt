@@ -1,2 +1,3 @@
 pub mod Fids
+pub mod FidList
 pub mod Record

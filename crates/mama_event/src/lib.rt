@@ -8,10 +8,14 @@ mod fids;
 mod ids;
 mod market;
 mod order;
+mod shape;
+mod stream;
 
 pub use callback::{CallNote, Callback};
-pub use fids::Fids;
+pub use fids::{Fids, MOST_FIDS};
 pub use ids::{InboxId, ObjectId, SubId, TimerId};
 pub use mama_memory::{Duplicate, OutOfMemory};
 pub use market::{ImageHead, MarketMsg, MsgKind, Quality, SubKind};
 pub use order::{MOST_ORDERS, Order, Orders, PlanRow};
+pub use shape::{Bounds, Shape, Took, Topics};
+pub use stream::{Stream, Tagged};

@@ -1,0 +1,88 @@
+ghost use Rattle.std.specs.Prelude.{◌≡◌, ◌==◌, ◌<◌, length, slice_index};
+
+use std::marker::Model;
+
+/// How many topics and queues there are. A topic's number is below `topics` and a queue's below `queues`.
+#[derive(Clone, Copy, Debug, PartialEq, Eq)]
+pub struct Bounds {
+    pub topics: u32,
+    pub queues: u32,
+}
+
+/// The topic of each publisher, in order of the publishers' numbers.
+#[derive(Debug, Drop)]
+pub struct Topics {
+    topics: Vec<u32>,
+}
+
+impl Model for Topics {
+    ghost use Rattle.std.specs.Prelude.{List, ℕ};
+
+    ghost Value = { List ℕ };
+
+    ghost view = { λ t. t.topics.items };
+}
+
+impl Topics {
+    /// The topics of publishers 0, 1 and so on.
+    pub fn new(topics: Vec<u32>) -> Topics
+        ensures { result ≡ topics.items }
+    {
+        Topics { topics }
+    }
+
+    /// The number of publishers.
+    pub fn len(&self) -> usize
+        ensures { result ≡ length self.now }
+    {
+        self.topics.len()
+    }
+
+    /// Whether there is no publisher.
+    pub fn is_empty(&self) -> bool
+        ensures { result ≡ (length self.now == 0) }
+    {
+        self.topics.is_empty()
+    }
+
+    /// The topic of publisher `i`.
+    pub fn at(&self, i: usize) -> u32
+        requires { i < length self.now }
+        ensures { result ≡ slice_index self.now i }
+    {
+        self.topics[i]
+    }
+
+    /// The topics in order.
+    pub fn as_slice(&self) -> &[u32]
+        ensures { result.now ≡ self.now }
+    {
+        self.topics.as_slice()
+    }
+
+    /// The list that this was made from.
+    pub fn into_vec(self) -> Vec<u32>
+        ensures { result.items ≡ self }
+    {
+        let Topics { topics } = self;
+        topics
+    }
+}
+
+/// How many actors of each kind there are, and which topic each publisher sends. A publisher's number is below the
+/// length of `publisher_topics` and a client's below `clients`.
+#[derive(Debug, Drop)]
+pub struct Shape {
+    pub clients: u32,
+    pub publisher_topics: Topics,
+    pub bounds: Bounds,
+}
+
+/// What an actor that took an event answers.
+#[derive(Clone, Copy, Debug, PartialEq, Eq)]
+pub enum Took {
+    /// It goes on taking.
+    Running,
+    /// That was the last event that it takes.
+    Ended,
+}
