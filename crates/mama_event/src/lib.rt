@@ -10,6 +10,8 @@ mod market;
 mod order;
 mod shape;
 mod stream;
+mod to_publisher;
+mod to_timers;
 
 pub use callback::{CallNote, Callback};
 pub use fids::{Fids, MOST_FIDS};
@@ -19,3 +21,5 @@ pub use market::{ImageHead, MarketMsg, MsgKind, Quality, SubKind};
 pub use order::{MOST_ORDERS, Order, Orders, PlanRow};
 pub use shape::{Bounds, Shape, Took, Topics};
 pub use stream::{Stream, Tagged};
+pub use to_publisher::{PublisherNote, ToPublisher};
+pub use to_timers::{TimersNote, ToTimers};

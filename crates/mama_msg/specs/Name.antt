@@ -13,7 +13,7 @@ is_name_byte b = is_ascii_alphanumeric b || b == 95
 -- the text of a name has at most 32 bytes, each a letter, a digit or an underscore
 pub record IsNameText (text : List ℕ) : Type 0 where
   pub short : length text ≤ 32
-  pub word : list_all is_name_byte text ≡ true
+  pub letters : list_all is_name_byte text ≡ true
 
 -- the text of a name: as many of its bytes as its length says
 abbrev pub text_of : Inside → List ℕ
@@ -24,7 +24,7 @@ pub record IsPadded (n : Inside) : Type 0 where
   pub short : n.length ≤ 32
   pub size : length n.bytes ≡ 32
   pub rest : drop n.length n.bytes ≡ replicate (32 - n.length) 0
-  pub word : list_all is_name_byte (text_of n) ≡ true
+  pub letters : list_all is_name_byte (text_of n) ≡ true
 
 -- a text, as a name keeps it
 abbrev pub inside_of : List ℕ → Inside

@@ -7,12 +7,51 @@ use mama_memory::OutOfMemory;
 use std::marker::Model;
 
 /// What tells the fields of a message apart: the fid, or the name where the fid is 0.
-#[derive(Clone, Copy, Debug, PartialEq, Eq, Hash)]
+#[derive(Clone, Copy, Debug, Hash)]
 pub enum Key {
     /// A fid, 1 to 65,535.
     Numbered(u16),
     /// A name, of a field whose fid is 0. It is not empty.
     Named(Name),
+}
+
+impl Key {
+    ghost use Rattle.mama_msg.specs.Field.{key_from};
+
+    /// The key of a field with this fid and this name: the fid, or the name where the fid is 0.
+    pub fn new(fid: u16, name: Name) -> Key
+        ensures { result ≡ key_from fid name }
+    {
+        if fid == 0 {
+            Key::Named(name)
+        } else {
+            Key::Numbered(fid)
+        }
+    }
+}
+
+impl PartialEq for Key {
+    ghost use Rattle.std.specs.Cmp.{partial_equiv_from_equiv};
+    ghost use Rattle.mama_msg.specs.Field.{same_key};
+    ghost use Rattle.mama_msg.specs.Keys.{same_key_equivalence};
+
+    ghost eq = { same_key };
+
+    ghost laws = { partial_equiv_from_equiv same_key_equivalence };
+
+    fn eq(&self, other: &Key) -> bool {
+        match (self, other) {
+            (Key::Numbered(a), Key::Numbered(b)) => a == b,
+            (Key::Named(a), Key::Named(b)) => a == b,
+            (Key::Numbered(_), Key::Named(_)) | (Key::Named(_), Key::Numbered(_)) => false,
+        }
+    }
+}
+
+impl Eq for Key {
+    ghost use Rattle.mama_msg.specs.Keys.{same_key_equivalence};
+
+    ghost laws = { same_key_equivalence };
 }
 
 /// One field of a message: a fid, 0 to 65,535, a name, and a value. Where the fid is 0 the name is not empty.
@@ -77,11 +116,7 @@ impl Field {
     pub fn key(&self) -> Key
         ensures { result ≡ key_of self.now }
     {
-        if self.fid == 0 {
-            Key::Named(self.name)
-        } else {
-            Key::Numbered(self.fid)
-        }
+        Key::new(self.fid, self.name)
     }
 
     /// The fid, the name and the value.

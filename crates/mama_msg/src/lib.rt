@@ -2,6 +2,7 @@
 #![tactic(auto)]
 
 mod field;
+mod msg;
 mod name;
 mod price;
 mod raw;
@@ -10,8 +11,9 @@ mod value;
 
 pub use field::{Field, Key};
 pub use mama_memory::{Duplicate, OutOfMemory};
-pub use name::Name;
+pub use msg::{AddFault, Msg};
+pub use name::{Name, is_name_byte};
 pub use price::Price;
 pub use raw::BytesValue;
-pub use text::TextValue;
+pub use text::{TextValue, is_printable};
 pub use value::Value;

@@ -35,8 +35,8 @@ impl Model for Name {
     ghost inverse_ok = { inside_of-text_of };
 }
 
-// Whether a byte may stand in a name.
-fn is_name_byte(byte: u8) -> bool
+/// Whether a byte may stand in a name: an ASCII letter, a digit or an underscore.
+pub fn is_name_byte(byte: u8) -> bool
     ensures { result ≡ named.is_name_byte byte }
 {
     byte.is_ascii_alphanumeric() || byte == b'_'

@@ -28,8 +28,8 @@ impl Model for TextValue {
     ghost invariant = { λ t. IsText t.bytes.items };
 }
 
-// Whether a byte may stand in a text.
-fn is_printable(byte: u8) -> bool
+/// Whether a byte may stand in a text: 0x20 to 0x7e.
+pub fn is_printable(byte: u8) -> bool
     ensures { result ≡ is_printable byte }
 {
     (0x20..=0x7e).contains(&byte)
