@@ -1,2 +1,4 @@
 pub mod Faults
 pub mod Table
+pub mod Outbox
+pub mod Link

@@ -2,6 +2,8 @@
 #![tactic(auto)]
 
 mod faults;
+mod outbox;
 
 pub use faults::{Fault, FaultRow, Faults, FaultsFault};
 pub use mama_memory::{Duplicate, OutOfMemory};
+pub use outbox::Outbox;
