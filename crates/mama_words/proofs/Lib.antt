@@ -1,1 +1,8 @@
+pub mod Choices
 pub mod Cuts
+pub mod Numbers
+pub mod Quotes
+pub mod Hex
+pub mod Texts
+pub mod Fields
+pub mod Asked

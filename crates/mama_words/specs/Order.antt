@@ -59,12 +59,15 @@ fids_in (w ∷ ws) = option_and_then (λ f. cons_fid f (fids_in ws)) (between_in
 abbrev pub asked_or_fault : List ℕ → Result (List ℕ) ℕ
 asked_or_fault fids = if is_fid_list fids then Ok fids else Err 8
 
+-- the fids that the words spell, if they can be asked for
+unfoldable pub asked_in : List (List ℕ) → Result (List ℕ) ℕ
+asked_in words = or_fault 5 (fids_in words) >>= asked_or_fault
+
 unfoldable pub ask_in : List ℕ → List ℕ → List (List ℕ) → Result OrderWord ℕ
 ask_in inbox topic words = do
   id ← or_fault 5 (id_in 105 inbox)
   number ← or_fault 5 (number_in topic)
-  read ← or_fault 5 (fids_in words)
-  fids ← asked_or_fault read
+  fids ← asked_in words
   Ok (Ask id number fids)
 
 -- an order has the words of its form: one id, or an inbox, a topic and 1 to 8 fids

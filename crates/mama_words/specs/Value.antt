@@ -6,7 +6,7 @@ use Rattle.std.specs.Fmt.{digit_glyph}
 use Rattle.mama_msg.specs.declared.value.Value.{Value}
 use Rattle.mama_msg.specs.declared.value.Value.TheVariants as values
 use Rattle.mama_msg.specs.Price.{PriceData}
-use Rattle.mama_msg.specs.Value.{IsText}
+use Rattle.mama_msg.specs.Value.{IsText, is_printable}
 use Rattle.mama_words.specs.declared.value_type.ValueType.{ValueType}
 use Rattle.mama_words.specs.declared.value_type.ValueType.TheVariants as types
 use Rattle.mama_words.specs.Parting.{cut_at}
@@ -123,12 +123,17 @@ abbrev pub if_short : Option (List ℕ) → Option (List ℕ)
 if_short None = None
 if_short (Some bs) = if nat_le (length bs) 255 then Some bs else None
 
-abbrev pub bytes_in : List ℕ → Option (List ℕ)
+unfoldable pub bytes_in : List ℕ → Option (List ℕ)
 bytes_in [] = None
 bytes_in (b ∷ bs) = if nat_lt b 120 then None else (if nat_lt 120 b then None else if_short (hex_in bs))
 
+-- a text of at most 255 printable characters
+abbrev pub if_text : Option (List ℕ) → Option (List ℕ)
+if_text None = None
+if_text (Some t) = if nat_le (length t) 255 && list_all is_printable t then Some t else None
+
 abbrev pub text_in : List ℕ → Option (List ℕ)
-text_in word = if_short (quoted_in word)
+text_in word = if_text (quoted_in word)
 
 abbrev pub price_of : List ℕ × List ℕ → Option PriceData
 price_of cut = option_and_then (λ m. option_map (λ d. record { mantissa = m; decimals = d }) (below_in 19 cut.1)) (int_in (2 ^ 63) cut.0)

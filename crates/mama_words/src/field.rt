@@ -2,7 +2,7 @@ ghost use Rattle.std.specs.Prelude.{◌≡◌, ◌++◌, map, OnOk, OnErr};
 ghost use Rattle.mama_words.specs.Reading.{Gives, or_fault};
 ghost use Rattle.mama_words.specs.Field as fields;
 
-use crate::edge::print_u64;
+use mama_edge::print_u64;
 use crate::error::ReadError;
 use crate::number::read_below;
 use crate::parting::cut_at;
@@ -73,7 +73,8 @@ fn put_field(field: &Field, out: &mut Vec<u8>) -> Result<(), OutOfMemory>
     out.push(b':')?;
     put_type(type_of(field.value()), out)?;
     out.push(b':')?;
-    put_value(field.value(), out)
+    put_value(field.value(), out)?;
+    Ok(())
 }
 
 /// Appends the spelling of a field. Where no memory is found, nothing is appended.

@@ -1,7 +1,7 @@
 ghost use Rattle.std.specs.Prelude.{◌≡◌, ◌^◌, ◌≤◌};
 ghost use Rattle.mama_words.specs.Number as numbers;
 
-use crate::edge::{read_i64, read_u64};
+use mama_edge::{read_i64, read_u64};
 
 /// The number with this decimal spelling, 0 to 2^64 - 1. The spelling has no sign and no leading zero.
 pub fn read_number(text: &[u8]) -> Option<u64>

@@ -2,7 +2,7 @@ ghost use Rattle.std.specs.Prelude.{◌≡◌, ◌++◌, ◌≤◌, length, take
 ghost use Rattle.std.specs.Option.{option_map};
 ghost use Rattle.mama_words.specs.Reading.{Gives, or_fault};
 
-use crate::edge::print_u64;
+use mama_edge::print_u64;
 use crate::error::ReadError;
 use crate::id::{IdWord, put_id, read_inbox_id, read_sub_id, read_timer_id};
 use crate::number::{read_between, read_number};
@@ -59,15 +59,14 @@ fn read_fids(words: &[&[u8]]) -> Option<[u16; 8]>
     Some(fids)
 }
 
+#[tactic(auto, unfolding(crate::specs::Order::asked_in))]
 fn read_asked(words: &[&[u8]]) -> Result<Fids, ReadError>
     requires { length words.now ≤ 8 }
-    ensures { Gives (λ x. x) result (or_fault 5 (orders.fids_in (map (λ w. w.now) words.now)) >>= orders.asked_or_fault) }
+    ensures { Gives (λ x. x) result (orders.asked_in (map (λ w. w.now) words.now)) }
 {
     let fids = read_fids(words).ok_or(ReadError::Fault(5))?;
     Fids::new(&fids[..words.len()]).ok_or(ReadError::Fault(8))
 }
-
-ghost use Rattle.mama_words.specs.Reading.{◌>>=◌};
 
 #[tactic(auto, unfolding(crate::specs::Order::ask_in))]
 fn read_ask(inbox: &[u8], topic: &[u8], words: &[&[u8]]) -> Result<OrderWord, ReadError>

@@ -1,11 +1,11 @@
-ghost use Rattle.std.specs.Prelude.{◌≡◌, ◌^◌, ◌++◌, length, IfOk, OnOk, OnErr};
+ghost use Rattle.std.specs.Prelude.{◌≡◌, ◌^◌, ◌++◌, length, Some, IfOk, OnOk, OnErr};
 ghost use Rattle.std.specs.Option.{option_map, option_and_then};
 ghost use Rattle.mama_words.specs.Reading.{Gives, or_fault};
 ghost use Rattle.mama_words.specs.Parting as parts;
 ghost use Rattle.mama_words.specs.Number as numbers;
 ghost use Rattle.mama_words.specs.Value as values;
 
-use crate::edge::{print_i64, print_quoted, print_u64};
+use mama_edge::{print_i64, print_quoted, print_u64};
 use crate::error::ReadError;
 use crate::number::{read_below, read_int, read_number};
 use crate::parting::cut_at;
@@ -69,12 +69,21 @@ fn read_i32(text: &[u8]) -> Option<i32>
     i32::try_from(number).ok()
 }
 
+// A text as a value, or fault 7 where it is too long or not printable.
+fn text_value(alloc: Global, text: &[u8]) -> Result<TextValue, ReadError>
+    ensures { Gives (λ x. x) result (or_fault 7 (values.if_text (Some text.now))) }
+{
+    match TextValue::new(alloc, text)? {
+        None => Err(ReadError::Fault(7)),
+        Some(value) => Ok(value),
+    }
+}
+
 fn read_text(alloc: Global, word: &[u8]) -> Result<TextValue, ReadError>
     ensures { Gives (λ x. x) result (or_fault 7 (values.text_in word.now)) }
 {
     let text = read_quoted_word(alloc, word)?.ok_or(ReadError::Fault(7))?;
-    let value = TextValue::new(alloc, &text)?.ok_or(ReadError::Fault(7))?;
-    Ok(value)
+    text_value(alloc, &text)
 }
 
 fn read_digit(digit: u8) -> Option<u8>
@@ -121,14 +130,24 @@ fn read_hex(alloc: Global, text: &[u8]) -> Result<Option<Vec<u8>>, OutOfMemory>
     Ok(Some(bytes))
 }
 
+// Bytes as a value, or fault 7 where there are too many.
+fn bytes_value(alloc: Global, bytes: &[u8]) -> Result<BytesValue, ReadError>
+    ensures { Gives (λ x. x) result (or_fault 7 (values.if_short (Some bytes.now))) }
+{
+    match BytesValue::new(alloc, bytes)? {
+        None => Err(ReadError::Fault(7)),
+        Some(value) => Ok(value),
+    }
+}
+
+#[tactic(auto, unfolding(crate::specs::Value::bytes_in))]
 fn read_bytes(alloc: Global, word: &[u8]) -> Result<BytesValue, ReadError>
     ensures { Gives (λ x. x) result (or_fault 7 (values.bytes_in word.now)) }
 {
     match word {
         [b'x', rest @ ..] => {
             let bytes = read_hex(alloc, rest)?.ok_or(ReadError::Fault(7))?;
-            let value = BytesValue::new(alloc, &bytes)?.ok_or(ReadError::Fault(7))?;
-            Ok(value)
+            bytes_value(alloc, &bytes)
         }
         _ => Err(ReadError::Fault(7)),
     }
