@@ -1,7 +1,6 @@
 //! The words that scripts and logs are written with.
 #![tactic(auto)]
 
-mod edge;
 mod error;
 mod field;
 mod id;

@@ -2,7 +2,7 @@ ghost use Rattle.std.specs.Prelude.{◌≡◌, IfOk};
 ghost use Rattle.std.specs.Option.{option_map};
 ghost use Rattle.mama_words.specs.Quote.{quoted_in};
 
-use crate::edge::read_quoted;
+use mama_edge::read_quoted;
 use mama_memory::OutOfMemory;
 use std::alloc::Global;
 
