@@ -6,3 +6,5 @@ pub mod Hex
 pub mod Texts
 pub mod Fields
 pub mod Asked
+pub mod Distinct
+pub mod Spaced

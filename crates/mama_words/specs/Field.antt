@@ -1,6 +1,6 @@
 -- Fields, messages, and how they are spelled.
 use Rattle.std.specs.Prelude.{◌≡◌, ℕ, min, ◌^◌, ◌<◌, ◌==◌, Bool, true, ◌&&◌, not, nat_le, List, [], ◌∷◌, ◌++◌, length, map, Option, Some, None, Result, Ok, Err, if◌then◌else◌}
-use Rattle.std.specs.List.{list_all, AllByRecursion}
+use Rattle.std.specs.List.{list_all, flat_map, AllByRecursion}
 use Rattle.mama_msg.specs.Name.{is_name_byte, IsNameText}
 use Rattle.mama_msg.specs.Field.{FieldData, key_of, IsKeyed}
 use Rattle.mama_msg.specs.Message.{has_key}
@@ -50,9 +50,20 @@ abbrev pub are_distinct : List FieldData → Bool
 are_distinct [] = true
 are_distinct (f ∷ fs) = not (has_key (key_of f) fs) && are_distinct fs
 
+-- fields of which no two have one key
+abbrev pub distinct_or_fault : List FieldData → Result (List FieldData) ℕ
+distinct_or_fault fs = if are_distinct fs then Ok fs else Err 8
+
 -- the message that the words spell
 abbrev pub message_in : List (List ℕ) → Result (List FieldData) ℕ
-message_in ws = fields_in ws >>= λ fs. if are_distinct fs then Ok fs else Err 8
+message_in ws = fields_in ws >>= distinct_or_fault
+
+-- the fields of a message, each behind a space
+abbrev pub spaced_field : FieldData → List ℕ
+spaced_field f = 32 ∷ field_text f
+
+abbrev pub fields_text : List FieldData → List ℕ
+fields_text fs = flat_map spaced_field fs
 
 -- a message as its type has it
 pub record IsMessage (fs : List FieldData) : Type 0 where

@@ -26,15 +26,25 @@ abbrev pub id_in : ℕ → List ℕ → Option IdWord
 id_in letter [] = None
 id_in letter (b ∷ bs) = if b == letter then option_and_then pair_in (cut_at 46 bs) else None
 
+-- an id of each kind, as a text names it
+abbrev pub sub_word : SubId → IdWord
+sub_word id = record { client = id.client; number = id.number }
+
+abbrev pub timer_word : TimerId → IdWord
+timer_word id = record { client = id.client; number = id.number }
+
+abbrev pub inbox_word : InboxId → IdWord
+inbox_word id = record { client = id.client; number = id.number }
+
 -- the spelling of each kind of id
 abbrev pub sub_text : SubId → List ℕ
-sub_text id = id_text 115 (record { client = id.client; number = id.number })
+sub_text id = id_text 115 (sub_word id)
 
 abbrev pub timer_text : TimerId → List ℕ
-timer_text id = id_text 116 (record { client = id.client; number = id.number })
+timer_text id = id_text 116 (timer_word id)
 
 abbrev pub inbox_text : InboxId → List ℕ
-inbox_text id = id_text 105 (record { client = id.client; number = id.number })
+inbox_text id = id_text 105 (inbox_word id)
 
 abbrev pub object_text : ObjectId → List ℕ
 object_text (Sub id) = sub_text id

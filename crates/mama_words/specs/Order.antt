@@ -1,5 +1,6 @@
 -- Orders, and how they are spelled.
 use Rattle.std.specs.Prelude.{◌≡◌, ℕ, ◌^◌, ◌<◌, ◌≤◌, Bool, true, ◌&&◌, nat_lt, nat_le, codes, List, [], ◌∷◌, ◌++◌, length, map, Option, Some, None, Result, Ok, Err, option_map, option_and_then, if◌then◌else◌}
+use Rattle.std.specs.List.{flat_map}
 use Rattle.std.specs.Str.{bytes_eq}
 use Rattle.mama_event.specs.FidList.{is_fid_list}
 use Rattle.mama_event.specs.declared.order.Order.{Order}
@@ -11,7 +12,8 @@ use Rattle.mama_words.specs.declared.order.OrderWord.{OrderWord}
 use Rattle.mama_words.specs.declared.order.OrderWord.TheVariants.{Stop, Disarm, Close, Ask}
 use Rattle.mama_words.specs.Reading.{◌>>=◌, or_fault}
 use Rattle.mama_words.specs.Number.{number_in, between_in}
-use Rattle.mama_words.specs.Id.{id_text, id_in}
+use Rattle.mama_words.specs.Id.{id_text, id_in, sub_word, timer_word, inbox_word}
+use Rattle.mama_event.specs.declared.ids.InboxId.{InboxId}
 use Rattle.mama_edge.specs.Decimal.{decimal}
 
 -- the words of an order
@@ -84,8 +86,22 @@ order_in [] = Err 4
 order_in (head ∷ words) = or_fault 4 (order_kind_in head) >>= λ kind. order_of kind words
 
 -- an order, as a text names it
+abbrev pub ask_word : InboxId → ℕ → List ℕ → OrderWord
+ask_word id topic fids = Ask (inbox_word id) topic fids
+
 abbrev pub word_of : Order → OrderWord
-word_of (orders.Stop id) = Stop (record { client = id.client; number = id.number })
-word_of (orders.Disarm id) = Disarm (record { client = id.client; number = id.number })
-word_of (orders.Close id) = Close (record { client = id.client; number = id.number })
-word_of (orders.Ask id topic fids) = Ask (record { client = id.client; number = id.number }) topic fids
+word_of (orders.Stop id) = Stop (sub_word id)
+word_of (orders.Disarm id) = Disarm (timer_word id)
+word_of (orders.Close id) = Close (inbox_word id)
+word_of (orders.Ask id topic fids) = ask_word id topic fids
+
+-- a number behind a space
+abbrev pub spaced_number : ℕ → List ℕ
+spaced_number n = 32 ∷ decimal n
+
+-- the spelling of an order: its words with one space between them
+abbrev pub order_text : OrderWord → List ℕ
+order_text (Stop id) = codes "stop " ++ id_text 115 id
+order_text (Disarm id) = codes "disarm " ++ id_text 116 id
+order_text (Close id) = codes "close " ++ id_text 105 id
+order_text (Ask id topic fids) = codes "ask " ++ (id_text 105 id ++ (spaced_number topic ++ flat_map spaced_number fids))

@@ -9,8 +9,9 @@ use crate::parting::cut_at;
 use crate::value::{put_value, read_value, type_of};
 use crate::value_type::{put_type, read_type};
 use mama_memory::OutOfMemory;
-use mama_msg::{Field, Name};
+use mama_msg::{AddFault, Field, Msg, Name};
 use std::alloc::Global;
+use std::collections::VecDeque;
 
 fn read_name(text: &[u8]) -> Option<Name>
     ensures { result ≡ fields.name_in text.now }
@@ -44,8 +45,8 @@ fn lower(least: Option<u8>, fault: u8) -> u8
     }
 }
 
-/// The fields that the words spell. Otherwise the lowest fault of all the words.
-pub fn read_field_list(alloc: Global, words: &[&[u8]]) -> Result<Vec<Field>, ReadError>
+// The fields that the words spell, or the lowest fault of all the words.
+fn read_field_list(alloc: Global, words: &[&[u8]]) -> Result<Vec<Field>, ReadError>
     ensures { Gives (λ v. v.items) result (fields.fields_in (map (λ w. w.now) words.now)) }
 {
     let mut found = Vec::new(alloc);
@@ -61,6 +62,31 @@ pub fn read_field_list(alloc: Global, words: &[&[u8]]) -> Result<Vec<Field>, Rea
         None => Ok(found),
         Some(fault) => Err(ReadError::Fault(fault)),
     }
+}
+
+// The message of these fields. Fault 8 where two have one key.
+fn message_of(alloc: Global, found: Vec<Field>) -> Result<Msg, ReadError>
+    ensures { Gives (λ m. m) result (fields.distinct_or_fault found.items) }
+{
+    let mut msg = Msg::new(alloc);
+    let mut rest = VecDeque::from(found);
+    while let Some(field) = rest.pop_front() {
+        match msg.add(field) {
+            Ok(()) => (),
+            Err(AddFault::Present(_)) => return Err(ReadError::Fault(8)),
+            Err(AddFault::OutOfMemory(_)) => return Err(ReadError::Memory),
+        }
+    }
+    Ok(msg)
+}
+
+/// The message that the words spell, a field for each. Otherwise the lowest fault of all the words, and fault 8 where
+/// two fields have one key. A message of any number of fields is read.
+pub fn read_message(alloc: Global, words: &[&[u8]]) -> Result<Msg, ReadError>
+    ensures { Gives (λ m. m) result (fields.message_in (map (λ w. w.now) words.now)) }
+{
+    let found = read_field_list(alloc, words)?;
+    message_of(alloc, found)
 }
 
 // Appends the spelling of a field.
@@ -84,6 +110,28 @@ pub fn print_field(field: &Field, out: &mut Vec<u8>) -> Result<(), OutOfMemory>
 {
     let mut piece = Vec::new(*out.allocator());
     put_field(field, &mut piece)?;
+    out.extend_from_slice(&piece)?;
+    Ok(())
+}
+
+// Appends a space and the spelling of each field.
+fn put_fields(msg: &Msg, out: &mut Vec<u8>) -> Result<(), OutOfMemory>
+    ensures { OnOk result (out.new.items ≡ out.old.items ++ fields.fields_text msg.now) }
+{
+    for i in 0..msg.len() {
+        out.push(b' ')?;
+        put_field(msg.at(i), out)?;
+    }
+    Ok(())
+}
+
+/// Appends the fields of a message, each behind a space. Where no memory is found, nothing is appended.
+pub fn print_fields(msg: &Msg, out: &mut Vec<u8>) -> Result<(), OutOfMemory>
+    ensures ok { OnOk result (out.new.items ≡ out.old.items ++ fields.fields_text msg.now) }
+    ensures err { OnErr result (out.new.items ≡ out.old.items) }
+{
+    let mut piece = Vec::new(*out.allocator());
+    put_fields(msg, &mut piece)?;
     out.extend_from_slice(&piece)?;
     Ok(())
 }

@@ -65,6 +65,36 @@ pub fn read_inbox_id(word: &[u8]) -> Option<IdWord>
     read_id(b'i', word)
 }
 
+// The id of a subscription, as a text names it.
+pub(crate) fn sub_word(id: SubId) -> IdWord
+    ensures { result ≡ ids.sub_word id }
+{
+    IdWord {
+        client: u64::from(id.client),
+        number: u64::from(id.number),
+    }
+}
+
+// The id of a timer, as a text names it.
+pub(crate) fn timer_word(id: TimerId) -> IdWord
+    ensures { result ≡ ids.timer_word id }
+{
+    IdWord {
+        client: u64::from(id.client),
+        number: u64::from(id.number),
+    }
+}
+
+// The id of an inbox, as a text names it.
+pub(crate) fn inbox_word(id: InboxId) -> IdWord
+    ensures { result ≡ ids.inbox_word id }
+{
+    IdWord {
+        client: u64::from(id.client),
+        number: u64::from(id.number),
+    }
+}
+
 // Appends the spelling of an id.
 pub(crate) fn put_id(letter: u8, id: IdWord, out: &mut Vec<u8>) -> Result<(), OutOfMemory>
     ensures { OnOk result (out.new.items ≡ out.old.items ++ ids.id_text letter id) }
@@ -91,11 +121,7 @@ pub fn print_sub_id(id: SubId, out: &mut Vec<u8>) -> Result<(), OutOfMemory>
     ensures ok { OnOk result (out.new.items ≡ out.old.items ++ ids.sub_text id) }
     ensures err { OnErr result (out.new.items ≡ out.old.items) }
 {
-    let word = IdWord {
-        client: u64::from(id.client),
-        number: u64::from(id.number),
-    };
-    print_id(b's', word, out)
+    print_id(b's', sub_word(id), out)
 }
 
 /// Appends the id of a timer. Where no memory is found, nothing is appended.
@@ -103,11 +129,7 @@ pub fn print_timer_id(id: TimerId, out: &mut Vec<u8>) -> Result<(), OutOfMemory>
     ensures ok { OnOk result (out.new.items ≡ out.old.items ++ ids.timer_text id) }
     ensures err { OnErr result (out.new.items ≡ out.old.items) }
 {
-    let word = IdWord {
-        client: u64::from(id.client),
-        number: u64::from(id.number),
-    };
-    print_id(b't', word, out)
+    print_id(b't', timer_word(id), out)
 }
 
 /// Appends the id of an inbox. Where no memory is found, nothing is appended.
@@ -115,11 +137,7 @@ pub fn print_inbox_id(id: InboxId, out: &mut Vec<u8>) -> Result<(), OutOfMemory>
     ensures ok { OnOk result (out.new.items ≡ out.old.items ++ ids.inbox_text id) }
     ensures err { OnErr result (out.new.items ≡ out.old.items) }
 {
-    let word = IdWord {
-        client: u64::from(id.client),
-        number: u64::from(id.number),
-    };
-    print_id(b'i', word, out)
+    print_id(b'i', inbox_word(id), out)
 }
 
 /// Appends the id of an object. Where no memory is found, nothing is appended.

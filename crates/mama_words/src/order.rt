@@ -4,9 +4,11 @@ ghost use Rattle.mama_words.specs.Reading.{Gives, or_fault};
 
 use mama_edge::print_u64;
 use crate::error::ReadError;
-use crate::id::{IdWord, put_id, read_inbox_id, read_sub_id, read_timer_id};
+use crate::id::{
+    IdWord, inbox_word, put_id, read_inbox_id, read_sub_id, read_timer_id, sub_word, timer_word,
+};
 use crate::number::{read_between, read_number};
-use mama_event::{Fids, Order};
+use mama_event::{Fids, InboxId, Order};
 use mama_memory::OutOfMemory;
 
 /// What an order does.
@@ -116,4 +118,61 @@ pub fn read_order(words: &[&[u8]]) -> Result<OrderWord, ReadError>
             read_order_of(kind, rest)
         }
     }
+}
+
+// Appends a space and the spelling of each fid.
+fn put_fids(fids: &Fids, out: &mut Vec<u8>) -> Result<(), OutOfMemory>
+    ensures { OnOk result (out.new.items ≡ out.old.items ++ flat_map orders.spaced_number fids.now) }
+{
+    for i in 0..fids.len() {
+        out.push(b' ')?;
+        print_u64(u64::from(fids.at(i)), out)?;
+    }
+    Ok(())
+}
+
+ghost use Rattle.std.specs.List.{flat_map};
+
+fn put_ask(inbox: InboxId, topic: u32, fids: &Fids, out: &mut Vec<u8>) -> Result<(), OutOfMemory>
+    ensures { OnOk result (out.new.items ≡ out.old.items ++ orders.order_text (orders.ask_word inbox topic fids.now)) }
+{
+    out.extend_from_slice(b"ask ")?;
+    put_id(b'i', inbox_word(inbox), out)?;
+    out.push(b' ')?;
+    print_u64(u64::from(topic), out)?;
+    put_fids(fids, out)?;
+    Ok(())
+}
+
+fn put_named(head: &[u8], letter: u8, id: IdWord, out: &mut Vec<u8>) -> Result<(), OutOfMemory>
+    ensures { OnOk result (out.new.items ≡ out.old.items ++ (head.now ++ id_text letter id)) }
+{
+    out.extend_from_slice(head)?;
+    put_id(letter, id, out)?;
+    Ok(())
+}
+
+ghost use Rattle.mama_words.specs.Id.{id_text};
+
+// Appends the spelling of an order.
+fn put_order(order: &Order, out: &mut Vec<u8>) -> Result<(), OutOfMemory>
+    ensures { OnOk result (out.new.items ≡ out.old.items ++ orders.order_text (orders.word_of order.now)) }
+{
+    match order {
+        Order::Stop(id) => put_named(b"stop ", b's', sub_word(*id), out),
+        Order::Disarm(id) => put_named(b"disarm ", b't', timer_word(*id), out),
+        Order::Close(id) => put_named(b"close ", b'i', inbox_word(*id), out),
+        Order::Ask { inbox, topic, fids } => put_ask(*inbox, *topic, fids, out),
+    }
+}
+
+/// Appends the spelling of an order. Where no memory is found, nothing is appended.
+pub fn print_order(order: &Order, out: &mut Vec<u8>) -> Result<(), OutOfMemory>
+    ensures ok { OnOk result (out.new.items ≡ out.old.items ++ orders.order_text (orders.word_of order.now)) }
+    ensures err { OnErr result (out.new.items ≡ out.old.items) }
+{
+    let mut piece = Vec::new(*out.allocator());
+    put_order(order, &mut piece)?;
+    out.extend_from_slice(&piece)?;
+    Ok(())
 }
