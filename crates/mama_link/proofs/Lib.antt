@@ -1,2 +1,4 @@
 pub mod FaultLemmas
 pub mod LinkLemmas
+pub mod SlotLemmas
+pub mod CursorLemmas

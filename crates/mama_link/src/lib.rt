@@ -3,7 +3,10 @@
 
 mod faults;
 mod outbox;
+mod prepared;
+mod slots;
 
 pub use faults::{Fault, FaultRow, Faults, FaultsFault};
 pub use mama_memory::{Duplicate, OutOfMemory};
 pub use outbox::Outbox;
+pub use prepared::Prepared;
