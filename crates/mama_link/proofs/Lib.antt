@@ -2,3 +2,4 @@ pub mod FaultLemmas
 pub mod LinkLemmas
 pub mod SlotLemmas
 pub mod CursorLemmas
+pub mod PassLemmas

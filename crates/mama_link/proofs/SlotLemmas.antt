@@ -16,6 +16,18 @@ use Rattle.mama_link.specs.Slots.{no_entry, held_in, due_in, without_due, found_
 
 -- ---- one slot more
 
+-- no slots hold nothing
+pub held_in-none : {T : Type 0} (entries : List (ℕ × Fault)) → held_in {T = T} entries [] ≡ []
+held_in-none [] = refl
+held_in-none (e ∷ es) = refl
+
+-- no more is held than there are slots
+pub length-held_in : {T : Type 0} (entries : List (ℕ × Fault)) (slots : List (Option T)) → length (held_in entries slots) ≤ length slots
+length-held_in [] slots = omega arith
+length-held_in (e ∷ es) [] = omega arith
+length-held_in (e ∷ es) (None ∷ slots) = omega (arith, length-held_in es slots)
+length-held_in (e ∷ es) (Some message ∷ slots) = omega (arith, length-held_in es slots)
+
 -- a slot more holds its message under the index of its entry
 pub held_in-push : {T : Type 0} (entries : List (ℕ × Fault)) (slots : List (Option T)) (slot : Option T) → length slots < length entries →
     held_in entries (slots ++ slot ∷ []) ≡ held_in entries slots ++ at_place (get_or entries (length slots) no_entry).0 slot
