@@ -1,21 +1,10 @@
 ghost use Rattle.std.specs.Prelude.{◌≡◌, suc, ◌+◌, ◌-◌, ◌<◌, ◌≤◌, ◌++◌};
 ghost use Rattle.std.specs.VecDeque.{deque_len, deque_capacity};
-ghost use Rattle.mama_dq.specs.Strategy.{stale_calls, gap_calls, switch_calls, adopt_calls};
+ghost use Rattle.mama_dq.specs.Strategy.{gap_calls, switch_calls, adopt_calls};
 
 use crate::table::Phase;
 use mama_event::{Callback, MarketMsg, Quality};
 use std::collections::VecDeque;
-
-// The callback of a gap before an update, where some are missing after the last.
-fn gap_before(last: u32, seq: u32) -> Callback
-    requires { last < seq }
-    ensures { result ≡ Callback.Gap (suc last) (seq - 1) }
-{
-    Callback::Gap {
-        first: last + 1,
-        to: seq - 1,
-    }
-}
 
 // The callback of an image that may lack updates from now on.
 fn stale_at(number: u32) -> Callback
@@ -64,18 +53,6 @@ pub(crate) fn recap_of(sender: u32) -> Callback
     Callback::RecapRequest { sender }
 }
 
-// Makes the callbacks of an update that finds the image stale, for which there is room.
-fn push_stale(queue: &mut VecDeque<Callback>, phase: Phase, sender: u32, last: u32, msg: MarketMsg)
-    requires { deque_len queue.old + 3 ≤ deque_capacity queue.old }
-    ensures { queue.new.items ≡ queue.old.items ++ stale_calls phase sender last msg }
-{
-    if phase == Phase::LiveOk {
-        queue.push_back_reserved(stale_at(last));
-        queue.push_back_reserved(recap_of(sender));
-    }
-    queue.push_back_reserved(stale_msg(msg));
-}
-
 // Makes the callbacks of a gap, for which there is room.
 pub(crate) fn push_gap(
     queue: &mut VecDeque<Callback>,
@@ -88,8 +65,21 @@ pub(crate) fn push_gap(
     requires room { deque_len queue.old + 4 ≤ deque_capacity queue.old }
     ensures { queue.new.items ≡ queue.old.items ++ gap_calls phase sender last msg }
 {
-    queue.push_back_reserved(gap_before(last, msg.seq));
-    push_stale(queue, phase, sender, last, msg);
+    queue.push_back_reserved(Callback::Gap {
+        first: last + 1,
+        to: msg.seq - 1,
+    });
+    if phase == Phase::LiveOk {
+        queue.push_back_reserved(Callback::Quality {
+            quality: Quality::Stale,
+            number: last,
+        });
+        queue.push_back_reserved(Callback::RecapRequest { sender });
+    }
+    queue.push_back_reserved(Callback::Msg {
+        msg,
+        quality: Quality::Stale,
+    });
 }
 
 // Makes the callbacks of a switch, for which there is room.
