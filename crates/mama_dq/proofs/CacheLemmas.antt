@@ -13,6 +13,7 @@ use Rattle.std.specs.declared.ops.Bound.TheVariants.{Excluded, Unbounded}
 use Rattle.mama_msg.specs.Field.{FieldData}
 use Rattle.mama_msg.specs.Message.{apply}
 use Rattle.mama_dq.specs.Cache.{has_number, put, above, reached, Reached, CacheData}
+use Rattle.mama_dq.proofs.Comparisons.{lt_true, less_is}
 
 -- an entry that was inserted where there was none with its key is removed again
 pub removed_again : (es : List (ℕ × List FieldData)) (n : ℕ) (body : List FieldData)
@@ -31,9 +32,6 @@ abbrev pub AscendFrom : ℕ → List (ℕ × List FieldData) → Type 0
 AscendFrom n [] = Unit {0}
 AscendFrom n (e ∷ es) = (n < e.0) × AscendFrom e.0 es
 
-less_is : (a b : ℕ) → nat_cmp a b ≡ Less → a < b
-less_is a b is = grind (arith, nat_tests)
-
 ascend_filtered : (p : ℕ × List FieldData → Bool) (n : ℕ) (es : List (ℕ × List FieldData))
     → AllByRecursion (λ y. nat_cmp n y ≡ Less) (keys_of es) → IsStrictlySortedBy nat_cmp (keys_of es) → AscendFrom n (filter p es)
 ascend_filtered p n [] all sorted = tt
@@ -42,9 +40,6 @@ ascend_filtered p n (e ∷ es) all sorted =
       | true ↦ (less_is n e.0 all.0, ascend_filtered p e.0 es (sorted_head nat_cmp e.0 (keys_of es) sorted) (sorted_tail nat_cmp e.0 (keys_of es) sorted))
       | false ↦ ascend_filtered p n es all.1 (sorted_tail nat_cmp e.0 (keys_of es) sorted)
     ]
-
-lt_true : (a b : ℕ) → nat_lt a b ≡ true → a < b
-lt_true a b is = grind (arith, nat_tests)
 
 -- what is numbered above n in an ordered map ascends from above n
 pub ascend_above : (n : ℕ) (es : List (ℕ × List FieldData)) → IsStrictlySortedBy nat_cmp (keys_of es) → AscendFrom n (above n es)

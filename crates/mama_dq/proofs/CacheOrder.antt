@@ -9,26 +9,12 @@ use Rattle.mama_msg.specs.Field.{FieldData}
 use Rattle.mama_dq.specs.Cache.{CacheData, has_number, put, trimmed, added, above}
 use Rattle.mama_dq.specs.Gap.{is_lowest}
 use Rattle.mama_dq.proofs.CacheLemmas.{AscendFrom}
+use Rattle.mama_dq.proofs.Comparisons.{lt_true, lt_false, less_is, equal_is, greater_is}
 
 -- the updates ascend
 abbrev pub Ascend : List (ℕ × List FieldData) → Type 0
 Ascend [] = Unit {0}
 Ascend (e ∷ es) = AscendFrom e.0 es
-
-less_is : (a b : ℕ) → nat_cmp a b ≡ Less → a < b
-less_is a b is = grind (arith, nat_tests)
-
-equal_is : (a b : ℕ) → nat_cmp a b ≡ Equal → a ≡ b
-equal_is a b is = grind (arith, nat_tests)
-
-greater_is : (a b : ℕ) → nat_cmp a b ≡ Greater → b < a
-greater_is a b is = grind (arith, nat_tests)
-
-lt_true : (a b : ℕ) → nat_lt a b ≡ true → a < b
-lt_true a b is = grind (arith, nat_tests)
-
-lt_false : (a b : ℕ) → nat_lt a b ≡ false → b ≤ a
-lt_false a b is = grind (arith, nat_tests)
 
 pub ascend_lower : (a b : ℕ) (es : List (ℕ × List FieldData)) → a ≤ b → AscendFrom b es → AscendFrom a es
 ascend_lower a b [] low ascend = tt

@@ -27,6 +27,7 @@ use Rattle.mama_dq.proofs.CacheOrder.{Ascend, ascend_added, ascend_above, absent
 use Rattle.mama_dq.proofs.Relations.{Related, related}
 use Rattle.mama_dq.proofs.StrategyLemmas.{updated_sender}
 use Rattle.mama_dq.proofs.SameKind.{after_kind, after_all_kind}
+use Rattle.mama_dq.proofs.Comparisons.{eq_true, eq_same, le_true}
 
 -- ---- a stretch with one more message
 
@@ -193,9 +194,6 @@ module _ (c : ContextData) (s : List Taken) (m : MarketMsg) (known : Accounts c 
     gaps = adopt_calls_true c.phase alone m.sender m;
   }
 
-  le_true : (a b : ℕ) → nat_le a b ≡ true → a ≤ b
-  le_true a b is = grind (arith, nat_tests)
-
   heal_next : (r : Reached) → is_update m.kind ≡ false → Accounts (healed r c m).context with_message
   heal_next r image =
       (elim (nat_le c.last r.number) as (λ b. nat_le c.last r.number ≡ b → Accounts (if b then reached_last r c m else stopped_short c).context with_message) [
@@ -213,12 +211,6 @@ module _ (c : ContextData) (s : List Taken) (m : MarketMsg) (known : Accounts c 
   heal_step image = record { next = heal_next (reached c.cache.updates m.seq m.body) image; gaps = heal_gaps (reached c.cache.updates m.seq m.body) }
 
 -- ---- before the first image
-
-eq_true : (a b : ℕ) → (a == b) ≡ true → a ≡ b
-eq_true a b is = grind (arith, nat_tests)
-
-eq_refl : (a b : ℕ) → a ≡ b → (a == b) ≡ true
-eq_refl a b is = grind (arith, nat_tests)
 
 waiting_is_same : (sender : ℕ) (c : ContextData) → (c.sender == sender) ≡ true → waiting_for sender c ≡ c
 waiting_is_same sender c is = grind arith
@@ -254,7 +246,7 @@ added_dropped s c m updates waits update are dropped n absent =
             | true ↦ λ full gone.
                 let lowest : is_lowest n (put updates m.seq m.body) ≡ true = lowest_dropped (put updates m.seq m.body) n present gone in
                 let waiting : is_waiting c.phase ≡ true = rw waits refl in
-                let own : (m.sender == m.sender) ≡ true = eq_refl m.sender m.sender refl in
+                let own : (m.sender == m.sender) ≡ true = eq_same m.sender m.sender refl in
                 let is : drops m.sender n t ≡ true = rw (are, waiting, update, own, full, lowest) refl in
                 dropped_last m.sender n s t is
             | false ↦ λ room gone. absurd cc

@@ -26,11 +26,9 @@ use Rattle.mama_dq.specs.Strategy.{Step, updated, update_acted, acted, action_of
 use Rattle.mama_dq.specs.Image.{IsSendersRecord, ImageLaw}
 use Rattle.mama_dq.proofs.Relations.{Related, related}
 use Rattle.mama_dq.proofs.StrategyLemmas.{updated_sender}
+use Rattle.mama_dq.proofs.Comparisons.{eq_true, equal_is}
 
 -- ---- what holds of each cached update
-
-equal_is : (a b : ℕ) → nat_cmp a b ≡ Equal → a ≡ b
-equal_is a b is = grind (arith, nat_tests)
 
 -- a fact that holds of each entry and of one more holds of each after it was inserted
 pub all_inserted : (P : ℕ × List FieldData → Type 0) (es : List (ℕ × List FieldData)) (n : ℕ) (body : List FieldData)
@@ -71,9 +69,6 @@ all_above P n (e ∷ es) all = elim (nat_lt n e.0) as (λ b. AllByRecursion P (c
   | true ↦ (all.0, all_above P n es all.1)
   | false ↦ all_above P n es all.1
 ]
-
-eq_true : (a b : ℕ) → (a == b) ≡ true → a ≡ b
-eq_true a b is = grind (arith, nat_tests)
 
 module _ (bases : ℕ → List FieldData) (updates : ℕ → List (List FieldData)) where
   -- the sender's record at a number

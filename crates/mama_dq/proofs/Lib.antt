@@ -1,3 +1,4 @@
+pub mod Comparisons
 pub mod CacheLemmas
 pub mod StrategyLemmas
 pub mod Relations

@@ -5,6 +5,7 @@ use Rattle.mama_event.specs.declared.market.MarketMsg.{MarketMsg}
 use Rattle.mama_dq.specs.declared.table.Relation.{Relation}
 use Rattle.mama_dq.specs.declared.table.Relation.TheVariants.{Next, Same, Old, Ahead, Other}
 use Rattle.mama_dq.specs.Table.{relation_of, relation_of_number}
+use Rattle.mama_dq.proofs.Comparisons.{eq_true, eq_false, lt_true}
 
 -- what a relation tells of a message's number, when its sender is the same
 pub record Numbered (sender seq other last : ℕ) (P : Type 0) : Type 0 where
@@ -18,15 +19,6 @@ Related Same sender last m = Numbered m.sender m.seq sender last (m.seq ≡ last
 Related Old sender last m = Numbered m.sender m.seq sender last (m.seq < last)
 Related Ahead sender last m = Numbered m.sender m.seq sender last (suc last < m.seq)
 Related Other sender last m = m.sender ≢ sender
-
-eq_true : (a b : ℕ) → (a == b) ≡ true → a ≡ b
-eq_true a b is = grind (arith, nat_tests)
-
-eq_false : (a b : ℕ) → (a == b) ≡ false → a ≢ b
-eq_false a b is = λ same. grind (arith, nat_tests)
-
-lt_true : (a b : ℕ) → nat_lt a b ≡ true → a < b
-lt_true a b is = grind (arith, nat_tests)
 
 ahead : (n last : ℕ) → (n == suc last) ≡ false → (n == last) ≡ false → nat_lt n last ≡ false → suc last < n
 ahead n last not_next not_same not_old = grind (arith, nat_tests)

@@ -11,7 +11,7 @@ use Rattle.mama_dq.specs.declared.table.Relation.TheVariants.{Next, Same, Old, A
 use Rattle.mama_dq.specs.Table.{decided, relation_of, relation_of_number}
 use Rattle.mama_dq.specs.Cache.{above}
 use Rattle.mama_dq.specs.Context.{ContextData}
-use Rattle.mama_dq.specs.Strategy.{handled, updated, update_acted, as_message}
+use Rattle.mama_dq.specs.Strategy.{handled, updated, update_acted, as_message, after, after_all, callbacks_of, calls_after}
 
 -- a number is never another sender's
 pub not_other : (last n : ℕ) → relation_of_number last n ≡ Other → ⊥
@@ -47,24 +47,12 @@ pub record Handles (rest all : List (ℕ × List FieldData)) (number sender : �
   pub same_calls : calls ++ (handled c rest).calls ≡ before ++ (handled start (above number all)).calls
   pub same_sender : c.sender ≡ sender
 
--- a walk begins with what is above the number
-pub handles_above : (rest all : List (ℕ × List FieldData)) (number : ℕ) (c : ContextData) (calls : List Callback)
-    → rest ≡ above number all → Handles rest all number c.sender c c calls calls
-handles_above rest all number c calls is = rw is (record { same_context = refl; same_calls = refl; same_sender = refl })
+-- the context after some messages and then others
+pub after_all-append : (c : ContextData) (xs ys : List MarketMsg) → after_all c (xs ++ ys) ≡ after_all (after_all c xs) ys
+after_all-append c [] ys = refl
+after_all-append c (x ∷ xs) ys = after_all-append (after c x) xs ys
 
--- a walk goes on by one update
-pub handles_more : (rest more all : List (ℕ × List FieldData)) (e : ℕ × List FieldData) (number sender : ℕ) (c start : ContextData) (calls before : List Callback) (next : ContextData) (made : List Callback)
-    → Handles rest all number sender c start calls before → rest ≡ e ∷ more
-    → next ≡ (updated c (as_message sender e)).context → made ≡ calls ++ (updated c (as_message sender e)).calls
-    → Handles more all number sender next start made before
-handles_more rest more all e number sender c start calls before next made handles is next_is made_is =
-    let cut : Handles (e ∷ more) all number sender c start calls before = rw (← is) handles in
-    let C : ℕ → Type 0 = λ s. (handled (updated c (as_message s e)).context more).context ≡ (handled start (above number all)).context in
-    let D : ℕ → Type 0 = λ s. calls ++ ((updated c (as_message s e)).calls ++ (handled (updated c (as_message s e)).context more).calls) ≡ before ++ (handled start (above number all)).calls in
-    let context : C sender = subst C cut.same_sender cut.same_context in
-    let later : D sender = subst D cut.same_sender cut.same_calls in
-    rw (next_is, made_is) (record {
-      same_context = context;
-      same_calls = append_assoc calls (updated c (as_message sender e)).calls (handled (updated c (as_message sender e)).context more).calls ∙ later;
-      same_sender = updated_sender c (as_message sender e) (sym cut.same_sender) ∙ cut.same_sender;
-    })
+-- the callbacks of some messages and one more
+pub calls_after-append : (c : ContextData) (xs ys : List MarketMsg) → calls_after c (xs ++ ys) ≡ calls_after c xs ++ calls_after (after_all c xs) ys
+calls_after-append c [] ys = refl
+calls_after-append c (x ∷ xs) ys = ap (λ (calls : List (List Callback)). callbacks_of c x ∷ calls) (calls_after-append (after c x) xs ys)

@@ -64,10 +64,13 @@ waiting_for sender c = if c.sender == sender then c else turned_to sender c
 abbrev pub with_image_of : MarketMsg → ContextData → ContextData
 with_image_of m c = record c { phase = LiveOk; last = m.seq; image = m.body }
 
--- the callbacks of an update before which some are missing: the quality and a recap only if the image was the record
+-- the callbacks of a message that finds the image stale: the quality and a recap only if the image was the record
+abbrev pub stale_calls : Phase → ℕ → ℕ → MarketMsg → List Callback
+stale_calls phase sender last m = if_ok phase (on.Quality quality.Stale last ∷ on.RecapRequest sender ∷ []) ++ on.Msg m quality.Stale ∷ []
+
+-- the callbacks of an update before which some are missing
 abbrev pub gap_calls : Phase → ℕ → ℕ → MarketMsg → List Callback
-gap_calls phase sender last m =
-    on.Gap (suc last) (m.seq - 1) ∷ if_ok phase (on.Quality quality.Stale last ∷ on.RecapRequest sender ∷ []) ++ on.Msg m quality.Stale ∷ []
+gap_calls phase sender last m = on.Gap (suc last) (m.seq - 1) ∷ stale_calls phase sender last m
 
 -- the callbacks of another sender's update: the quality only if the image was the record
 abbrev pub switch_calls : Phase → ℕ → MarketMsg → List Callback

@@ -1,13 +1,12 @@
-ghost use Rattle.std.specs.Prelude.{◌≡◌, ◌↔◌, ◌≤◌, ◌<◌, ◌+◌, ◌++◌, ◌∷◌, [], OnOk, OnErr, IfOk, IfSome, IsNone, if◌then◌else◌};
-ghost use Rattle.mama_dq.specs.Table.{relation_of, decided, is_update};
-ghost use Rattle.mama_dq.specs.Cache.{CacheData, above};
-ghost use Rattle.mama_dq.specs.Context.{ContextData, new_context, quality_in, with_image};
-ghost use Rattle.mama_dq.specs.Strategy.{Step, updated, update_acted, handled, cached_above, step_by, started, healed, acted, action_of, with_image_of, turned_to, after, callbacks_of, snapshot_acted, gap_calls, switch_calls, adopt_calls};
-ghost use Rattle.std.specs.VecDeque.{deque_len, deque_capacity};
+ghost use Rattle.std.specs.Prelude.{◌≡◌, ◌↔◌, ◌≤◌, ◌<◌, ◌++◌, OnOk, OnErr, IfOk, IfSome, IsNone};
+ghost use Rattle.mama_dq.specs.Cache.{above};
+ghost use Rattle.mama_dq.specs.Context.{new_context, quality_in, with_image};
+ghost use Rattle.mama_dq.specs.Strategy.{updated, update_acted, handled, cached_above, step_by, started, healed, acted, with_image_of, turned_to, after, callbacks_of};
 
 use crate::cache::Cache;
+use crate::callbacks::{ok_at, ok_msg, push_adopt, push_gap, push_switch, recap_of, stale_msg};
 use crate::calls::Calls;
-use crate::table::{Action, Phase, Relation, decide};
+use crate::table::{Action, Phase, decide, is_update, relation_to};
 use mama_event::{Callback, MarketMsg, MsgKind, Quality, SubKind};
 use mama_memory::OutOfMemory;
 use mama_msg::Msg;
@@ -49,96 +48,6 @@ fn copy_of(msg: &MarketMsg) -> Result<MarketMsg, OutOfMemory>
     })
 }
 
-// What a message is to a sender and its last number.
-fn relation(sender: u32, last: u32, msg: &MarketMsg) -> Relation
-    ensures { result ≡ relation_of sender last msg.now }
-{
-    if msg.sender != sender {
-        return Relation::Other;
-    }
-    if msg.seq <= last {
-        return if msg.seq == last {
-            Relation::Same
-        } else {
-            Relation::Old
-        };
-    }
-    if msg.seq - last == 1 {
-        Relation::Next
-    } else {
-        Relation::Ahead
-    }
-}
-
-// Whether a message of this kind is an update, and not an image message.
-fn is_update(kind: MsgKind) -> bool
-    ensures { result ≡ is_update kind }
-{
-    match kind {
-        MsgKind::Update => true,
-        MsgKind::Initial | MsgKind::Recap => false,
-    }
-}
-
-// Makes the callbacks of a gap, for which there is room.
-fn push_gap(queue: &mut VecDeque<Callback>, phase: Phase, sender: u32, last: u32, msg: MarketMsg)
-    requires ahead { last < msg.seq }
-    requires room { deque_len queue.old + 4 ≤ deque_capacity queue.old }
-    ensures { queue.new.items ≡ queue.old.items ++ gap_calls phase sender last msg }
-{
-    queue.push_back_reserved(Callback::Gap {
-        first: last + 1,
-        to: msg.seq - 1,
-    });
-    if phase == Phase::LiveOk {
-        queue.push_back_reserved(Callback::Quality {
-            quality: Quality::Stale,
-            number: last,
-        });
-        queue.push_back_reserved(Callback::RecapRequest { sender });
-    }
-    queue.push_back_reserved(Callback::Msg {
-        msg,
-        quality: Quality::Stale,
-    });
-}
-
-// Makes the callbacks of a switch, for which there is room.
-fn push_switch(queue: &mut VecDeque<Callback>, phase: Phase, last: u32, msg: MarketMsg)
-    requires room { deque_len queue.old + 3 ≤ deque_capacity queue.old }
-    ensures { queue.new.items ≡ queue.old.items ++ switch_calls phase last msg }
-{
-    if phase == Phase::LiveOk {
-        queue.push_back_reserved(Callback::Quality {
-            quality: Quality::Stale,
-            number: last,
-        });
-    }
-    queue.push_back_reserved(Callback::RecapRequest { sender: msg.sender });
-    queue.push_back_reserved(Callback::Msg {
-        msg,
-        quality: Quality::Stale,
-    });
-}
-
-// Makes the callbacks of an image of another sender, for which there is room.
-fn push_adopt(queue: &mut VecDeque<Callback>, phase: Phase, msg: MarketMsg)
-    requires room { deque_len queue.old + 2 ≤ deque_capacity queue.old }
-    ensures { queue.new.items ≡ queue.old.items ++ adopt_calls phase msg }
-{
-    let number = msg.seq;
-    queue.push_back_reserved(Callback::Msg {
-        msg,
-        quality: Quality::Ok,
-    });
-    if phase == Phase::LiveStale {
-        queue.push_back_reserved(Callback::Quality {
-            quality: Quality::Ok,
-            number,
-        });
-    }
-}
-
 impl DqContext {
     /// The context of a new subscription with a cache of this size. It takes no memory.
     pub fn new(alloc: Global, kind: SubKind, cache: u32) -> DqContext
@@ -170,10 +79,7 @@ impl DqContext {
         self.image.apply(&msg.body)?;
         self.phase = Phase::LiveOk;
         self.last = msg.seq;
-        queue.push_back_reserved(Callback::Msg {
-            msg,
-            quality: Quality::Ok,
-        });
+        queue.push_back_reserved(ok_msg(msg));
         Ok(())
     }
 
@@ -192,10 +98,7 @@ impl DqContext {
         self.cache.add_applied(msg.seq, &msg.body, &mut self.image)?;
         self.phase = Phase::LiveStale;
         self.last = msg.seq;
-        queue.push_back_reserved(Callback::Msg {
-            msg,
-            quality: Quality::Stale,
-        });
+        queue.push_back_reserved(stale_msg(msg));
         Ok(())
     }
 
@@ -233,11 +136,11 @@ impl DqContext {
         ensures calls_err { OnErr result (queue.new.items ≡ queue.old.items) }
     {
         queue.reserve(3)?;
-        let mut cache = Cache::new(self.alloc, self.cache.size());
-        cache.add_applied(msg.seq, &msg.body, &mut self.image)?;
+        let mut fresh = Cache::new(self.alloc, self.cache.size());
+        fresh.add_applied(msg.seq, &msg.body, &mut self.image)?;
         let last = self.last;
         let phase = self.phase;
-        self.cache = cache;
+        self.cache = fresh;
         self.phase = Phase::LiveStale;
         self.sender = msg.sender;
         self.last = msg.seq;
@@ -275,7 +178,7 @@ impl DqContext {
         ensures err { OnErr result (self.new ≡ self.old) }
         ensures calls_err { OnErr result (queue.new.items ≡ queue.old.items) }
     {
-        let action = decide(self.phase, relation(self.sender, self.last, &msg), true);
+        let action = decide(self.phase, relation_to(self.sender, self.last, &msg), true);
         self.act_update(action, msg, queue)
     }
 
@@ -358,10 +261,7 @@ impl DqContext {
         ensures calls_err { OnErr result (queue.new.items ≡ queue.old.items) }
     {
         let mut made = VecDeque::new(self.alloc);
-        made.push_back(Callback::Msg {
-            msg: copy_of(msg)?,
-            quality: Quality::Ok,
-        })?;
+        made.push_back(ok_msg(copy_of(msg)?))?;
         let mut next = self.with_first(msg)?;
         next.handle_cached(self, msg, &mut made)?;
         queue.append(&mut made)?;
@@ -382,10 +282,7 @@ impl DqContext {
     {
         let call = copy_of(msg)?;
         let image = msg.body.try_clone()?;
-        queue.push_back(Callback::Msg {
-            msg: call,
-            quality: Quality::Ok,
-        })?;
+        queue.push_back(ok_msg(call))?;
         self.phase = Phase::LiveOk;
         self.last = msg.seq;
         self.image = image;
@@ -426,14 +323,8 @@ impl DqContext {
         ensures calls_err { OnErr result (queue.new.items ≡ queue.old.items) }
     {
         queue.reserve(2)?;
-        queue.push_back_reserved(Callback::Msg {
-            msg: copy_of(msg)?,
-            quality: Quality::Ok,
-        });
-        queue.push_back_reserved(Callback::Quality {
-            quality: Quality::Ok,
-            number,
-        });
+        queue.push_back_reserved(ok_msg(copy_of(msg)?));
+        queue.push_back_reserved(ok_at(number));
         self.phase = Phase::LiveOk;
         self.last = number;
         self.image = image;
@@ -451,9 +342,7 @@ impl DqContext {
         let mut image = msg.body.try_clone()?;
         let number = self.cache.follow(msg.seq, &mut image)?;
         if number < self.last {
-            queue.push_back(Callback::RecapRequest {
-                sender: self.sender,
-            })?;
+            queue.push_back(recap_of(self.sender))?;
             return Ok(());
         }
         self.take_healed(msg, number, image, queue)
@@ -495,7 +384,7 @@ impl DqContext {
         ensures calls_err { OnErr result (queue.new.items ≡ queue.old.items) }
     {
         let update = is_update(msg.kind);
-        let action = decide(self.phase, relation(self.sender, self.last, msg), update);
+        let action = decide(self.phase, relation_to(self.sender, self.last, msg), update);
         self.act(action, msg, queue)
     }
 
@@ -515,10 +404,7 @@ impl DqContext {
         }
         let call = copy_of(msg)?;
         let next = self.with_first(msg)?;
-        queue.push_back(Callback::Msg {
-            msg: call,
-            quality: Quality::Ok,
-        })?;
+        queue.push_back(ok_msg(call))?;
         *self = next;
         Ok(())
     }
@@ -537,10 +423,7 @@ impl DqContext {
             SubKind::Snapshot => self.step_snapshot(msg, &mut calls.queue),
             SubKind::Basic => {
                 let msg = copy_of(msg)?;
-                calls.queue.push_back(Callback::Msg {
-                    msg,
-                    quality: Quality::Ok,
-                })?;
+                calls.queue.push_back(ok_msg(msg))?;
                 Ok(())
             }
         }

@@ -1,7 +1,18 @@
-//! The data quality of a subscription.
+//! The data quality of a subscription: what each message makes of its image, and what its listener is told.
+//!
+//! A context keeps an image of a record that a sender changes by numbered updates. It finds gaps between the
+//! numbers, asks for recaps, and heals the image by a recap and the updates that it cached meanwhile. What a message
+//! does is stated by `step_by` of `specs/Strategy.antt`, over the table `decided` of `specs/Table.antt`, and
+//! [`DqContext::step`] does exactly that, or changes nothing where it finds no memory.
+//!
+//! The promises hold for every list of messages, whatever links lose, repeat and reorder. [`image_law`]: an image
+//! that is ok is its sender's record (`ImageLaw` of `specs/Image.antt`). [`gap_law`] and [`stale_law`]: no gap that
+//! is told is false, and an image is called stale for a reason (`specs/Gap.antt`). [`orderly_law`]: over a link
+//! without faults each update is told once and nothing else is (`specs/Orderly.antt`).
 #![tactic(auto)]
 
 mod cache;
+mod callbacks;
 mod calls;
 mod context;
 mod laws;
@@ -9,11 +20,10 @@ mod table;
 #[cfg(test)]
 mod tests;
 
-pub use cache::Cache;
 pub use calls::Calls;
 pub use context::DqContext;
 pub use laws::{gap_law, image_law, orderly_law, stale_law};
 pub use mama_event::{Callback, MarketMsg, MsgKind, Quality, SubKind};
 pub use mama_memory::OutOfMemory;
 pub use mama_msg::Msg;
-pub use table::{Action, Phase, Relation, Table, decide};
+pub use table::{Action, CELLS, Phase, Relation, Table, decide};

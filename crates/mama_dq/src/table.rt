@@ -1,5 +1,7 @@
-ghost use Rattle.std.specs.Prelude.{◌≡◌, ◌+◌, ◌*◌, ◌<◌};
-ghost use Rattle.mama_dq.specs.Table.{decided, phase_number, relation_number, kind_number};
+ghost use Rattle.std.specs.Prelude.{◌≡◌};
+ghost use Rattle.mama_dq.specs.Table.{is_update, relation_of, decided, phase_number, relation_number, kind_number};
+
+use mama_event::{MarketMsg, MsgKind};
 
 /// Where a context stands.
 #[derive(Clone, Copy, Debug, PartialEq, Eq, Hash)]
@@ -128,4 +130,35 @@ pub fn decide(phase: Phase, relation: Relation, update: bool) -> Action
 {
     let cell = 10 * phase_number(phase) + 2 * relation_number(relation) + kind_number(update);
     ACTIONS.cells[cell]
+}
+
+// Whether a message of this kind is an update, and not an image message.
+pub(crate) fn is_update(kind: MsgKind) -> bool
+    ensures { result ≡ is_update kind }
+{
+    match kind {
+        MsgKind::Update => true,
+        MsgKind::Initial | MsgKind::Recap => false,
+    }
+}
+
+// What a message is to a sender and its last number.
+pub(crate) fn relation_to(sender: u32, last: u32, msg: &MarketMsg) -> Relation
+    ensures { result ≡ relation_of sender last msg.now }
+{
+    if msg.sender != sender {
+        return Relation::Other;
+    }
+    if msg.seq <= last {
+        return if msg.seq == last {
+            Relation::Same
+        } else {
+            Relation::Old
+        };
+    }
+    if msg.seq - last == 1 {
+        Relation::Next
+    } else {
+        Relation::Ahead
+    }
 }

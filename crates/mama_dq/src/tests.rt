@@ -115,7 +115,9 @@ fn told(alloc: Global, kind: SubKind, cache: u32, takes: &[Take]) -> Result<Stri
 }
 
 const I: MsgKind = MsgKind::Initial;
+
 const U: MsgKind = MsgKind::Update;
+
 const R: MsgKind = MsgKind::Recap;
 
 #[test]
@@ -128,7 +130,10 @@ fn gaps_are_told_and_healed(rt: HostRuntime) -> Result<(), Fail> {
         (R, 1, 3, 102, 103),
         (U, 1, 4, 0, 104),
     ];
-    assert_eq!(rt; told(rt.alloc(), SubKind::Market, 10, &lost)?.as_str(), "msg initial 1 0 ok 22:bid:u32:100\nmsg update 1 1 ok 22:bid:u32:101\ngap 2 2\nquality stale 1\nrequest 1\nmsg update 1 3 stale 22:bid:u32:102\nmsg recap 1 3 ok 22:bid:u32:102 25:ask:u32:103\nquality ok 3\nmsg update 1 4 ok 25:ask:u32:104\nimage ok 1 4 22:bid:u32:102 25:ask:u32:104\n");
+    assert_eq!(rt;
+        told(rt.alloc(), SubKind::Market, 10, &lost)?.as_str(),
+        "msg initial 1 0 ok 22:bid:u32:100\nmsg update 1 1 ok 22:bid:u32:101\ngap 2 2\nquality stale 1\nrequest 1\nmsg update 1 3 stale 22:bid:u32:102\nmsg recap 1 3 ok 22:bid:u32:102 25:ask:u32:103\nquality ok 3\nmsg update 1 4 ok 25:ask:u32:104\nimage ok 1 4 22:bid:u32:102 25:ask:u32:104\n"
+    );
     // an update comes after the next one
     let late = [
         (I, 1, 0, 100, 0),
@@ -137,7 +142,10 @@ fn gaps_are_told_and_healed(rt: HostRuntime) -> Result<(), Fail> {
         (R, 1, 2, 101, 103),
         (U, 1, 3, 102, 0),
     ];
-    assert_eq!(rt; told(rt.alloc(), SubKind::Market, 10, &late)?.as_str(), "msg initial 1 0 ok 22:bid:u32:100\ngap 1 1\nquality stale 0\nrequest 1\nmsg update 1 2 stale 25:ask:u32:103\nmsg recap 1 2 ok 22:bid:u32:101 25:ask:u32:103\nquality ok 2\nmsg update 1 3 ok 22:bid:u32:102\nimage ok 1 3 22:bid:u32:102 25:ask:u32:103\n");
+    assert_eq!(rt;
+        told(rt.alloc(), SubKind::Market, 10, &late)?.as_str(),
+        "msg initial 1 0 ok 22:bid:u32:100\ngap 1 1\nquality stale 0\nrequest 1\nmsg update 1 2 stale 25:ask:u32:103\nmsg recap 1 2 ok 22:bid:u32:101 25:ask:u32:103\nquality ok 2\nmsg update 1 3 ok 22:bid:u32:102\nimage ok 1 3 22:bid:u32:102 25:ask:u32:103\n"
+    );
     // the first recap does not reach the last update
     let short = [
         (I, 1, 0, 100, 0),
@@ -147,7 +155,10 @@ fn gaps_are_told_and_healed(rt: HostRuntime) -> Result<(), Fail> {
         (R, 1, 3, 102, 103),
         (R, 1, 5, 105, 104),
     ];
-    assert_eq!(rt; told(rt.alloc(), SubKind::Market, 10, &short)?.as_str(), "msg initial 1 0 ok 22:bid:u32:100\nmsg update 1 1 ok 22:bid:u32:101\ngap 2 2\nquality stale 1\nrequest 1\nmsg update 1 3 stale 22:bid:u32:102\ngap 4 4\nmsg update 1 5 stale 22:bid:u32:105\nrequest 1\nmsg recap 1 5 ok 22:bid:u32:105 25:ask:u32:104\nquality ok 5\nimage ok 1 5 22:bid:u32:105 25:ask:u32:104\n");
+    assert_eq!(rt;
+        told(rt.alloc(), SubKind::Market, 10, &short)?.as_str(),
+        "msg initial 1 0 ok 22:bid:u32:100\nmsg update 1 1 ok 22:bid:u32:101\ngap 2 2\nquality stale 1\nrequest 1\nmsg update 1 3 stale 22:bid:u32:102\ngap 4 4\nmsg update 1 5 stale 22:bid:u32:105\nrequest 1\nmsg recap 1 5 ok 22:bid:u32:105 25:ask:u32:104\nquality ok 5\nimage ok 1 5 22:bid:u32:105 25:ask:u32:104\n"
+    );
     // no recap comes
     let stale = [
         (I, 1, 0, 100, 0),
@@ -155,7 +166,10 @@ fn gaps_are_told_and_healed(rt: HostRuntime) -> Result<(), Fail> {
         (U, 1, 3, 102, 0),
         (U, 1, 4, 0, 104),
     ];
-    assert_eq!(rt; told(rt.alloc(), SubKind::Market, 10, &stale)?.as_str(), "msg initial 1 0 ok 22:bid:u32:100\nmsg update 1 1 ok 22:bid:u32:101\ngap 2 2\nquality stale 1\nrequest 1\nmsg update 1 3 stale 22:bid:u32:102\nmsg update 1 4 stale 25:ask:u32:104\nimage stale 1 4 22:bid:u32:102 25:ask:u32:104\n");
+    assert_eq!(rt;
+        told(rt.alloc(), SubKind::Market, 10, &stale)?.as_str(),
+        "msg initial 1 0 ok 22:bid:u32:100\nmsg update 1 1 ok 22:bid:u32:101\ngap 2 2\nquality stale 1\nrequest 1\nmsg update 1 3 stale 22:bid:u32:102\nmsg update 1 4 stale 25:ask:u32:104\nimage stale 1 4 22:bid:u32:102 25:ask:u32:104\n"
+    );
     Ok(())
 }
 
@@ -169,7 +183,10 @@ fn cached_updates_are_handled(rt: HostRuntime) -> Result<(), Fail> {
         (I, 1, 3, 3, 0),
         (R, 1, 4, 4, 0),
     ];
-    assert_eq!(rt; told(rt.alloc(), SubKind::Market, 2, &cached)?.as_str(), "msg initial 1 3 ok 22:bid:u32:3\ngap 4 4\nquality stale 3\nrequest 1\nmsg update 1 5 stale 22:bid:u32:5\nmsg update 1 6 stale 22:bid:u32:6\nmsg recap 1 4 ok 22:bid:u32:4\nquality ok 6\nimage ok 1 6 22:bid:u32:6\n");
+    assert_eq!(rt;
+        told(rt.alloc(), SubKind::Market, 2, &cached)?.as_str(),
+        "msg initial 1 3 ok 22:bid:u32:3\ngap 4 4\nquality stale 3\nrequest 1\nmsg update 1 5 stale 22:bid:u32:5\nmsg update 1 6 stale 22:bid:u32:6\nmsg recap 1 4 ok 22:bid:u32:4\nquality ok 6\nimage ok 1 6 22:bid:u32:6\n"
+    );
     // a cache of size 0 keeps nothing
     let none = [
         (U, 1, 1, 101, 0),
@@ -178,21 +195,22 @@ fn cached_updates_are_handled(rt: HostRuntime) -> Result<(), Fail> {
         (U, 1, 3, 102, 0),
         (R, 1, 3, 102, 103),
     ];
-    assert_eq!(rt; told(rt.alloc(), SubKind::Market, 0, &none)?.as_str(), "msg initial 1 0 ok 22:bid:u32:100\ngap 1 2\nquality stale 0\nrequest 1\nmsg update 1 3 stale 22:bid:u32:102\nmsg recap 1 3 ok 22:bid:u32:102 25:ask:u32:103\nquality ok 3\nimage ok 1 3 22:bid:u32:102 25:ask:u32:103\n");
+    assert_eq!(rt;
+        told(rt.alloc(), SubKind::Market, 0, &none)?.as_str(),
+        "msg initial 1 0 ok 22:bid:u32:100\ngap 1 2\nquality stale 0\nrequest 1\nmsg update 1 3 stale 22:bid:u32:102\nmsg recap 1 3 ok 22:bid:u32:102 25:ask:u32:103\nquality ok 3\nimage ok 1 3 22:bid:u32:102 25:ask:u32:103\n"
+    );
     // one of size 1 keeps the highest number
-    let one = [
-        (U, 1, 2, 102, 0),
-        (U, 1, 1, 101, 0),
-        (I, 1, 0, 100, 0),
-    ];
-    assert_eq!(rt; told(rt.alloc(), SubKind::Market, 1, &one)?.as_str(), "msg initial 1 0 ok 22:bid:u32:100\ngap 1 1\nquality stale 0\nrequest 1\nmsg update 1 2 stale 22:bid:u32:102\nimage stale 1 2 22:bid:u32:102\n");
+    let one = [(U, 1, 2, 102, 0), (U, 1, 1, 101, 0), (I, 1, 0, 100, 0)];
+    assert_eq!(rt;
+        told(rt.alloc(), SubKind::Market, 1, &one)?.as_str(),
+        "msg initial 1 0 ok 22:bid:u32:100\ngap 1 1\nquality stale 0\nrequest 1\nmsg update 1 2 stale 22:bid:u32:102\nimage stale 1 2 22:bid:u32:102\n"
+    );
     // another sender's updates are dropped
-    let other = [
-        (U, 1, 1, 101, 0),
-        (U, 2, 1, 201, 0),
-        (I, 2, 0, 200, 0),
-    ];
-    assert_eq!(rt; told(rt.alloc(), SubKind::Market, 10, &other)?.as_str(), "msg initial 2 0 ok 22:bid:u32:200\nmsg update 2 1 ok 22:bid:u32:201\nimage ok 2 1 22:bid:u32:201\n");
+    let other = [(U, 1, 1, 101, 0), (U, 2, 1, 201, 0), (I, 2, 0, 200, 0)];
+    assert_eq!(rt;
+        told(rt.alloc(), SubKind::Market, 10, &other)?.as_str(),
+        "msg initial 2 0 ok 22:bid:u32:200\nmsg update 2 1 ok 22:bid:u32:201\nimage ok 2 1 22:bid:u32:201\n"
+    );
     Ok(())
 }
 
@@ -205,16 +223,34 @@ fn senders_and_kinds_differ(rt: HostRuntime) -> Result<(), Fail> {
         (R, 2, 1, 201, 0),
         (R, 1, 0, 100, 0),
     ];
-    assert_eq!(rt; told(rt.alloc(), SubKind::Market, 10, &senders)?.as_str(), "msg initial 1 0 ok 22:bid:u32:100\nquality stale 0\nrequest 2\nmsg update 2 1 stale 22:bid:u32:201\nmsg recap 2 1 ok 22:bid:u32:201\nquality ok 1\nmsg recap 1 0 ok 22:bid:u32:100\nimage ok 1 0 22:bid:u32:100\n");
+    assert_eq!(rt;
+        told(rt.alloc(), SubKind::Market, 10, &senders)?.as_str(),
+        "msg initial 1 0 ok 22:bid:u32:100\nquality stale 0\nrequest 2\nmsg update 2 1 stale 22:bid:u32:201\nmsg recap 2 1 ok 22:bid:u32:201\nquality ok 1\nmsg recap 1 0 ok 22:bid:u32:100\nimage ok 1 0 22:bid:u32:100\n"
+    );
     let all = [
         (I, 1, 0, 100, 0),
         (U, 1, 1, 101, 0),
         (U, 1, 2, 0, 103),
         (U, 1, 3, 102, 0),
     ];
-    assert_eq!(rt; told(rt.alloc(), SubKind::Market, 10, &all)?.as_str(), "msg initial 1 0 ok 22:bid:u32:100\nmsg update 1 1 ok 22:bid:u32:101\nmsg update 1 2 ok 25:ask:u32:103\nmsg update 1 3 ok 22:bid:u32:102\nimage ok 1 3 22:bid:u32:102 25:ask:u32:103\n");
-    assert_eq!(rt; told(rt.alloc(), SubKind::Snapshot, 10, &all)?.as_str(), "msg initial 1 0 ok 22:bid:u32:100\nimage ok 1 0 22:bid:u32:100\n");
-    assert_eq!(rt; told(rt.alloc(), SubKind::Basic, 10, &[(U, 1, 5, 105, 0), (U, 1, 1, 101, 0)])?.as_str(), "msg update 1 5 ok 22:bid:u32:105\nmsg update 1 1 ok 22:bid:u32:101\n");
+    assert_eq!(rt;
+        told(rt.alloc(), SubKind::Market, 10, &all)?.as_str(),
+        "msg initial 1 0 ok 22:bid:u32:100\nmsg update 1 1 ok 22:bid:u32:101\nmsg update 1 2 ok 25:ask:u32:103\nmsg update 1 3 ok 22:bid:u32:102\nimage ok 1 3 22:bid:u32:102 25:ask:u32:103\n"
+    );
+    assert_eq!(rt;
+        told(rt.alloc(), SubKind::Snapshot, 10, &all)?.as_str(),
+        "msg initial 1 0 ok 22:bid:u32:100\nimage ok 1 0 22:bid:u32:100\n"
+    );
+    assert_eq!(rt;
+        told(
+            rt.alloc(),
+            SubKind::Basic,
+            10,
+            &[(U, 1, 5, 105, 0), (U, 1, 1, 101, 0)]
+        )?
+        .as_str(),
+        "msg update 1 5 ok 22:bid:u32:105\nmsg update 1 1 ok 22:bid:u32:101\n"
+    );
     Ok(())
 }
 
@@ -309,7 +345,11 @@ fn each_cell_has_its_action(rt: HostRuntime) {
     ];
     for (phase, update, actions) in rows {
         for (i, action) in actions.iter().enumerate() {
-            assert_eq!(rt; decide(phase, relations[i], update), *action, "{phase:?} {i} {update}");
+            assert_eq!(rt;
+                decide(phase, relations[i], update),
+                *action,
+                "{phase:?} {i} {update}"
+            );
         }
     }
 }
