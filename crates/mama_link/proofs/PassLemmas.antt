@@ -1,7 +1,7 @@
 -- What a pass puts out and leaves, by the slots.
 use Rattle.std.proofs.Common.{◌≡◌, ℕ, ◌+◌, ◌<◌, ◌≤◌, Bool, true, false, not, List, [], ◌∷◌, ◌++◌, length, map, filter, Option, None, Some, is_some, refl, sym, ◌∙◌, ap, arith, rules, append-nil, length-append, subst, ◌-◌, get_or, if◌then◌else◌}
-use Rattle.std.specs.Prelude.{option_to_list, IsSome}
-use Rattle.std.specs.List.{AllByRecursion}
+use Rattle.std.specs.Prelude.{option_to_list, IsSome, slice_get}
+use Rattle.std.specs.List.{AllByRecursion, flat_map}
 use Rattle.std.proofs.lemmas.List.Elements.{recursion_from_All}
 use Rattle.std.proofs.lemmas.List.Filters.{length-filter_both}
 use Rattle.std.proofs.lemmas.List.{length-map}
@@ -9,11 +9,11 @@ use Rattle.mama_link.specs.declared.faults.Fault.{Fault}
 use Rattle.mama_link.specs.declared.faults.FaultRow.{FaultRow}
 use Rattle.mama_link.specs.Faults.{fault_at}
 use Rattle.mama_link.specs.Table.{IsTable, slots_due, table_of}
-use Rattle.mama_link.specs.Link.{is_due, messages, copies, held_back, at_place, coming, standing_next, Standing, StandsFor, emit, LinkData}
+use Rattle.mama_link.specs.Link.{is_due, messages, copies, held_back, at_place, coming, standing_next, Standing, StandsFor, emit, rest, LinkData}
 use Rattle.mama_link.specs.Prepared.{Readied, IsPreparedFor}
-use Rattle.mama_link.specs.Slots.{no_entry, held_in, due_in, without_due, found_at, taken_at, emptied_at, IsCaughtUp, IsKept}
-use Rattle.mama_link.proofs.SlotLemmas.{AreTold, held_in-push, due-held_in, kept-held_in, length-without_due, length-held_in, found_at-due, taken_at-due, emptied_at-due}
-use Rattle.mama_link.proofs.CursorLemmas.{is_next, caught_up-fault, caught_up-none, holds_by_more}
+use Rattle.mama_link.specs.Slots.{no_entry, fault_here, held_in, due_in, without_due, found_at, taken_at, emptied_at, IsCaughtUp, IsKept}
+use Rattle.mama_link.proofs.SlotLemmas.{AreTold, held_in-push, due-held_in, kept-held_in, length-without_due, length-held_in, found_at-due, taken_at-due, emptied_at-due, messages-held_in}
+use Rattle.mama_link.proofs.CursorLemmas.{cursor_tells, is_next, caught_up-fault, caught_up-none, holds_by_more}
 use Rattle.mama_link.proofs.LinkLemmas.{stands-next, coming-is-emit}
 
 length-at_place : {T : Type 0} (place : ℕ) (message : Option T) → length (at_place place message) ≡ length (option_to_list message)
@@ -173,3 +173,40 @@ standing_along {T} rows x passed passed' slots slots' stands p s =
 pub length-option_to_list : {T : Type 0} (o : Option T) → length (option_to_list o) ≤ 1
 length-option_to_list None = omega arith
 length-option_to_list (Some x) = omega arith
+
+-- ---- before a pass
+
+-- what is made ready for the next pass is prepared for the link
+pub is_prepared : {T : Type 0} (rows : List FaultRow) (passed count room : ℕ) (slots : List (Option T)) → IsTable rows (table_of rows) → IsKept (table_of rows) passed count slots →
+    (fault : Option Fault) (message : T) (due : ℕ) → fault ≡ fault_here (slice_get (table_of rows) (length slots)) (passed + 1) → due ≡ length (found_at (slots_due (passed + 1) 0 (table_of rows)) slots) →
+    (IsSome fault → 0 < room) → IsPreparedFor (seen rows passed room slots) (record { place = passed + 1; fault = fault; message = message; len = length (copies fault message) + due })
+is_prepared {T} rows passed count room slots is kept fault message due here counts room_for =
+    let tells : fault ≡ fault_at rows (passed + 1) = here ∙ cursor_tells rows (table_of rows) passed (length slots) is kept.caught_up in
+    let ends : List T = messages (filter (is_due rows (passed + 1)) (held_in (table_of rows) slots)) in
+    record {
+      place = refl;
+      fault = tells;
+      len = ap (λ (n : ℕ). length (copies fault message) + n) (counts ∙ ap length (found-is-due rows (table_of rows) passed slots is kept.caught_up))
+          ∙ sym (length-append (copies fault message) ends) ∙ ap (λ (f : Option Fault). length (copies f message ++ ends)) tells;
+      room = room_for;
+    }
+
+-- its length is that of what its place emits
+pub prepared_len : {T : Type 0} (rows : List FaultRow) (passed room : ℕ) (slots : List (Option T)) → IsTable rows (table_of rows) → (prepared : Readied T) →
+    IsPreparedFor (seen rows passed room slots) prepared → (x : List T) → StandsFor x (seen rows passed room slots).standing → prepared.len ≡ length (emit rows (x ++ prepared.message ∷ []) (length x + 1))
+prepared_len rows passed room slots is prepared for x stands =
+    for.len ∙ ap length (coming-is-emit (seen rows passed room slots).standing x prepared.message (holds_by_more rows is.sound) stands)
+
+-- ---- the end
+
+-- as many messages stand in slots as are counted
+pub length-slots : {T : Type 0} (table : List (ℕ × Fault)) (passed count : ℕ) (slots : List (Option T)) → IsKept table passed count slots → length (flat_map option_to_list slots) ≡ count
+length-slots table passed count slots kept =
+    ap length (sym (messages-held_in table slots kept.caught_up.within)) ∙ length-map (held_in table slots) (λ (entry : ℕ × _). entry.1) ∙ sym kept.counted
+
+-- they are what the link's end puts out
+pub slots-are-rest : {T : Type 0} (rows : List FaultRow) (passed count room : ℕ) (slots : List (Option T)) (link : LinkData T) → seen rows passed room slots ≡ link → IsKept (table_of rows) passed count slots →
+    (x : List T) → StandsFor x link.standing → flat_map option_to_list slots ≡ rest link.standing.rows x
+slots-are-rest {T} rows passed count room slots link is_seen kept x stands =
+    sym (messages-held_in (table_of rows) slots kept.caught_up.within)
+    ∙ ap (λ (l : LinkData T). messages l.standing.held) is_seen ∙ ap (λ (s : Standing T). messages s.held) stands

@@ -61,6 +61,7 @@ impl<T: Duplicate> Link<T> {
     fn ready(&mut self, message: T) -> Result<Prepared<T>, T>
         ensures prepared { IfOk result (λ prepared. IsPreparedFor self.new prepared) }
         ensures message { IfOk result (λ prepared. prepared.message ≡ message) }
+        ensures len { IfOk result (λ prepared. (x : List T) → StandsFor x self.old.standing → prepared.len ≡ length (emit self.old.standing.rows (x ++ message ∷ []) (length x + 1))) }
         ensures refused { IfErr result (λ back. back ≡ message) }
         ensures standing { self.new.standing ≡ self.old.standing }
         ensures room { self.old.room ≤ self.new.room }

@@ -1,4 +1,4 @@
-use Rattle.std.proofs.Common.{◌≡◌, ◌∙◌, ◌+◌, ◌-◌, ◌++◌, ◌∷◌, [], ℕ, List, Option, is_some, IsSome, option_to_list, append_assoc, sym, ap, length, arith, if◌then◌else◌, IsTrue}
+use Rattle.std.proofs.Common.{rules, ◌≡◌, ◌∙◌, ◌+◌, ◌-◌, ◌++◌, ◌∷◌, [], ℕ, List, Option, is_some, IsSome, option_to_list, append_assoc, sym, ap, length, arith, if◌then◌else◌, IsTrue}
 use Rattle.mama_link.specs.Table.{table_of, slots_due}
 use Rattle.mama_link.specs.Link.{held_back, copies, emit, StandsFor}
 use Rattle.mama_link.specs.Slots.{taken_at, emptied_at}
@@ -41,7 +41,10 @@ keep-requires g c =
     let table = table_of c.self.inside.faults in
     let dues : c.due_at.result.now ≡ slots_due c.args.prepared.place 0 table = c.due_at.ensures.due ∙ ap (λ (n : ℕ). slots_due n 0 table) c.place-place.ensures in
     let taken = ap (λ (ds : List ℕ). length (taken_at ds slots)) dues in
-    ?
+    λ faulty.
+        let some : IsSome c.args.prepared.fault = search rules in
+        let room = e.room_for some in
+        omega (arith, room, c.release-released.ensures.len, c.release-released.ensures.capacity)
 
 pub invariant_of-self : goal.invariant_of-self
 invariant_of-self g c =
