@@ -66,9 +66,9 @@ parted_again w ws are =
     let full : list_any is_empty_word (words (w ++ flat_map spaced ws)) ≡ false = ap (list_any is_empty_word) read ∙ none_empty (w ∷ ws) are in
     let line = w ++ flat_map spaced ws in
     let test : is_parted line ≡ true =
-        and_from (list_all is_plain line && is_outside (place_after Outside line)) (not (list_any is_empty_word (words line)))
-          (and_from (list_all is_plain line) (is_outside (place_after Outside line)) (plain_sentence w ws are) outside)
-          (not_from_false (list_any is_empty_word (words line)) full) in
+    and_from (list_all is_plain line && is_outside (place_after Outside line)) (not (list_any is_empty_word (words line)))
+    (and_from (list_all is_plain line) (is_outside (place_after Outside line)) (plain_sentence w ws are) outside)
+    (not_from_false (list_any is_empty_word (words line)) full) in
     ap (λ (b : Bool). cond b (Some (words line)) None) test ∙ ap (λ (xs : List (List ℕ)). Some xs) read
 
 -- ---- the words of a line make the line

@@ -48,7 +48,7 @@ all_simple p (b ∷ bs) each h = let q = and_parts (p b) (list_all p bs) h in an
 simple_from : (b : ℕ) → 35 ≤ b → b ≤ 126 → is_simple b ≡ true
 simple_from b low high =
     and_from (is_plain b) (not (b == 32) && not (b == 34)) (and_from (leb 32 b) (leb b 126) (le-leb 32 b (omega (arith, low))) (le-leb b 126 high))
-      (and_from (not (b == 32)) (not (b == 34)) (not_from_false (b == 32) (ne_eqb b 32 (λ e. omega (arith, e)))) (not_from_false (b == 34) (ne_eqb b 34 (λ e. omega (arith, e)))))
+    (and_from (not (b == 32)) (not (b == 34)) (not_from_false (b == 32) (ne_eqb b 32 (λ e. omega (arith, e)))) (not_from_false (b == 34) (ne_eqb b 34 (λ e. omega (arith, e)))))
 
 digit_simple : (b : ℕ) → is_digit b ≡ true → is_simple b ≡ true
 digit_simple b h = let p = and_parts (leb 48 b) (leb b 57) h in let low = leb-true 48 b p.0 in let high = leb-true b 57 p.1 in simple_from b (omega (arith, low)) (omega (arith, high))
@@ -63,14 +63,14 @@ pub decimal_word : (n : ℕ) → n < 2 ^ 64 → IsWord (decimal n)
 decimal_word n lt = record { piece = decimal_piece n lt; some = nonempty (decimal n) (decimal_nonempty n lt) }
 
 word_cons : (b : ℕ) (bs : List ℕ) → is_simple b ≡ true → IsPiece bs → IsWord (b ∷ bs)
-word_cons b bs h p = record { piece = piece_cons b bs h p; some = refl }
+word_cons b bs h p = record { piece = piece_cons b bs h p; some = nonempty (b ∷ bs) (omega arith) }
 
 pub id_word : (letter : ℕ) (id : IdWord) → is_simple letter ≡ true → IsId id → IsWord (id_text letter id)
 id_word letter id simple fits = word_cons letter (numbers_text id) simple (piece_append (decimal id.client) (46 ∷ decimal id.number) (decimal_piece id.client fits.client) (piece_cons 46 (decimal id.number) refl (decimal_piece id.number fits.number)))
 
 -- a word of simple bytes
 fixed_word : (b : ℕ) (bs : List ℕ) → list_all is_simple (b ∷ bs) ≡ true → IsWord (b ∷ bs)
-fixed_word b bs h = record { piece = piece_simple (b ∷ bs) h; some = refl }
+fixed_word b bs h = record { piece = piece_simple (b ∷ bs) h; some = nonempty (b ∷ bs) (omega arith) }
 
 pub sub_kind_word : (k : SubKind) → IsWord (sub_kind_text k)
 sub_kind_word Market = fixed_word _ _ refl
@@ -100,7 +100,7 @@ inside_text (b ∷ bs) = place_after-append Inside (escaped b) (flat_map escaped
 gap_step : (b : ℕ) (quote backslash : Bool) → (b == 34) ≡ quote → (b == 92) ≡ backslash → has_gap Inside (escaped b) ≡ false
 gap_step b true backslash p q = rw p refl
 gap_step b false true p q = rw (p, q) refl
-gap_step b false false p q = rw (p, q) (rw (p, q) refl)
+gap_step b false false p q = rw (p, q) refl
 
 gap_text : (t : List ℕ) → has_gap Inside (flat_map escaped t) ≡ false
 gap_text [] = refl
@@ -124,7 +124,7 @@ quoted_piece t h = record {
 }
 
 pub quoted_word : (t : List ℕ) → IsPrintable t → IsWord (quoted t)
-quoted_word t h = record { piece = quoted_piece t h; some = refl }
+quoted_word t h = record { piece = quoted_piece t h; some = nonempty (quoted t) (omega arith) }
 
 -- ---- values and fields
 
@@ -199,9 +199,9 @@ alphanumeric_simple : (b : ℕ) → is_ascii_alphanumeric b ≡ true → is_simp
 alphanumeric_simple b h =
     elim (or_cases (is_in_range 48 57 b || is_in_range 65 90 b) (is_in_range 97 122 b) h) [
       | inl p ↦ elim (or_cases (is_in_range 48 57 b) (is_in_range 65 90 b) p) [
-          | inl q ↦ range_simple 48 57 b (omega arith) (omega arith) q
-          | inr q ↦ range_simple 65 90 b (omega arith) (omega arith) q
-        ]
+        | inl q ↦ range_simple 48 57 b (omega arith) (omega arith) q
+        | inr q ↦ range_simple 65 90 b (omega arith) (omega arith) q
+      ]
       | inr p ↦ range_simple 97 122 b (omega arith) (omega arith) p
     ]
 
@@ -239,10 +239,10 @@ fid_words (f ∷ fs) h =
     (decimal_word f (omega (arith, lt)), fid_words fs p.1)
 
 pub order_word : (o : OrderWord) → IsOrder o → AreWords (order_words o)
-order_word (Stop id) h = (fixed_word _ _ refl, id_word 115 id refl h, tt)
-order_word (Disarm id) h = (fixed_word _ _ refl, id_word 116 id refl h, tt)
-order_word (Close id) h = (fixed_word _ _ refl, id_word 105 id refl h, tt)
-order_word (Ask id topic fids) h = (fixed_word _ _ refl, id_word 105 id refl h.0, decimal_word topic h.1, fid_words fids h.3)
+order_word (Stop id) h = (fixed_word _ _ refl, (id_word 115 id refl h, tt))
+order_word (Disarm id) h = (fixed_word _ _ refl, (id_word 116 id refl h, tt))
+order_word (Close id) h = (fixed_word _ _ refl, (id_word 105 id refl h, tt))
+order_word (Ask id topic fids) h = (fixed_word _ _ refl, (id_word 105 id refl h.0, (decimal_word topic h.1, fid_words fids h.3)))
 
 -- ---- what is printed is the words in a row
 

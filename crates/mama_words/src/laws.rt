@@ -67,8 +67,7 @@ pub fn lines_are_words()
     ensures joined { (line : List ℕ) → sentence (words line) ≡ line }
     ensures found { (line : List ℕ) (ws : List (List ℕ)) → parted_in line ≡ Some ws → line ≡ sentence ws }
     ensures again { (w : List ℕ) (ws : List (List ℕ)) → AreWords (w ∷ ws) → parted_in (sentence (w ∷ ws)) ≡ Some (w ∷ ws) }
-{
-}
+{}
 
 /// Each spelling is a word, or words in a row.
 pub fn spellings_are_words()
@@ -84,5 +83,4 @@ pub fn spellings_are_words()
     ensures message_row { (fs : List FieldData) → fields_text fs ≡ flat_map spaced (map field_text fs) }
     ensures order { (o : OrderWord) → IsOrder o → AreWords (order_words o) }
     ensures order_row { (o : OrderWord) → order_text o ≡ sentence (order_words o) }
-{
-}
+{}
