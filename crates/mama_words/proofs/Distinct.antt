@@ -33,16 +33,16 @@ distinct_push (g ∷ m) f d h =
     let parts = and_parts (not (has_key (key_of g) m)) (are_distinct m) d in
     let fresh = or_parts (same_key (key_of g) (key_of f)) (has_key (key_of f) m) h in
     let none : has_key (key_of g) (m ++ f ∷ []) ≡ false =
-        list_any-append (λ x. same_key (key_of x) (key_of g)) m (f ∷ [])
-        ∙ or_from (has_key (key_of g) m) (same_key (key_of f) (key_of g) || false) (not-true (has_key (key_of g) m) parts.0) (or_from (same_key (key_of f) (key_of g)) false (same_key_comm (key_of f) (key_of g) ∙ fresh.0) refl) in
+    list_any-append (λ x. same_key (key_of x) (key_of g)) m (f ∷ [])
+    ∙ or_from (has_key (key_of g) m) (same_key (key_of f) (key_of g) || false) (not-true (has_key (key_of g) m) parts.0) (or_from (same_key (key_of f) (key_of g)) false (same_key_comm (key_of f) (key_of g) ∙ fresh.0) refl) in
     and_from (not (has_key (key_of g) (m ++ f ∷ []))) (are_distinct (m ++ f ∷ [])) (not_from_false (has_key (key_of g) (m ++ f ∷ [])) none) (distinct_push m f parts.1 fresh.1)
 
 -- a field whose key an earlier field has
 bad_step : (g : FieldData) (m : List FieldData) (f : FieldData) (rest : List FieldData) (same : Bool) → same_key (key_of g) (key_of f) ≡ same → (has_key (key_of f) m ≡ true → are_distinct (m ++ f ∷ rest) ≡ false) → has_key (key_of f) (g ∷ m) ≡ true → are_distinct ((g ∷ m) ++ f ∷ rest) ≡ false
 bad_step g m f rest true e more h =
     let some : has_key (key_of g) (m ++ f ∷ rest) ≡ true =
-        list_any-append (λ x. same_key (key_of x) (key_of g)) m (f ∷ rest)
-        ∙ or_right (has_key (key_of g) m) (same_key (key_of f) (key_of g) || has_key (key_of g) rest) (or_left (same_key (key_of f) (key_of g)) (has_key (key_of g) rest) (same_key_comm (key_of f) (key_of g) ∙ e)) in
+    list_any-append (λ x. same_key (key_of x) (key_of g)) m (f ∷ rest)
+    ∙ or_right (has_key (key_of g) m) (same_key (key_of f) (key_of g) || has_key (key_of g) rest) (or_left (same_key (key_of f) (key_of g)) (has_key (key_of g) rest) (same_key_comm (key_of f) (key_of g) ∙ e)) in
     and_left (not (has_key (key_of g) (m ++ f ∷ rest))) (are_distinct (m ++ f ∷ rest)) (not_from_true (has_key (key_of g) (m ++ f ∷ rest)) some)
 bad_step g m f rest false e more h =
     let later : has_key (key_of f) m ≡ true = sym (ap (λ (x : Bool). x || has_key (key_of f) m) e) ∙ h in
@@ -64,9 +64,10 @@ accepted m all d e = let same : m ≡ all = sym (append-nil m) ∙ e in ap disti
 
 -- one field more was added
 pub added : (m n : List FieldData) (f : FieldData) (rest new all : List FieldData) → are_distinct m ≡ true → has_key (key_of f) m ≡ false → n ≡ m ++ f ∷ [] → rest ≡ f ∷ new → m ++ rest ≡ all → (are_distinct n ≡ true) × (n ++ new ≡ all)
-added m n f rest new all d fresh grown split e =
-    (ap are_distinct grown ∙ distinct_push m f d fresh,
-     ap (λ (xs : List FieldData). xs ++ new) grown ∙ append_assoc m (f ∷ []) new ∙ ap (λ (xs : List FieldData). m ++ xs) (sym split) ∙ e)
+added m n f rest new all d fresh grown split e = (
+  ap are_distinct grown ∙ distinct_push m f d fresh,
+  ap (λ (xs : List FieldData). xs ++ new) grown ∙ append_assoc m (f ∷ []) new ∙ ap (λ (xs : List FieldData). m ++ xs) (sym split) ∙ e,
+)
 
 abbrev failed : AddFault → Result (Unit {0}) AddFault
 failed x = Err x

@@ -102,7 +102,7 @@ fields_found (w ∷ ws) fs e =
     let f = field_found w p.0.0 q.0 in
     let more = fields_found ws p.0.1 q.1 in
     subst (λ (x : List FieldData). AllByRecursion IsField x × (w ∷ ws ≡ map field_text x)) (ok_is (p.0.0 ∷ p.0.1) fs p.2)
-      ((f.0, more.0), ap (λ (x : List ℕ). x ∷ ws) f.1 ∙ ap (λ (x : List (List ℕ)). field_text p.0.0 ∷ x) more.1)
+    ((f.0, more.0), ap (λ (x : List ℕ). x ∷ ws) f.1 ∙ ap (λ (x : List (List ℕ)). field_text p.0.0 ∷ x) more.1)
 
 pub message_again : (fs : List FieldData) → IsMessage fs → message_in (map field_text fs) ≡ Ok fs
 message_again fs is = rw (fields_again fs is.fields, is.distinct) refl

@@ -14,3 +14,5 @@ pub mod KindLaws
 pub mod ValueLaws
 pub mod FieldLaws
 pub mod OrderLaws
+pub mod Sentences
+pub mod Spellings

@@ -161,10 +161,10 @@ int_in_narrow w half text z (Ok y) e is fits =
     ap (λ (x : ℤ). Some x) fits.1 ∙ sym (int_of_any half text z p.1 (within_fits w half z e fits.0))
 int_in_narrow w half text z (Err d) e is fits =
     sym (none_int (int_in half text) (λ y h.
-        let p = any_int_of half text y h in
-        let q = any_int_of (2 ^ 63) text z (sym is) in
-        let same : z ≡ y = some_is z y (sym q.1 ∙ p.1) in
-        fits (fits_within w half z e (rw same p.0))))
+    let p = any_int_of half text y h in
+    let q = any_int_of (2 ^ 63) text z (sym is) in
+    let same : z ≡ y = some_is z y (sym q.1 ∙ p.1) in
+    fits (fits_within w half z e (rw same p.0))))
 
 pub int_in_cast : {E : Type 0} (w : Width) (half : ℕ) (text : List ℕ) (z : ℤ) (r : Result ℤ E) → half ≡ 2 ^ hbits w → Some z ≡ int_in (2 ^ 63) text → OkIff r (FitsSigned w (to_z w64 (of_z w64 z))) (to_z w64 (of_z w64 z)) → result_ok r ≡ int_in half text
 int_in_cast w half text z r e is fits =

@@ -63,7 +63,7 @@ fids_found (w ∷ ws) fids e =
     let f = between_found w p.0 p.1 in
     let more = fids_found ws q.0 q.1 in
     subst (λ (x : List ℕ). (are_small x ≡ true) × (w ∷ ws ≡ map decimal x)) q.2
-      (and_from (ltb p.0 (2 ^ 16)) (are_small q.0) (lt-ltb p.0 (2 ^ 16) f.1) more.0, ap (λ (x : List ℕ). x ∷ ws) f.2 ∙ ap (λ (x : List (List ℕ)). decimal p.0 ∷ x) more.1)
+    (and_from (ltb p.0 (2 ^ 16)) (are_small q.0) (lt-ltb p.0 (2 ^ 16) f.1) more.0, ap (λ (x : List ℕ). x ∷ ws) f.2 ∙ ap (λ (x : List (List ℕ)). decimal p.0 ∷ x) more.1)
 
 fid_list_parts : (fids : List ℕ) → is_fid_list fids ≡ true → (1 ≤ length fids) × (length fids ≤ 8) × (is_ascending_above 0 fids ≡ true)
 fid_list_parts fids h =
@@ -98,9 +98,9 @@ ask_found inbox topic ws o e =
     let f = asked_found ws c.0 c.1 in
     let head = order_kind_text kinds.Ask in
     let same : order_words (Ask a.0 b.0 c.0) ≡ head ∷ inbox ∷ topic ∷ ws =
-        ap (λ (x : List ℕ). head ∷ x ∷ decimal b.0 ∷ map decimal c.0) (sym i.1) ∙ ap (λ (x : List ℕ). head ∷ inbox ∷ x ∷ map decimal c.0) (sym t.1) ∙ ap (λ (x : List (List ℕ)). head ∷ inbox ∷ topic ∷ x) (sym f.2) in
+    ap (λ (x : List ℕ). head ∷ x ∷ decimal b.0 ∷ map decimal c.0) (sym i.1) ∙ ap (λ (x : List ℕ). head ∷ inbox ∷ x ∷ map decimal c.0) (sym t.1) ∙ ap (λ (x : List (List ℕ)). head ∷ inbox ∷ topic ∷ x) (sym f.2) in
     subst (λ (x : OrderWord). IsOrder x × (kind_word : List ℕ) × (order_words x ≡ kind_word ∷ inbox ∷ topic ∷ ws) × (kind_word ≡ order_kind_text kinds.Ask)) (ok_is (Ask a.0 b.0 c.0) o c.2)
-      ((i.0, t.0, f.0, f.1), order_kind_text kinds.Ask, same, refl)
+    ((i.0, t.0, f.0, f.1), order_kind_text kinds.Ask, same, refl)
 
 ask_of : (inbox topic fid : List ℕ) (fids : List (List ℕ)) → length fids < 8 → order_of kinds.Ask (inbox ∷ topic ∷ fid ∷ fids) ≡ ask_in inbox topic (fid ∷ fids)
 unfolding order_of

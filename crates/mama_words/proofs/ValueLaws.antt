@@ -120,7 +120,7 @@ hex_found (high ∷ low ∷ rest) bs e =
     let pair = pair_found high low p.0 p.1 in
     let more = hex_found rest q.0 q.1 in
     subst (λ (x : List ℕ). (are_bytes x ≡ true) × (high ∷ low ∷ rest ≡ flat_map hex_pair x)) q.2
-      (and_from (ltb p.0 (2 ^ 8)) (are_bytes q.0) (lt-ltb p.0 (2 ^ 8) pair.0) more.0, ap (λ (t : List ℕ). high ∷ low ∷ t) more.1 ∙ ap (λ (t : List ℕ). t ++ flat_map hex_pair q.0) (sym pair.1))
+    (and_from (ltb p.0 (2 ^ 8)) (are_bytes q.0) (lt-ltb p.0 (2 ^ 8) pair.0) more.0, ap (λ (t : List ℕ). high ∷ low ∷ t) more.1 ∙ ap (λ (t : List ℕ). t ++ flat_map hex_pair q.0) (sym pair.1))
 
 if_short_is : (o : Option (List ℕ)) (bs : List ℕ) → if_short o ≡ Some bs → (length bs ≤ 255) × (o ≡ Some bs)
 if_short_is None bs e = absurd cc
@@ -180,7 +180,7 @@ price_found text p e =
     let d = below_in_found 19 a.0.1 c.0 c.1 in
     let split = cut_at_split 47 text a.0 a.1 in
     subst (λ (x : PriceData). (is_within (2 ^ 63) x.mantissa ≡ true) × (x.decimals ≤ 18) × (text ≡ price_text x)) c.2
-      (m.0, omega (arith, d.0), split ∙ ap (λ (t : List ℕ). t ++ 47 ∷ a.0.1) m.1 ∙ ap (λ (t : List ℕ). int_decimal b.0 ++ 47 ∷ t) d.1)
+    (m.0, omega (arith, d.0), split ∙ ap (λ (t : List ℕ). t ++ 47 ∷ a.0.1) m.1 ∙ ap (λ (t : List ℕ). int_decimal b.0 ++ 47 ∷ t) d.1)
 
 -- ---- values
 

@@ -1,5 +1,6 @@
 pub mod Reading
 pub mod Parting
+pub mod Sentence
 pub mod Number
 pub mod Quote
 pub mod Kind

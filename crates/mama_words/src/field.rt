@@ -2,12 +2,12 @@ ghost use Rattle.std.specs.Prelude.{◌≡◌, ◌++◌, map, OnOk, OnErr};
 ghost use Rattle.mama_words.specs.Reading.{Gives, or_fault};
 ghost use Rattle.mama_words.specs.Field as fields;
 
-use mama_edge::print_u64;
 use crate::error::ReadError;
 use crate::number::read_below;
 use crate::parting::cut_at;
 use crate::value::{put_value, read_value, type_of};
 use crate::value_type::{put_type, read_type};
+use mama_edge::print_u64;
 use mama_memory::OutOfMemory;
 use mama_msg::{AddFault, Field, Msg, Name};
 use std::alloc::Global;

@@ -1,9 +1,9 @@
 ghost use Rattle.std.specs.Prelude.{◌≡◌, ◌++◌, OnOk, OnErr};
 ghost use Rattle.std.specs.Option.{option_map, option_and_then};
 
-use mama_edge::print_u64;
 use crate::number::read_number;
 use crate::parting::cut_at;
+use mama_edge::print_u64;
 use mama_event::{InboxId, ObjectId, SubId, TimerId};
 use mama_memory::OutOfMemory;
 

@@ -1,5 +1,5 @@
 //! Laws of the words: what is read is spelled so, and what is spelled so is read.
-ghost use Rattle.std.specs.Prelude.{◌≡◌, ◌<◌, ◌≤◌, ◌^◌, ℕ, ℤ, true, List, map, Option, Some, Ok};
+ghost use Rattle.std.specs.Prelude.{◌≡◌, ◌<◌, ◌≤◌, ◌^◌, ℕ, ℤ, true, List, ◌∷◌, map, Option, Some, Ok};
 ghost use Rattle.mama_edge.specs.Decimal.{decimal, int_decimal};
 ghost use Rattle.mama_edge.specs.Quoted.{quoted, IsPrintable};
 ghost use Rattle.mama_event.specs.declared.market.SubKind.{SubKind};
@@ -8,12 +8,15 @@ ghost use Rattle.mama_event.specs.declared.market.Quality.{Quality};
 ghost use Rattle.mama_msg.specs.Field.{FieldData};
 ghost use Rattle.mama_words.specs.declared.id.IdWord.{IdWord};
 ghost use Rattle.mama_words.specs.declared.order.OrderWord.{OrderWord};
+ghost use Rattle.std.specs.List.{flat_map};
+ghost use Rattle.mama_words.specs.Parting.{words, parted_in};
+ghost use Rattle.mama_words.specs.Sentence.{spaced, sentence, IsWord, AreWords};
 ghost use Rattle.mama_words.specs.Number.{number_in, int_in, is_within};
 ghost use Rattle.mama_words.specs.Quote.{quoted_in};
 ghost use Rattle.mama_words.specs.Kind.{sub_kind_in, sub_kind_text, msg_kind_in, msg_kind_text, quality_in, quality_text};
 ghost use Rattle.mama_words.specs.Id.{id_in, id_text};
-ghost use Rattle.mama_words.specs.Field.{field_in, field_text, IsField, message_in, IsMessage};
-ghost use Rattle.mama_words.specs.Order.{order_in, order_words, IsOrder, IsId};
+ghost use Rattle.mama_words.specs.Field.{field_in, field_text, IsField, fields_text, message_in, IsMessage};
+ghost use Rattle.mama_words.specs.Order.{order_in, order_words, order_text, IsOrder, IsId};
 
 /// Numbers: one spelling for each.
 pub fn numbers_are_spelled()
@@ -21,15 +24,13 @@ pub fn numbers_are_spelled()
     ensures again { (n : ℕ) → n < 2 ^ 64 → number_in (decimal n) ≡ Some n }
     ensures int_found { (half : ℕ) (text : List ℕ) (z : ℤ) → int_in half text ≡ Some z → (is_within half z ≡ true) × (text ≡ int_decimal z) }
     ensures int_again { (half : ℕ) (z : ℤ) → half ≤ 2 ^ 63 → is_within half z ≡ true → int_in half (int_decimal z) ≡ Some z }
-{
-}
+{}
 
 /// Texts between quotes.
 pub fn texts_are_spelled()
     ensures found { (word text : List ℕ) → quoted_in word ≡ Some text → IsPrintable text × (word ≡ quoted text) }
     ensures again { (text : List ℕ) → IsPrintable text → quoted_in (quoted text) ≡ Some text }
-{
-}
+{}
 
 /// Kinds and qualities.
 pub fn kinds_are_spelled()
@@ -39,15 +40,13 @@ pub fn kinds_are_spelled()
     ensures msg_kind_again { (k : MsgKind) → msg_kind_in (msg_kind_text k) ≡ Some k }
     ensures quality_found { (word : List ℕ) (q : Quality) → quality_in word ≡ Some q → word ≡ quality_text q }
     ensures quality_again { (q : Quality) → quality_in (quality_text q) ≡ Some q }
-{
-}
+{}
 
 /// Ids, with any letter.
 pub fn ids_are_spelled()
     ensures found { (letter : ℕ) (word : List ℕ) (id : IdWord) → id_in letter word ≡ Some id → IsId id × (word ≡ id_text letter id) }
     ensures again { (letter : ℕ) (id : IdWord) → IsId id → id_in letter (id_text letter id) ≡ Some id }
-{
-}
+{}
 
 /// Fields, and messages as lists of words.
 pub fn fields_are_spelled()
@@ -55,12 +54,33 @@ pub fn fields_are_spelled()
     ensures again { (f : FieldData) → IsField f → field_in (field_text f) ≡ Ok f }
     ensures message_found { (words : List (List ℕ)) (fs : List FieldData) → message_in words ≡ Ok fs → IsMessage fs × (words ≡ map field_text fs) }
     ensures message_again { (fs : List FieldData) → IsMessage fs → message_in (map field_text fs) ≡ Ok fs }
-{
-}
+{}
 
 /// Orders as lists of words.
 pub fn orders_are_spelled()
     ensures found { (words : List (List ℕ)) (o : OrderWord) → order_in words ≡ Ok o → IsOrder o × (words ≡ order_words o) }
     ensures again { (o : OrderWord) → IsOrder o → order_in (order_words o) ≡ Ok o }
-{
-}
+{}
+
+/// The words of a line make the line, and words in a row are parted again.
+pub fn lines_are_words()
+    ensures joined { (line : List ℕ) → sentence (words line) ≡ line }
+    ensures found { (line : List ℕ) (ws : List (List ℕ)) → parted_in line ≡ Some ws → line ≡ sentence ws }
+    ensures again { (w : List ℕ) (ws : List (List ℕ)) → AreWords (w ∷ ws) → parted_in (sentence (w ∷ ws)) ≡ Some (w ∷ ws) }
+{}
+
+/// Each spelling is a word, or words in a row.
+pub fn spellings_are_words()
+    ensures number { (n : ℕ) → n < 2 ^ 64 → IsWord (decimal n) }
+    ensures text { (text : List ℕ) → IsPrintable text → IsWord (quoted text) }
+    ensures sub_kind { (k : SubKind) → IsWord (sub_kind_text k) }
+    ensures msg_kind { (k : MsgKind) → IsWord (msg_kind_text k) }
+    ensures quality { (q : Quality) → IsWord (quality_text q) }
+    ensures sub_id { (id : IdWord) → IsId id → IsWord (id_text 115 id) }
+    ensures timer_id { (id : IdWord) → IsId id → IsWord (id_text 116 id) }
+    ensures inbox_id { (id : IdWord) → IsId id → IsWord (id_text 105 id) }
+    ensures message { (fs : List FieldData) → IsMessage fs → AreWords (map field_text fs) }
+    ensures message_row { (fs : List FieldData) → fields_text fs ≡ flat_map spaced (map field_text fs) }
+    ensures order { (o : OrderWord) → IsOrder o → AreWords (order_words o) }
+    ensures order_row { (o : OrderWord) → order_text o ≡ sentence (order_words o) }
+{}

@@ -22,11 +22,10 @@ mod number;
 mod order;
 mod parting;
 mod quote;
-mod value;
-mod value_type;
-
 #[cfg(test)]
 mod tests;
+mod value;
+mod value_type;
 
 pub use error::ReadError;
 pub use field::{print_field, print_fields, read_field, read_message};
@@ -38,13 +37,13 @@ pub use kind::{
     print_msg_kind, print_quality, print_sub_kind, read_msg_kind, read_quality, read_sub_kind,
 };
 pub use laws::{
-    fields_are_spelled, ids_are_spelled, kinds_are_spelled, numbers_are_spelled,
-    orders_are_spelled, texts_are_spelled,
+    fields_are_spelled, ids_are_spelled, kinds_are_spelled, lines_are_words, numbers_are_spelled,
+    orders_are_spelled, spellings_are_words, texts_are_spelled,
 };
 pub use mama_memory::OutOfMemory;
 pub use number::{read_below, read_between, read_int, read_number};
 pub use order::{OrderKind, OrderWord, print_order, read_order};
 pub use parting::{Place, cut_at, parted, words};
 pub use quote::read_quoted_word;
-pub use value::{read_value, type_of};
+pub use value::{read_text, read_value, type_of};
 pub use value_type::ValueType;

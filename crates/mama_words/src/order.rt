@@ -2,12 +2,12 @@ ghost use Rattle.std.specs.Prelude.{◌≡◌, ◌++◌, ◌≤◌, length, take
 ghost use Rattle.std.specs.Option.{option_map};
 ghost use Rattle.mama_words.specs.Reading.{Gives, or_fault};
 
-use mama_edge::print_u64;
 use crate::error::ReadError;
 use crate::id::{
     IdWord, inbox_word, put_id, read_inbox_id, read_sub_id, read_timer_id, sub_word, timer_word,
 };
 use crate::number::{read_between, read_number};
+use mama_edge::print_u64;
 use mama_event::{Fids, InboxId, Order};
 use mama_memory::OutOfMemory;
 
@@ -26,7 +26,11 @@ pub enum OrderWord {
     Stop(IdWord),
     Disarm(IdWord),
     Close(IdWord),
-    Ask { inbox: IdWord, topic: u64, fids: Fids },
+    Ask {
+        inbox: IdWord,
+        topic: u64,
+        fids: Fids,
+    },
 }
 
 ghost use Rattle.mama_words.specs.Order as orders;

@@ -108,13 +108,19 @@ fn orders_and_their_faults(rt: HostRuntime) -> Result<(), Fail> {
 #[test]
 fn printers_append(rt: HostRuntime) -> Result<(), Fail> {
     let mut out = Vec::new(rt.alloc());
-    let id = mama_event::SubId { client: 3, number: 4294967295 };
+    let id = mama_event::SubId {
+        client: 3,
+        number: 4294967295,
+    };
     print_sub_kind(SubKind::Basic, &mut out)?;
     print_msg_kind(mama_event::MsgKind::Recap, &mut out)?;
     print_quality(mama_event::Quality::Stale, &mut out)?;
     print_object_id(mama_event::ObjectId::Sub(id), &mut out)?;
     print_order(&mama_event::Order::Stop(id), &mut out)?;
     print_fields(&Msg::new(rt.alloc()), &mut out)?;
-    assert_eq!(rt; out.as_slice(), b"basicrecapstales3.4294967295stop s3.4294967295".as_slice());
+    assert_eq!(rt;
+        out.as_slice(),
+        b"basicrecapstales3.4294967295stop s3.4294967295".as_slice()
+    );
     Ok(())
 }

@@ -5,12 +5,12 @@ ghost use Rattle.mama_words.specs.Parting as parts;
 ghost use Rattle.mama_words.specs.Number as numbers;
 ghost use Rattle.mama_words.specs.Value as values;
 
-use mama_edge::{print_i64, print_quoted, print_u64};
 use crate::error::ReadError;
 use crate::number::{read_below, read_int, read_number};
 use crate::parting::cut_at;
 use crate::quote::read_quoted_word;
 use crate::value_type::ValueType;
+use mama_edge::{print_i64, print_quoted, print_u64};
 use mama_memory::OutOfMemory;
 use mama_msg::{BytesValue, Price, TextValue, Value};
 use std::alloc::Global;
@@ -69,21 +69,22 @@ fn read_i32(text: &[u8]) -> Option<i32>
     i32::try_from(number).ok()
 }
 
-// A text as a value, or fault 7 where it is too long or not printable.
-fn text_value(alloc: Global, text: &[u8]) -> Result<TextValue, ReadError>
-    ensures { Gives (λ x. x) result (or_fault 7 (values.if_text (Some text.now))) }
+// A text as a value, or this fault where it is too long or not printable.
+fn text_value(alloc: Global, fault: u8, text: &[u8]) -> Result<TextValue, ReadError>
+    ensures { Gives (λ x. x) result (or_fault fault (values.if_text (Some text.now))) }
 {
     match TextValue::new(alloc, text)? {
-        None => Err(ReadError::Fault(7)),
+        None => Err(ReadError::Fault(fault)),
         Some(value) => Ok(value),
     }
 }
 
-fn read_text(alloc: Global, word: &[u8]) -> Result<TextValue, ReadError>
-    ensures { Gives (λ x. x) result (or_fault 7 (values.text_in word.now)) }
+/// The text of 0 to 255 characters that stands between quotes, where the whole word is such a text. Otherwise this fault.
+pub fn read_text(alloc: Global, fault: u8, word: &[u8]) -> Result<TextValue, ReadError>
+    ensures { Gives (λ x. x) result (or_fault fault (values.text_in word.now)) }
 {
-    let text = read_quoted_word(alloc, word)?.ok_or(ReadError::Fault(7))?;
-    text_value(alloc, &text)
+    let text = read_quoted_word(alloc, word)?.ok_or(ReadError::Fault(fault))?;
+    text_value(alloc, fault, &text)
 }
 
 fn read_digit(digit: u8) -> Option<u8>
@@ -178,7 +179,7 @@ pub fn read_value(alloc: Global, kind: ValueType, text: &[u8]) -> Result<Value, 
         ValueType::U16 => Ok(Value::U16(read_u16(text).ok_or(ReadError::Fault(7))?)),
         ValueType::U32 => Ok(Value::U32(read_u32(text).ok_or(ReadError::Fault(7))?)),
         ValueType::U64 => Ok(Value::U64(read_number(text).ok_or(ReadError::Fault(7))?)),
-        ValueType::Text => Ok(Value::Text(read_text(alloc, text)?)),
+        ValueType::Text => Ok(Value::Text(read_text(alloc, 7, text)?)),
         ValueType::Bytes => Ok(Value::Bytes(read_bytes(alloc, text)?)),
         ValueType::Price => Ok(Value::Price(read_price(text).ok_or(ReadError::Fault(7))?)),
         ValueType::Moment => Ok(Value::Moment(read_number(text).ok_or(ReadError::Fault(7))?)),
