@@ -1,3 +1,4 @@
-pub mod Steps
 pub mod Rule
+pub mod Steps
+pub mod Taker
 pub mod Values

@@ -1,6 +1,15 @@
 //! Lanes: what several ports put, in any threads, one taker takes, in the order of each port, and nothing is lost or made.
 #![tactic(auto)]
 
+mod lane;
+mod note;
+mod port;
 mod rule;
 mod steps;
+mod taker;
 mod view;
+
+pub use lane::Lane;
+pub use note::PutNote;
+pub use port::Port;
+pub use taker::Taker;
