@@ -1,8 +1,9 @@
 -- What each step does to the view of the pass that makes it.
-use Rattle.std.specs.Prelude.{ℕ, ◌+◌, List, [], ◌∷◌, ◌++◌}
+use Rattle.std.specs.Prelude.{ℕ, ◌+◌, List, [], ◌∷◌, ◌++◌, map}
 use Rattle.mama_event.specs.declared.shape.Bounds.{Bounds}
 use Rattle.mama_lane.specs.declared.view.View.{View}
 use Rattle.mama_lane.specs.declared.view.Role.TheVariants.{Taker, Port, Note, Spent}
+use Rattle.mama_lane.specs.Values.{PortValue}
 
 module _ {N : Type 0} where
   -- the opener's pass, which goes on as the taker's: nothing was made and taken yet
@@ -25,6 +26,10 @@ module _ {N : Type 0} where
   abbrev pub next_port : View N → View N
   next_port v = record { role = Port; bounds = v.bounds; number = v.made; made = 0; put = []; taken = []; learnt = []; closed = [] }
 
+  -- the opener after it was told the bounds and has made some ports
+  abbrev pub opened : Bounds → ℕ → View N
+  opened bounds ports = record { role = Taker; bounds = bounds; number = 0; made = ports; put = []; taken = []; learnt = []; closed = [] }
+
   -- put: what the port has put grows by the note
   abbrev pub with_put : View N → N → View N
   with_put v note = record v { put = v.put ++ note ∷ [] }
@@ -44,3 +49,7 @@ module _ {N : Type 0} where
   -- join: the taker knows all that the port had put
   abbrev pub with_closed : View N → View N → View N
   with_closed v port = record v { closed = v.closed ++ (port.number, port.put) ∷ [] }
+
+  -- the taker after it took in some ports, one after another
+  abbrev pub with_ended : View N → List (PortValue N) → View N
+  with_ended v ports = record v { closed = v.closed ++ map (λ p. (p.number, p.put)) ports }
