@@ -1,4 +1,10 @@
+ghost use Rattle.std.specs.Prelude.{◌≡◌, ◌↔◌, ◌<◌, ◌≤◌, true, length, slice_index, IsSome, IfSome};
+ghost use Rattle.mama_event.specs.FidList.{is_fid_list};
+
 use std::marker::Model;
+
+/// The most fids that can be asked for at once.
+pub const MOST_FIDS: usize = 8;
 
 /// 1 to 8 fids that a reply is asked to have, each from 1 and strictly ascending. They lie in the value itself.
 #[derive(Clone, Copy, Debug, PartialEq, Eq)]
@@ -21,4 +27,48 @@ impl Model for Fids {
     ghost inverse = { inside_of };
 
     ghost inverse_ok = { inside_of-list_of };
+}
+
+impl Fids {
+    /// The fids of a list: 1 to 8, each above 0, strictly ascending. `None` where the list is not of that form. It
+    /// takes no memory.
+    pub fn new(fids: &[u16]) -> Option<Fids>
+        ensures found { IfSome result (λ list. list ≡ fids.now) }
+        ensures form { IsSome result ↔ (is_fid_list fids.now ≡ true) }
+    {
+        let count = fids.len();
+        if count == 0 || count > MOST_FIDS {
+            return None;
+        }
+        let mut kept = [0; MOST_FIDS];
+        let mut before = 0;
+        for (i, fid) in fids.iter().enumerate() {
+            if *fid <= before {
+                return None;
+            }
+            kept[i] = *fid;
+            before = *fid;
+        }
+        Some(Fids {
+            length: count as u8,
+            fids: kept,
+        })
+    }
+
+    /// How many fids there are: 1 to 8.
+    pub fn len(&self) -> usize
+        ensures len { result ≡ length self.now }
+        ensures most { result ≤ 8 }
+    {
+        self.length as usize
+    }
+
+    /// The fid at a place, counted from 0.
+    pub fn at(&self, i: usize) -> u16
+        requires { i < length self.now }
+        ensures { result ≡ slice_index self.now i }
+    {
+        let fids = &self.fids;
+        fids[i]
+    }
 }

@@ -1,5 +1,8 @@
+ghost use Rattle.std.specs.Prelude.{◌≡◌, ◌↔◌, ◌<◌, ◌≤◌, ◌==◌, [], ◌∷◌, ◌++◌, length, IsOk, OnOk, OnErr, IfErr, Some, slice_get};
+
 use crate::fids::Fids;
 use crate::ids::{InboxId, SubId, TimerId};
+use mama_memory::{Duplicate, OutOfMemory};
 use std::marker::Model;
 
 /// The most orders that one callback can give.
@@ -25,8 +28,8 @@ pub enum Order {
 /// The orders of one callback, in the order in which they were given: at most 8. They lie in the value itself.
 #[derive(Debug, Drop)]
 pub struct Orders {
-    length: usize,
-    orders: [Order; 8],
+    count: usize,
+    orders: [Order; MOST_ORDERS],
 }
 
 impl Model for Orders {
@@ -35,11 +38,86 @@ impl Model for Orders {
 
     ghost Value = { List Order };
 
-    ghost use Rattle.std.specs.Prelude.{◌≤◌, take};
+    ghost use Rattle.std.specs.Prelude.{◌≡◌, ◌≤◌, length, take};
 
-    ghost view = { λ o. take o.length o.orders };
+    ghost view = { λ o. take o.count o.orders };
 
-    ghost invariant = { λ o. o.length ≤ 8 };
+    ghost invariant = { λ o. (o.count ≤ 8) × (length o.orders ≡ 8) };
+}
+
+impl Orders {
+    /// No orders. It takes no memory, nor does any call of this type.
+    pub fn new() -> Orders
+        ensures { result ≡ [] }
+    {
+        let unused = Order::Stop(SubId {
+            client: 0,
+            number: 0,
+        });
+        Orders {
+            count: 0,
+            orders: [unused; MOST_ORDERS],
+        }
+    }
+
+    /// Gives one more order, as the last. Where 8 are there, it is given back and nothing has changed.
+    pub fn push(&mut self, order: Order) -> Result<(), Order>
+        ensures room { IsOk result ↔ (length self.old < 8) }
+        ensures ok { OnOk result (self.new ≡ self.old ++ order ∷ []) }
+        ensures full { OnErr result (self.new ≡ self.old) }
+        ensures back { IfErr result (λ given. given ≡ order) }
+    {
+        if self.count >= MOST_ORDERS {
+            return Err(order);
+        }
+        self.orders[self.count] = order;
+        self.count += 1;
+        Ok(())
+    }
+
+    /// How many orders there are: at most 8.
+    pub fn len(&self) -> usize
+        ensures len { result ≡ length self.now }
+        ensures most { result ≤ 8 }
+    {
+        self.count
+    }
+
+    /// Whether there is none.
+    pub fn is_empty(&self) -> bool
+        ensures { result ≡ (length self.now == 0) }
+    {
+        self.count == 0
+    }
+
+    /// The order at a place, counted from 0.
+    pub fn at(&self, i: usize) -> &Order
+        requires { i < length self.now }
+        ensures { slice_get self.now i ≡ Some result.now }
+    {
+        let orders = &self.orders;
+        &orders[i]
+    }
+
+    /// The same orders once more.
+    pub fn copied(&self) -> Orders
+        ensures { result ≡ self.now }
+    {
+        let mut orders = Orders::new();
+        for i in 0..self.count {
+            orders.orders[i] = self.orders[i];
+        }
+        orders.count = self.count;
+        orders
+    }
+}
+
+impl Duplicate for Orders {
+    fn try_clone(&self) -> Result<Orders, OutOfMemory>
+        ensures equal { result ≡ Ok self.now }
+    {
+        Ok(self.copied())
+    }
 }
 
 /// A planned order: given in the object's callback of this number, which counts from 1 with the creation.

@@ -15,9 +15,13 @@ pub record FieldData : Type 0 where
 pub record IsKeyed (fid : ℕ) (name : List ℕ) : Type 0 where
   pub named : fid ≡ 0 → name ≢ []
 
--- the key of a field: its fid, or its name where the fid is 0
+-- the key that a fid and a name make: the fid, or the name where the fid is 0
+abbrev pub key_from : ℕ → List ℕ → Key
+key_from fid name = if fid == 0 then Named name else Numbered fid
+
+-- the key of a field
 abbrev pub key_of : FieldData → Key
-key_of f = if f.fid == 0 then Named f.name else Numbered f.fid
+key_of f = key_from f.fid f.name
 
 -- two keys are one
 abbrev pub same_key : Key → Key → Bool

@@ -27,6 +27,14 @@ updated m f = if has_key (key_of f) m then map (λ g. if same_key (key_of g) (ke
 abbrev pub apply : List FieldData → List FieldData → List FieldData
 apply m u = map (λ f. unwrap_or (with_key (key_of f) u) f) m ++ filter (λ f. not (has_key (key_of f) m)) u
 
+-- the first field with this name
+abbrev pub with_name : List ℕ → List FieldData → Option FieldData
+with_name name m = find (λ f. bytes_eq f.name name) m
+
+-- the first field with this fid
+abbrev pub with_fid : ℕ → List FieldData → Option FieldData
+with_fid fid m = find (λ f. f.fid == fid) m
+
 -- the field that a name and a fid ask for: the one with that fid, or with fid 0 the first with that name
 abbrev pub asked_for : List ℕ → ℕ → List FieldData → Option FieldData
-asked_for name fid m = if fid == 0 then find (λ f. bytes_eq f.name name) m else find (λ f. f.fid == fid) m
+asked_for name fid m = if fid == 0 then with_name name m else with_fid fid m

@@ -1,19 +1,32 @@
 -- The name of a field, as it lies in the value and as contracts see it.
-use Rattle.std.specs.Prelude.{◌≡◌, ℕ, ◌+◌, ◌-◌, ◌≤◌, List, ◌++◌, length, take, drop, replicate, refl}
+use Rattle.std.specs.Prelude.{◌≡◌, ℕ, ◌+◌, ◌-◌, ◌≤◌, Bool, true, ◌||◌, ◌==◌, List, ◌++◌, length, take, drop, replicate, refl}
+use Rattle.std.specs.Char.{is_ascii_alphanumeric}
+use Rattle.std.specs.List.{list_all}
 use Rattle.std.proofs.Common.{ap, ◌∙◌, sym, arith}
 use Rattle.std.proofs.lemmas.List.{take-append-drop, length-take-le}
 use Rattle.mama_msg.specs.declared.name.Name.TheInside.{Inside}
+
+-- a byte of a name is a letter, a digit or an underscore
+abbrev pub is_name_byte : ℕ → Bool
+is_name_byte b = is_ascii_alphanumeric b || b == 95
+
+-- the text of a name has at most 32 bytes, each a letter, a digit or an underscore
+pub record IsNameText (text : List ℕ) : Type 0 where
+  pub short : length text ≤ 32
+  pub letters : list_all is_name_byte text ≡ true
 
 -- the text of a name: as many of its bytes as its length says
 abbrev pub text_of : Inside → List ℕ
 text_of n = take n.length n.bytes
 
--- a name has at most 32 bytes; the bytes past its length are zero, so that equal texts are equal bytes
+-- a name's bytes past its length are zero, so that equal texts are equal bytes
 pub record IsPadded (n : Inside) : Type 0 where
   pub short : n.length ≤ 32
   pub size : length n.bytes ≡ 32
   pub rest : drop n.length n.bytes ≡ replicate (32 - n.length) 0
+  pub letters : list_all is_name_byte (text_of n) ≡ true
 
+-- a text, as a name keeps it
 abbrev pub inside_of : List ℕ → Inside
 inside_of text = record { length = length text; bytes = text ++ replicate (32 - length text) 0 }
 

@@ -1,63 +1,13 @@
-ghost use Rattle.std.specs.Prelude.{◌≡◌, ◌↔◌, ◌≤◌, length, IsSome, IfSome};
+//! The value of a field.
+ghost use Rattle.std.specs.Prelude.{◌≡◌, IfOk};
 
-use std::marker::Model;
-
-/// A text of 0 to 255 printable ASCII characters, bytes 0x20 to 0x7e.
-#[derive(Debug, Drop)]
-pub struct TextValue {
-    bytes: Vec<u8>,
-}
-
-impl Model for TextValue {
-    ghost use Rattle.std.specs.Prelude.{List, ℕ};
-
-    ghost Value = { List ℕ };
-
-    ghost use Rattle.mama_msg.specs.Value.{IsText};
-
-    ghost view = { λ t. t.bytes.items };
-
-    ghost invariant = { λ t. IsText t.bytes.items };
-}
-
-/// 0 to 255 bytes of any kind.
-#[derive(Debug, Drop)]
-pub struct BytesValue {
-    bytes: Vec<u8>,
-}
-
-impl Model for BytesValue {
-    ghost use Rattle.std.specs.Prelude.{List, ℕ, ◌≤◌, length};
-
-    ghost Value = { List ℕ };
-
-    ghost view = { λ b. b.bytes.items };
-
-    ghost invariant = { λ b. length b.bytes.items ≤ 255 };
-}
-
-/// A decimal price: `mantissa` divided by ten to the power of `decimals`, which is 0 to 18.
-#[derive(Clone, Copy, Debug, PartialEq, Eq)]
-pub struct Price {
-    mantissa: i64,
-    decimals: u8,
-}
-
-impl Model for Price {
-    ghost use Rattle.std.specs.Prelude.{◌≤◌};
-    ghost use Rattle.mama_msg.specs.Price.{PriceData};
-
-    ghost Value = { PriceData };
-
-    ghost view = { λ p. record { mantissa = p.mantissa; decimals = p.decimals } };
-
-    ghost invariant = { λ p. p.decimals ≤ 18 };
-
-    ghost inverse = { λ p. record { mantissa = p.mantissa; decimals = p.decimals } };
-}
+use crate::price::Price;
+use crate::raw::BytesValue;
+use crate::text::TextValue;
+use mama_memory::OutOfMemory;
 
 /// The value of a field, of one of fourteen types.
-#[derive(Debug, Drop)]
+#[derive(Debug, PartialEq, Eq, Drop)]
 pub enum Value {
     /// True or false.
     Bool(bool),
@@ -87,4 +37,28 @@ pub enum Value {
     Price(Price),
     /// A moment in milliseconds; where time begins is left open.
     Moment(u64),
+}
+
+impl Value {
+    /// An equal value. Only a text and bytes take memory.
+    pub fn try_clone(&self) -> Result<Value, OutOfMemory>
+        ensures equal { IfOk result (λ copy. copy ≡ self.now) }
+    {
+        match self {
+            Value::Bool(b) => Ok(Value::Bool(*b)),
+            Value::Char(byte) => Ok(Value::Char(*byte)),
+            Value::I8(n) => Ok(Value::I8(*n)),
+            Value::I16(n) => Ok(Value::I16(*n)),
+            Value::I32(n) => Ok(Value::I32(*n)),
+            Value::I64(n) => Ok(Value::I64(*n)),
+            Value::U8(n) => Ok(Value::U8(*n)),
+            Value::U16(n) => Ok(Value::U16(*n)),
+            Value::U32(n) => Ok(Value::U32(*n)),
+            Value::U64(n) => Ok(Value::U64(*n)),
+            Value::Text(text) => Ok(Value::Text(text.try_clone()?)),
+            Value::Bytes(bytes) => Ok(Value::Bytes(bytes.try_clone()?)),
+            Value::Price(price) => Ok(Value::Price(*price)),
+            Value::Moment(at) => Ok(Value::Moment(*at)),
+        }
+    }
 }

@@ -1,0 +1,2 @@
+pub mod KeyedLists
+pub mod Indexing
