@@ -9,6 +9,8 @@ mod port;
 mod rule;
 mod steps;
 mod taker;
+#[cfg(test)]
+mod tests;
 mod view;
 
 pub use close::close_lane;
