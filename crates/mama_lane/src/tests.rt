@@ -1,13 +1,15 @@
 //! A lane of the timer service on one thread, and a lane that two threads put on and a third takes from.
-ghost use Rattle.std.specs.Prelude.{◌≡◌, ◌++◌, true, map, ◌≤◌, vec_capacity, IfOk, []};
+ghost use Rattle.std.specs.Prelude.{◌≡◌, ◌++◌, true, map, ◌≤◌, vec_capacity, IfOk, OnOk, [], ◌∷◌};
 ghost use Rattle.std.specs.Bool.{OnTrue};
 ghost use Rattle.std.specs.List.{list_any};
+ghost use Rattle.mama_event.specs.Lawful.{IsLawful};
+ghost use Rattle.mama_event.specs.ToTimers.{note_of, is_last, fits};
 ghost use Rattle.mama_journal.specs.Lane.{by_port};
 ghost use Rattle.mama_lane.specs.Rule.{notes_of};
-ghost use Rattle.mama_lane.specs.Values.{new_port, new_ports, new_taker};
+ghost use Rattle.mama_lane.specs.Values.{after_put, new_port, new_ports, new_taker};
 
 use super::*;
-use mama_event::{Bounds, ObjectId, OutOfMemory, Stream, TimerId, ToTimers};
+use mama_event::{Bounds, ObjectId, OutOfMemory, Stream, TimerId, TimersNote, ToTimers};
 use std::alloc::Global;
 use std::sync::Wait;
 use std::test::Fail;
@@ -170,4 +172,120 @@ fn close_both<E: Stream, R: Wait + Copy>(
     ports.push_reserved(zero);
     ports.push_reserved(one);
     close_lane(rt, lane, ports, taker);
+}
+
+// Puts one event.
+fn put_one<E: Stream, R: Wait + Copy>(
+    rt: R,
+    lane: &Lane<E>,
+    port: &mut Port<E>,
+    event: E,
+) -> Result<(), OutOfMemory>
+    requires lane { port.old.lane ≡ lane.now.id }
+    requires lawful { E.lawful port.old.bounds port.old.number (port.old.put ++ E.noted event ∷ []) }
+    ensures { OnOk result (port.new ≡ after_put port.old (E.noted event)) }
+{
+    match port.put(rt, lane, event) {
+        Ok(()) => Ok(()),
+        Err(_) => Err(OutOfMemory),
+    }
+}
+
+// Takes one event, and answers its port and its note.
+fn take_one<R: Wait + Copy>(
+    rt: R,
+    lane: &Lane<ToTimers<ObjectId>>,
+    taker: &mut Taker<ToTimers<ObjectId>>,
+) -> Result<(u32, TimersNote), Fail>
+    requires { taker.old.lane ≡ lane.now.id }
+    ensures { taker.new.lane ≡ taker.old.lane }
+{
+    let (port, event) = taker.take(rt, lane).ok_or("no event")?;
+    Ok((port, event.note()?))
+}
+
+#[test]
+fn the_lane_of_a_timer_service(rt: HostRuntime) -> Result<(), Fail> {
+    let timer = TimerId {
+        client: 0,
+        number: 0,
+    };
+    let tag = ObjectId::Timer(timer);
+    let bounds = Bounds {
+        topics: 0,
+        queues: 1,
+    };
+    let (lane, mut ports, mut taker) = open_lane::<ToTimers<ObjectId>, HostRuntime>(rt, rt.alloc(), 3, bounds)?;
+    let arm = ToTimers::Arm {
+        timer,
+        queue: 0,
+        interval: 10,
+        listener: tag,
+    };
+    put_one(rt, &lane, &mut ports[0], arm)?;
+    put_one(rt, &lane, &mut ports[1], ToTimers::Disarm { timer })?;
+    put_one(rt, &lane, &mut ports[0], ToTimers::Now { moment: 5 })?;
+    let note = ports[1].tell(rt, &lane)?;
+    taker.learn(rt, &lane, note);
+    let armed = TimersNote::Arm {
+        timer,
+        queue: 0,
+        interval: 10,
+        tag,
+    };
+    assert_eq!(rt; take_one(rt, &lane, &mut taker)?, (0, armed));
+    assert_eq!(rt; take_one(rt, &lane, &mut taker)?, (1, TimersNote::Disarm { timer }));
+    assert_eq!(rt; take_one(rt, &lane, &mut taker)?, (0, TimersNote::Now { moment: 5 }));
+    assert!(rt; taker.take(rt, &lane).is_none());
+    assert!(rt; !taker.ended(0));
+    put_one(rt, &lane, &mut ports[0], ToTimers::ClientDone)?;
+    assert_eq!(rt; take_one(rt, &lane, &mut taker)?, (0, TimersNote::ClientDone));
+    assert!(rt; taker.ended(0));
+    assert!(rt; !taker.ended(1) && !taker.ended(2) && !taker.ended(3));
+    close_lane(rt, lane, ports, taker);
+    Ok(())
+}
+
+// The moments below `count` in order, and then the end of a client.
+fn clock(alloc: Global, count: u64) -> Result<Vec<ToTimers<ObjectId>>, OutOfMemory>
+    ensures { IfOk result (λ events. (bounds : _) → IsLawful is_last (fits bounds) (map (note_of (λ object. object)) events.items)) }
+{
+    let mut events = Vec::new(alloc);
+    for moment in 0..count {
+        events.push(ToTimers::Now { moment })?;
+    }
+    events.push(ToTimers::ClientDone)?;
+    Ok(events)
+}
+
+// Which moment an event tells. The end of a client tells the moment that would be next.
+fn moment_of(event: &ToTimers<ObjectId>, next: u64) -> u64 {
+    match event {
+        ToTimers::Now { moment } => *moment,
+        ToTimers::ClientDone => next,
+        _ => u64::MAX,
+    }
+}
+
+#[test]
+fn two_threads_put_and_a_third_takes(rt: HostRuntime) -> Result<(), Fail> {
+    let bounds = Bounds {
+        topics: 0,
+        queues: 0,
+    };
+    let first = clock(rt.alloc(), 1000)?;
+    let second = clock(rt.alloc(), 1000)?;
+    let taken = deliver(rt, rt.alloc(), bounds, first, second)?;
+    assert_eq!(rt; taken.len(), 2002);
+    for port in 0..2 {
+        let mut next = 0u64;
+        for (from, event) in &taken {
+            if *from == port {
+                assert_eq!(rt; moment_of(event, next), next, "of port {port}");
+                next = next.wrapping_add(1);
+            }
+        }
+        assert_eq!(rt; next, 1001, "of port {port}");
+    }
+    Ok(())
 }
