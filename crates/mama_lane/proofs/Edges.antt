@@ -23,7 +23,7 @@ module _ {N : Type 0} (last : N → Bool) where
   has_last (x ∷ xs) e =
       let P : Bool → Type 0 = λ b. last x ≡ b → (b || list_any last xs) ≡ true → HasLast (x ∷ xs) in
       (elim (last x) as P [
-        true ↦ λ here _. record { front = []; note = x; back = xs; parts = refl; is_last = here }
+        | true ↦ λ here _. record { front = []; note = x; back = xs; parts = refl; is_last = here }
         | false ↦ λ _ later. let h = has_last xs later in record { front = x ∷ h.front; note = h.note; back = h.back; parts = ap (λ (l : List N). x ∷ l) h.parts; is_last = h.is_last }
       ]) refl e
 

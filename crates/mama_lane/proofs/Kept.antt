@@ -99,8 +99,8 @@ module _ {E N : Type 0} (noted : E → N) (lawful : Bounds → ℕ → List N �
       let grown : List N = K.sent n ++ x ∷ [] in let sent : ℕ → List N = changed K.sent n grown in
       let grows : (p : ℕ) → IsPrefix (K.sent p) (sent p) = changed_cases K.sent n grown (λ p l. IsPrefix (K.sent p) l) (x ∷ [], refl) (λ p _. prefix_refl (K.sent p)) in
       let all : (p : ℕ) → by_port p (t.taken ++ notes_of noted (items ++ (n, event) ∷ [])) ≡ by_port p (t.taken ++ notes_of noted items) ++ by_port p ((n, x) ∷ []) =
-          λ p. ap (λ (l : List (ℕ × N)). by_port p (t.taken ++ l)) (map-append (λ (y : ℕ × E). (y.0, noted y.1)) items ((n, event) ∷ []))
-              ∙ (ap (by_port p) (sym (append_assoc t.taken (notes_of noted items) ((n, x) ∷ []))) ∙ by_port-append p (t.taken ++ notes_of noted items) ((n, x) ∷ [])) in
+      λ p. ap (λ (l : List (ℕ × N)). by_port p (t.taken ++ l)) (map-append (λ (y : ℕ × E). (y.0, noted y.1)) items ((n, event) ∷ []))
+      ∙ (ap (by_port p) (sym (append_assoc t.taken (notes_of noted items) ((n, x) ∷ []))) ∙ by_port-append p (t.taken ++ notes_of noted items) ((n, x) ∷ [])) in
       record {
         seat = K.seat;
         sent = sent;
@@ -124,9 +124,12 @@ module _ {E N : Type 0} (noted : E → N) (lawful : Bounds → ℕ → List N �
   pub puts : (n i : ℕ) (v : View N) (port : ℕ) (event : E) → v.role ≡ Port → v.number ≡ port → lawful v.bounds v.number (v.put ++ noted event ∷ [])
       → Pushes (IsKept noted lawful) n i v (port, event) (λ w. w ≡ with_put v (noted event))
   puts n i v port event is_port is may items views _ h at =
-      let w : View N = with_put v (noted event) in
-      (w, subst (λ (p : ℕ). IsKept noted lawful (items ++ (p, event) ∷ []) (set views i w)) is
-          (kept_else items (items ++ (v.number, event) ∷ []) views i v w h at (λ e. taker_port v.role e is_port) (λ t K. put_kept t items views i v event is_port may at K)), refl)
+      let w : View N = with_put v (noted event) in (
+        w,
+        subst (λ (p : ℕ). IsKept noted lawful (items ++ (p, event) ∷ []) (set views i w)) is
+            (kept_else items (items ++ (v.number, event) ∷ []) views i v w h at (λ e. taker_port v.role e is_port) (λ t K. put_kept t items views i v event is_port may at K)),
+        refl,
+      )
 
   -- take: what the lane holds first is what was taken last
   take_kept : (v : View N) (port : ℕ) (event : E) (items : List (ℕ × E)) (views : List (View N)) → Kept noted lawful v ((port, event) ∷ items) views
@@ -158,9 +161,17 @@ module _ {E N : Type 0} (noted : E → N) (lawful : Bounds → ℕ → List N �
   pub takes : ((b : Bounds) (p : ℕ) (front back : List N) → lawful b p (front ++ back) → lawful b p front) → (v : View N)
       → Pops (IsKept noted lawful) 0 v (λ x w. (w ≡ with_taken v x.0 (noted x.1)) × CameFromPort noted lawful v x.0 x.1 w)
   takes prefix v x items views h at =
-      let w : View N = with_taken v x.0 (noted x.1) in let K = h v at in let K' = take_kept v x.0 x.1 items views K in
-      (w, kept_first (x ∷ items) items views v w h at (λ _. K'), (refl, (from_port_made v x.0 x.1 items views K (dec_le v.made x.0),
-        λ p. prefix v.bounds p (by_port p w.taken) (by_port p (notes_of noted items)) (subst (lawful v.bounds p) (K'.flows p ∙ by_port-append p w.taken (notes_of noted items)) (K'.allowed p)))))
+      let w : View N = with_taken v x.0 (noted x.1) in let K = h v at in let K' = take_kept v x.0 x.1 items views K in (
+        w,
+        kept_first (x ∷ items) items views v w h at (λ _. K'),
+        (
+          refl,
+          (
+            from_port_made v x.0 x.1 items views K (dec_le v.made x.0),
+            λ p. prefix v.bounds p (by_port p w.taken) (by_port p (notes_of noted items)) (subst (lawful v.bounds p) (K'.flows p ∙ by_port-append p w.taken (notes_of noted items)) (K'.allowed p)),
+          ),
+        ),
+      )
 
   pub looks : (v : View N) → Learns (IsKept noted lawful) 0 v (IsCaughtUp noted lawful v)
   looks v items views h at none = let K = h v at in each_map (λ (c : ℕ × List N). IsPrefix c.1 (K.sent c.0)) (λ c. IsPrefix c.1 (by_port c.0 v.taken))
@@ -219,11 +230,11 @@ module _ {E N : Type 0} (noted : E → N) (lawful : Bounds → ℕ → List N �
         closed = each_map (λ (c : ℕ × List N). (c.0 < v.made) × (c.1 ≡ K.sent c.0)) (λ c. (c.0 < l.made) × (c.1 ≡ K.sent c.0)) (λ c is. let m = is.0 in (omega arith, is.1)) v.closed K.closed;
         fits = fits_snoc l seat K.sent vs (next_port v)
             (fits_set l seat K.sent views 0 l (fits_taker l seat K.sent 0 l K.role)
-              (λ j u _ e. let f = K.fits j u e in record {
-                port = λ p. let H = f.port p in let m = H.made in let other : u.number ≢ n = λ s. omega arith in
-                    record { seated = changed_else K.seat n (length vs) u.number other ∙ H.seated; made = omega arith; put = H.put; bounds = H.bounds; open_yet = H.open_yet };
-                note = f.note;
-              }))
+            (λ j u _ e. let f = K.fits j u e in record {
+              port = λ p. let H = f.port p in let m = H.made in let other : u.number ≢ n = λ s. omega arith in
+                  record { seated = changed_else K.seat n (length vs) u.number other ∙ H.seated; made = omega arith; put = H.put; bounds = H.bounds; open_yet = H.open_yet };
+              note = f.note;
+            }))
             (record {
               port = λ p. record {
                 seated = changed_here K.seat n (length vs);
@@ -245,8 +256,8 @@ module _ {E N : Type 0} (noted : E → N) (lawful : Bounds → ℕ → List N �
   pub tells : (i : ℕ) (v : View N) → v.role ≡ Port → Forks (IsKept noted lawful) i v v (noted_port v)
   tells i v is_port items views h at =
       subst (λ (vs : List (View N)). IsKept noted lawful items (vs ++ noted_port v ∷ [])) (sym (set_again views i v at))
-          (kept_new items views i v (noted_port v) h at (λ t K. let F = (K.fits i v at).port is_port in
-              snoc_kept t items views (noted_port v) K (record { port = λ e. absurd (port_note Note e refl); note = λ _. ([], append-nil v.put ∙ F.put) })))
+      (kept_new items views i v (noted_port v) h at (λ t K. let F = (K.fits i v at).port is_port in
+      snoc_kept t items views (noted_port v) K (record { port = λ e. absurd (port_note Note e refl); note = λ _. ([], append-nil v.put ∙ F.put) })))
 
   -- learn and join: the taker takes in what another pass knows, which is spent
   kept_merge : (items : List (ℕ × E)) (views : List (View N)) (v both : View N) (i : ℕ) (w : View N) → IsKept noted lawful items views → get_elem? views 0 ≡ some v → ¬ (i ≡ 0) → get_elem? (set views 0 both) i ≡ some w
@@ -254,7 +265,7 @@ module _ {E N : Type 0} (noted : E → N) (lawful : Bounds → ℕ → List N �
   kept_merge items views v both i w h at apart at' step t e =
       let was : get_elem? views i ≡ some w = ⊎_elim (λ (x : (i ≡ 0) × (both ≡ w)). absurd (apart x.0)) (λ (x : (i ≢ 0) × (get_elem? views i ≡ some w)). x.1) (at_set views 0 i both w at') in
       ⊎_elim (λ (x : (0 ≡ i) × (spent ≡ t)). absurd (apart (sym x.0)))
-          (λ (x : (0 ≢ i) × (get_elem? (set views 0 both) 0 ≡ some t)). subst (λ (u : View N). Kept noted lawful u items (set (set views 0 both) i spent)) (at_same (set views 0 both) 0 both t (at_there views 0 v both at) x.1) (step (h v at) was)) (at_set (set views 0 both) i 0 spent t e)
+      (λ (x : (0 ≢ i) × (get_elem? (set views 0 both) 0 ≡ some t)). subst (λ (u : View N). Kept noted lawful u items (set (set views 0 both) i spent)) (at_same (set views 0 both) 0 both t (at_there views 0 v both at) x.1) (step (h v at) was)) (at_set (set views 0 both) i 0 spent t e)
 
   learn_kept : (v : View N) (i : ℕ) (w : View N) (items : List (ℕ × E)) (views : List (View N)) → w.role ≡ Note → get_elem? views i ≡ some w → Kept noted lawful v items views
       → Kept noted lawful (with_learnt v w) items (set (set views 0 (with_learnt v w)) i spent)
@@ -301,7 +312,7 @@ module _ {E N : Type 0} (noted : E → N) (lawful : Bounds → ℕ → List N �
         closed = each_snoc (λ (c : ℕ × List N). (c.0 < v.made) × (c.1 ≡ K.sent c.0)) v.closed (w.number, w.put) K.closed (F.made, F.put);
         fits = fits_set both K.seat K.sent (set views 0 both) i spent (fits_spent both K.seat K.sent i)
             (λ j u apart e. ⊎_elim (λ (x : (j ≡ 0) × (both ≡ u)). subst (λ (y : View N). Fits both K.seat K.sent j y) x.1 (fits_taker both K.seat K.sent j both K.role))
-                (λ (x : (j ≢ 0) × (get_elem? views j ≡ some u)). others j u apart x.1) (at_set views 0 j both u e));
+            (λ (x : (j ≢ 0) × (get_elem? views j ≡ some u)). others j u apart x.1) (at_set views 0 j both u e));
       }
 
   pub joins : (v : View N) (i : ℕ) (w : View N) → w.role ≡ Port → Merges (IsKept noted lawful) 0 v i w (with_closed v w) spent
@@ -312,14 +323,14 @@ module _ {E N : Type 0} (noted : E → N) (lawful : Bounds → ℕ → List N �
   begins start t e =
       let first : View N = opener in
       subst (λ (u : View N). Kept noted lawful u [] (first ∷ [])) (some-injective first t e)
-          (record {
-            seat = λ _. 0;
-            sent = λ _. [];
-            role = refl;
-            flows = λ _. refl;
-            unmade = λ _ _. refl;
-            allowed = start first.bounds;
-            learnt = tt;
-            closed = tt;
-            fits = λ i v at. fits_snoc first (λ _. 0) (λ _. []) [] first (λ j u d. absurd (some-ne-none u (sym d))) (fits_taker first (λ _. 0) (λ _. []) 0 first refl) i v at;
-          })
+      (record {
+        seat = λ _. 0;
+        sent = λ _. [];
+        role = refl;
+        flows = λ _. refl;
+        unmade = λ _ _. refl;
+        allowed = start first.bounds;
+        learnt = tt;
+        closed = tt;
+        fits = λ i v at. fits_snoc first (λ _. 0) (λ _. []) [] first (λ j u d. absurd (some-ne-none u (sym d))) (fits_taker first (λ _. 0) (λ _. []) 0 first refl) i v at;
+      })

@@ -33,7 +33,7 @@ module _ {N : Type 0} (last : N → Bool) where
       → (p : ℕ) → get_or (set flags port true) p false ≡ list_any last (by_port p (xs ++ (port, note) ∷ []))
   last_flags xs port note flags room is_last old p = dite (ℕ_discrete p port)
       (λ (e : p ≡ port). subst (λ (q : ℕ). get_or (set flags port true) q false ≡ list_any last (by_port q (xs ++ (port, note) ∷ []))) (sym e)
-          (get_or-set_same flags port true false room ∙ sym (any_here xs port note ∙ or_true (list_any last (by_port port xs)) (last note || false) (ap (λ (b : Bool). b || false) is_last))))
+      (get_or-set_same flags port true false room ∙ sym (any_here xs port note ∙ or_true (list_any last (by_port port xs)) (last note || false) (ap (λ (b : Bool). b || false) is_last))))
       (λ (apart : p ≢ port). get_or-set_other flags port p true false apart ∙ (old p ∙ sym (any_else xs p port note apart)))
 
   -- the flags after another event
@@ -41,7 +41,7 @@ module _ {N : Type 0} (last : N → Bool) where
       → (p : ℕ) → get_or flags p false ≡ list_any last (by_port p (xs ++ (port, note) ∷ []))
   same_flags xs port note flags not_last old p = dite (ℕ_discrete p port)
       (λ (e : p ≡ port). subst (λ (q : ℕ). get_or flags q false ≡ list_any last (by_port q (xs ++ (port, note) ∷ []))) (sym e)
-          (old port ∙ sym (any_here xs port note ∙ or_false (list_any last (by_port port xs)) (last note || false) (ap (λ (b : Bool). b || false) not_last))))
+      (old port ∙ sym (any_here xs port note ∙ or_false (list_any last (by_port port xs)) (last note || false) (ap (λ (b : Bool). b || false) not_last))))
       (λ (apart : p ≢ port). old p ∙ sym (any_else xs p port note apart))
 
   module _ (lawful : Bounds → ℕ → List N → Type 0) where

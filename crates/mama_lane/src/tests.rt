@@ -215,7 +215,12 @@ fn the_lane_of_a_timer_service(rt: HostRuntime) -> Result<(), Fail> {
         topics: 0,
         queues: 1,
     };
-    let (lane, mut ports, mut taker) = open_lane::<ToTimers<ObjectId>, HostRuntime>(rt, rt.alloc(), 3, bounds)?;
+    let (lane, mut ports, mut taker) = open_lane::<ToTimers<ObjectId>, HostRuntime>(
+        rt,
+        rt.alloc(),
+        3,
+        bounds,
+    )?;
     let arm = ToTimers::Arm {
         timer,
         queue: 0,
@@ -234,12 +239,21 @@ fn the_lane_of_a_timer_service(rt: HostRuntime) -> Result<(), Fail> {
         tag,
     };
     assert_eq!(rt; take_one(rt, &lane, &mut taker)?, (0, armed));
-    assert_eq!(rt; take_one(rt, &lane, &mut taker)?, (1, TimersNote::Disarm { timer }));
-    assert_eq!(rt; take_one(rt, &lane, &mut taker)?, (0, TimersNote::Now { moment: 5 }));
+    assert_eq!(rt;
+        take_one(rt, &lane, &mut taker)?,
+        (1, TimersNote::Disarm { timer })
+    );
+    assert_eq!(rt;
+        take_one(rt, &lane, &mut taker)?,
+        (0, TimersNote::Now { moment: 5 })
+    );
     assert!(rt; taker.take(rt, &lane).is_none());
     assert!(rt; !taker.ended(0));
     put_one(rt, &lane, &mut ports[0], ToTimers::ClientDone)?;
-    assert_eq!(rt; take_one(rt, &lane, &mut taker)?, (0, TimersNote::ClientDone));
+    assert_eq!(rt;
+        take_one(rt, &lane, &mut taker)?,
+        (0, TimersNote::ClientDone)
+    );
     assert!(rt; taker.ended(0));
     assert!(rt; !taker.ended(1) && !taker.ended(2) && !taker.ended(3));
     close_lane(rt, lane, ports, taker);

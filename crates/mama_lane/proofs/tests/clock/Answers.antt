@@ -15,8 +15,8 @@ one_more : (bounds : Bounds) (events : List (ToTimers ObjectId)) (event : ToTime
     → is_within bounds (note_of (λ object. object) event) ≡ true → IsLawful is_last (fits bounds) (map (note_of (λ object. object)) (events ++ event ∷ []))
 one_more bounds events event lawful goes_on within =
     subst (IsLawful is_last (fits bounds)) (sym (map-append (note_of (λ object. object)) events (event ∷ [])))
-        (IsLawful-push is_last (fits bounds) (map (note_of (λ object. object)) events) (note_of (λ object. object) event) lawful
-          (ap (λ (b : Bool). not b && is_within bounds (note_of (λ object. object) event)) goes_on ∙ within))
+    (IsLawful-push is_last (fits bounds) (map (note_of (λ object. object)) events) (note_of (λ object. object) event) lawful
+    (ap (λ (b : Bool). not b && is_within bounds (note_of (λ object. object) event)) goes_on ∙ within))
 
 -- nor is the last among one event more that is not
 still_on : (events : List (ToTimers ObjectId)) (event : ToTimers ObjectId) → list_any is_last (map (note_of (λ object. object)) events) ≡ false → is_last (note_of (λ object. object) event) ≡ false

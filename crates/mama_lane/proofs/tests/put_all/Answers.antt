@@ -11,4 +11,4 @@ pub put-requires-clause-lawful : goal.put-requires-clause-lawful
 put-requires-clause-lawful g c =
     let i = c.loop-event.invariant in
     first_lawful (g.E.Stream.lawful _ _) (g.met.E.Stream.lawful_prefix _ _) g.E.Stream.noted _ _ _ _ c.in-Some.ensures.steps.0
-        (rw (i.bounds, i.number, i.put, c.into_iter-event-iterator.ensures.into_iter_gives.0) c.requires.lawful)
+    (rw (i.bounds, i.number, i.put, c.into_iter-event-iterator.ensures.into_iter_gives.0) c.requires.lawful)
