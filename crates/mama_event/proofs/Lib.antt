@@ -1,1 +1,2 @@
 pub mod FidLemmas
+pub mod WorkedRows

@@ -1,8 +1,15 @@
 pub mod Fids
+pub mod Equality
+pub mod EqualityLaws
 pub mod FidList
 pub mod Lawful
 pub mod LawfulLaws
+pub mod Laws
 pub mod Object
+pub mod Ports
+pub mod Publisher
 pub mod Record
+pub mod ToBridge
 pub mod ToPublisher
+pub mod ToQueue
 pub mod ToTimers

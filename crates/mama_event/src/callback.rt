@@ -1,5 +1,8 @@
+ghost use Rattle.std.specs.Prelude.{◌≡◌, IfOk};
+
 use crate::market::{MarketMsg, Quality};
 use crate::order::Orders;
+use mama_memory::{Duplicate, OutOfMemory};
 use mama_msg::Msg;
 
 /// One callback of an object's listener.
@@ -25,9 +28,129 @@ pub enum Callback {
     Reply { body: Msg },
 }
 
+impl PartialEq for Callback {
+    ghost use Rattle.std.specs.Prelude.{◌≡◌};
+    ghost use Rattle.std.specs.Cmp.{partial_equiv_from_equiv};
+    ghost use Rattle.mama_event.specs.Equality.{same_callback};
+    ghost use Rattle.mama_event.specs.EqualityLaws.{same_callback_equivalence};
+
+    ghost eq = { same_callback };
+
+    ghost laws = { partial_equiv_from_equiv same_callback_equivalence };
+
+    fn eq(&self, other: &Callback) -> bool
+        ensures { result ≡ same_callback self.now other.now }
+    {
+        match (self, other) {
+            (Callback::Create, Callback::Create) => true,
+            (
+                Callback::Msg { msg, quality },
+                Callback::Msg {
+                    msg: other_msg,
+                    quality: other_quality,
+                },
+            ) => msg == other_msg && quality == other_quality,
+            (
+                Callback::Gap { first, to },
+                Callback::Gap {
+                    first: other_first,
+                    to: other_to,
+                },
+            ) => first == other_first && to == other_to,
+            (
+                Callback::Quality { quality, number },
+                Callback::Quality {
+                    quality: other_quality,
+                    number: other_number,
+                },
+            ) => quality == other_quality && number == other_number,
+            (
+                Callback::RecapRequest { sender },
+                Callback::RecapRequest {
+                    sender: other_sender,
+                },
+            ) => sender == other_sender,
+            (Callback::Error { code }, Callback::Error { code: other_code }) => code == other_code,
+            (Callback::Destroy, Callback::Destroy) => true,
+            (
+                Callback::Tick { moment },
+                Callback::Tick {
+                    moment: other_moment,
+                },
+            ) => moment == other_moment,
+            (Callback::Reply { body }, Callback::Reply { body: other_body }) => body == other_body,
+            _ => false,
+        }
+    }
+}
+
+impl Eq for Callback {
+    ghost use Rattle.mama_event.specs.EqualityLaws.{same_callback_equivalence};
+
+    ghost laws = { same_callback_equivalence };
+}
+
+impl Duplicate for Callback {
+    fn try_clone(&self) -> Result<Callback, OutOfMemory> {
+        match self {
+            Callback::Create => Ok(Callback::Create),
+            Callback::Msg { msg, quality } => Ok(Callback::Msg {
+                msg: msg.try_clone()?,
+                quality: *quality,
+            }),
+            Callback::Gap { first, to } => Ok(Callback::Gap {
+                first: *first,
+                to: *to,
+            }),
+            Callback::Quality { quality, number } => Ok(Callback::Quality {
+                quality: *quality,
+                number: *number,
+            }),
+            Callback::RecapRequest { sender } => Ok(Callback::RecapRequest { sender: *sender }),
+            Callback::Error { code } => Ok(Callback::Error { code: *code }),
+            Callback::Destroy => Ok(Callback::Destroy),
+            Callback::Tick { moment } => Ok(Callback::Tick { moment: *moment }),
+            Callback::Reply { body } => Ok(Callback::Reply {
+                body: body.try_clone()?,
+            }),
+        }
+    }
+}
+
 /// A callback that was made, and the orders that the listener gave in it.
 #[derive(Debug, Drop)]
 pub struct CallNote {
     pub call: Callback,
     pub orders: Orders,
+}
+
+impl PartialEq for CallNote {
+    ghost use Rattle.std.specs.Prelude.{◌≡◌};
+    ghost use Rattle.std.specs.Cmp.{partial_equiv_from_equiv};
+    ghost use Rattle.mama_event.specs.Equality.{same_call_note};
+    ghost use Rattle.mama_event.specs.EqualityLaws.{same_call_note_equivalence};
+
+    ghost eq = { same_call_note };
+
+    ghost laws = { partial_equiv_from_equiv same_call_note_equivalence };
+
+    fn eq(&self, other: &CallNote) -> bool
+        ensures { result ≡ same_call_note self.now other.now }
+    {
+        self.call == other.call && self.orders == other.orders
+    }
+}
+
+impl Eq for CallNote {
+    ghost use Rattle.mama_event.specs.EqualityLaws.{same_call_note_equivalence};
+
+    ghost laws = { same_call_note_equivalence };
+}
+
+impl Duplicate for CallNote {
+    fn try_clone(&self) -> Result<CallNote, OutOfMemory> {
+        let call = self.call.try_clone()?;
+        let orders = self.orders.copied();
+        Ok(CallNote { call, orders })
+    }
 }

@@ -1,2 +1,6 @@
 pub mod Faults
 pub mod Table
+pub mod Outbox
+pub mod Link
+pub mod Prepared
+pub mod Slots

@@ -1,2 +1,4 @@
 pub mod KeyedLists
 pub mod Indexing
+pub mod Merging
+pub mod Applying

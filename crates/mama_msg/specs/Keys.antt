@@ -1,22 +1,13 @@
 -- The test of two keys is exact: it holds where the keys are one, and nowhere else.
-use Rattle.std.specs.Prelude.{◌≡◌, ℕ, Bool, true, false, ◌==◌, List, refl}
+use Rattle.std.specs.Prelude.{◌≡◌}
 use Rattle.std.specs.Bool.{Decides}
-use Rattle.std.specs.Cmp.{IsEquivalence, both_ways}
-use Rattle.std.specs.Str.{bytes_eq}
-use Rattle.std.proofs.Common.{ap, sym, ◌∙◌, true≢false}
+use Rattle.std.specs.Cmp.{IsEquivalence, decided}
+use Rattle.std.proofs.Common.{ap, sym, true≢false}
 use Rattle.std.proofs.lemmas.Bool.Decides.{Decides-eqb}
 use Rattle.std.proofs.lemmas.Slice.Eq.{bytes_eq-Decides}
 use Rattle.mama_msg.specs.declared.field.Key.{Key}
 use Rattle.mama_msg.specs.declared.field.Key.TheVariants.{Numbered, Named}
 use Rattle.mama_msg.specs.Field.{same_key}
-
--- a test that decides whether two values are one is an equivalence
-pub equivalence_from_Decides : {K : Type 0} (E : K → K → Bool) → ((x y : K) → Decides (E x y) (x ≡ y)) → IsEquivalence E
-equivalence_from_Decides {K} E d = record {
-  refl = λ x. (d x x).1 refl;
-  symm = λ x y. both_ways (E x y) (E y x) (λ h. (d y x).1 (sym ((d x y).0 h))) (λ h. (d x y).1 (sym ((d y x).0 h)));
-  congr = λ x y z h. ap (λ (w : K). E w z) ((d x y).0 h);
-}
 
 pub same_key-Decides : (a b : Key) → Decides (same_key a b) (a ≡ b)
 same_key-Decides (Numbered a) (Numbered b) = (λ h. ap Numbered ((Decides-eqb a b).0 h), λ e. (Decides-eqb a b).1 (cc))
@@ -26,4 +17,4 @@ same_key-Decides (Named a) (Numbered b) = (λ h. absurd (true≢false (sym h)), 
 
 -- so it is an equivalence
 pub same_key_equivalence : IsEquivalence same_key
-same_key_equivalence = equivalence_from_Decides same_key same_key-Decides
+same_key_equivalence = decided same_key same_key-Decides

@@ -5,3 +5,6 @@ pub mod Field
 pub mod Keys
 pub mod Message
 pub mod Index
+pub mod Laws
+pub mod Get
+pub mod Equality

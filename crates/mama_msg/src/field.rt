@@ -1,5 +1,5 @@
 //! A field of a message, and its key.
-ghost use Rattle.std.specs.Prelude.{◌≡◌, ◌↔◌, [], IsNone, IfOk, IfSome};
+ghost use Rattle.std.specs.Prelude.{◌≡◌, ◌↔◌, [], IsTrue, IsNone, IfOk, IfSome};
 
 use crate::name::Name;
 use crate::value::Value;
@@ -9,9 +9,9 @@ use std::marker::Model;
 /// What tells the fields of a message apart: the fid, or the name where the fid is 0.
 #[derive(Clone, Copy, Debug, Hash)]
 pub enum Key {
-    /// A fid, 1 to 65,535.
+    /// The fid of a field that has one.
     Numbered(u16),
-    /// A name, of a field whose fid is 0. It is not empty.
+    /// The name of a field whose fid is 0.
     Named(Name),
 }
 
@@ -39,7 +39,10 @@ impl PartialEq for Key {
 
     ghost laws = { partial_equiv_from_equiv same_key_equivalence };
 
-    fn eq(&self, other: &Key) -> bool {
+    fn eq(&self, other: &Key) -> bool
+        ensures value { result ≡ same_key self.now other.now }
+        ensures exact { IsTrue result ↔ (self.now ≡ other.now) }
+    {
         match (self, other) {
             (Key::Numbered(a), Key::Numbered(b)) => a == b,
             (Key::Named(a), Key::Named(b)) => a == b,
@@ -139,4 +142,26 @@ impl Field {
             value,
         })
     }
+}
+
+impl PartialEq for Field {
+    ghost use Rattle.std.specs.Cmp.{partial_equiv_from_equiv};
+    ghost use Rattle.mama_msg.specs.Equality.{same_field, same_field_equivalence};
+
+    ghost eq = { same_field };
+
+    ghost laws = { partial_equiv_from_equiv same_field_equivalence };
+
+    fn eq(&self, other: &Field) -> bool
+        ensures value { result ≡ same_field self.now other.now }
+        ensures exact { IsTrue result ↔ (self.now ≡ other.now) }
+    {
+        self.fid == other.fid && self.name == other.name && self.value == other.value
+    }
+}
+
+impl Eq for Field {
+    ghost use Rattle.mama_msg.specs.Equality.{same_field_equivalence};
+
+    ghost laws = { same_field_equivalence };
 }

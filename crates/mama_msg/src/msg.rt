@@ -1,5 +1,6 @@
 //! Messages.
-ghost use Rattle.std.specs.Prelude.{◌≡◌, ◌≢◌, ◌+◌, ◌<◌, ◌≤◌, ◌↔◌, true, [], ◌∷◌, ◌++◌, length, slice_get, IsTrue, IsOk, IfOk, OnOk, IfErr, OnErr, ◌⊎◌};
+ghost use Rattle.std.specs.Prelude.{◌≡◌, ◌≢◌, ◌+◌, ◌^◌, ◌<◌, ◌≤◌, ◌↔◌, true, [], ◌∷◌, ◌++◌, length, fold, not, count_by, slice_get, IsTrue, IsOk, IfOk, OnOk, IfErr, OnErr, ◌⊎◌};
+ghost use Rattle.std.specs.Cmp.{partial_equiv_from_equiv};
 ghost use Rattle.std.specs.Option.{option_copied};
 ghost use Rattle.std.specs.Map.{values_of};
 ghost use Rattle.indexmap.specs.IndexMap.{spare, IsUnchanged};
@@ -10,7 +11,7 @@ ghost use Rattle.mama_msg.specs.Index.{indexed, IsIndexed};
 use crate::field::{Field, Key};
 use crate::name::Name;
 use indexmap::IndexMap;
-use mama_memory::OutOfMemory;
+use mama_memory::{Duplicate, OutOfMemory};
 use std::alloc::{AllocFailed, Global};
 use std::error::Error;
 use std::fmt;
@@ -20,7 +21,7 @@ use std::marker::Model;
 type Fields = IndexMap<Key, Field>;
 
 /// Why a field was not added. The field comes back.
-#[derive(Debug, Drop)]
+#[derive(Debug, PartialEq, Eq, Drop)]
 pub enum AddFault {
     /// The message has a field with this key.
     Present(Field),
@@ -84,6 +85,18 @@ fn first_named<'a>(fields: &'a Fields, name: &Name) -> Option<&'a Field>
     fields.values().find(|field| field.name() == name)
 }
 
+// How many fields of an update have keys that no field has.
+fn new_keys(fields: &Fields, update: &Fields) -> usize
+    requires { IsIndexed fields.now.entries }
+    ensures value { result ≡ count_by (λ f. not (has_key (key_of f) (values_of fields.now.entries))) (values_of update.now.entries) }
+    ensures small { result < 2 ^ 63 }
+{
+    update
+        .values()
+        .filter(|field| !has(fields, field.key()))
+        .count()
+}
+
 // Puts a field in the place of the one with its key, or last where there is none.
 fn put(fields: &mut Fields, field: Field) -> Result<(), AllocFailed<(Key, Field)>>
     requires { IsIndexed fields.old.entries }
@@ -92,10 +105,34 @@ fn put(fields: &mut Fields, field: Field) -> Result<(), AllocFailed<(Key, Field)
     ensures err { OnErr result (IsUnchanged fields.old fields.new) }
     ensures value_returned { IfErr result (λ failed. failed.value.1 ≡ field) }
     ensures succeeds { 0 < spare fields.old → IsOk result }
+    ensures replaces { has_key (key_of field) (values_of fields.old.entries) ≡ true → IsOk result }
     ensures spare { spare fields.old ≤ spare fields.new + 1 }
 {
     fields.insert(field.key(), field)?;
     Ok(())
+}
+
+// Puts fields in one after another, where there is room for them.
+fn put_all(fields: &mut Fields, others: Vec<Field>)
+    requires indexed { IsIndexed fields.old.entries }
+    requires room { length others.items ≤ spare fields.old }
+    ensures value { values_of fields.new.entries ≡ fold updated (values_of fields.old.entries) others.items }
+    ensures indexed { IsIndexed fields.new.entries }
+{
+    for field in others {
+        put(fields, field).unwrap();
+    }
+}
+
+// A copy of each field.
+fn copies_of(alloc: Global, fields: &Fields) -> Result<Vec<Field>, OutOfMemory>
+    ensures { IfOk result (λ copies. copies.items ≡ values_of fields.now.entries) }
+{
+    let mut copies = Vec::with_capacity(alloc, fields.len())?;
+    for field in fields.values() {
+        copies.push(field.try_clone()?)?;
+    }
+    Ok(copies)
 }
 
 impl Msg {
@@ -169,12 +206,70 @@ impl Msg {
         Ok(())
     }
 
-    /// Puts a field whole in the place of the one with its key, or last where there is none.
+    /// Puts a field whole in the place of the one with its key, or last where there is none. To replace a field takes
+    /// no memory.
     pub fn update(&mut self, field: Field) -> Result<(), OutOfMemory>
         ensures ok { OnOk result (self.new ≡ updated self.old field) }
+        ensures replaces { has_key (key_of field) self.old ≡ true → IsOk result }
         ensures err { OnErr result (self.new ≡ self.old) }
     {
         put(&mut self.fields, field)?;
         Ok(())
     }
+    /// The number of fields that the message has once `other` is applied.
+    pub fn len_after(&self, other: &Msg) -> usize
+        ensures { result ≡ length (apply self.now other.now) }
+    {
+        self.fields.len() + new_keys(&self.fields, &other.fields)
+    }
+
+    /// Applies a message: each of its fields is put in the place of the field with its key, and those with new keys
+    /// come last, in their order. It takes time by the fields of `other`, and not by those of the message.
+    pub fn apply(&mut self, other: &Msg) -> Result<(), OutOfMemory>
+        ensures ok { OnOk result (self.new ≡ apply self.old other.now) }
+        ensures err { OnErr result (self.new ≡ self.old) }
+    {
+        let copies = copies_of(*self.fields.allocator(), &other.fields)?;
+        self.fields.reserve(copies.len())?;
+        put_all(&mut self.fields, copies);
+        Ok(())
+    }
+
+    /// An equal message.
+    pub fn try_clone(&self) -> Result<Msg, OutOfMemory>
+        ensures equal { IfOk result (λ copy. copy ≡ self.now) }
+    {
+        let alloc = *self.fields.allocator();
+        let copies = copies_of(alloc, &self.fields)?;
+        let mut fields = IndexMap::with_capacity(alloc, copies.len())?;
+        put_all(&mut fields, copies);
+        Ok(Msg { fields })
+    }
+}
+
+impl Duplicate for Msg {
+    fn try_clone(&self) -> Result<Msg, OutOfMemory> {
+        Msg::try_clone(self)
+    }
+}
+
+impl PartialEq for Msg {
+    ghost use Rattle.mama_msg.specs.Equality.{same_message, same_message_equivalence};
+
+    ghost eq = { same_message };
+
+    ghost laws = { partial_equiv_from_equiv same_message_equivalence };
+
+    fn eq(&self, other: &Msg) -> bool
+        ensures value { result ≡ same_message self.now other.now }
+        ensures exact { IsTrue result ↔ (self.now ≡ other.now) }
+    {
+        self.fields.values().as_slice() == other.fields.values().as_slice()
+    }
+}
+
+impl Eq for Msg {
+    ghost use Rattle.mama_msg.specs.Equality.{same_message_equivalence};
+
+    ghost laws = { same_message_equivalence };
 }

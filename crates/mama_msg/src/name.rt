@@ -101,7 +101,10 @@ impl PartialEq for Name {
 
     ghost laws = { partial_equiv_from_equiv nat_list_eq_equiv };
 
-    fn eq(&self, other: &Name) -> bool {
+    fn eq(&self, other: &Name) -> bool
+        ensures value { result ≡ bytes_eq self.now other.now }
+        ensures exact { IsTrue result ↔ (self.now ≡ other.now) }
+    {
         self.bytes() == other.bytes()
     }
 }
@@ -117,5 +120,19 @@ impl Hash for Name {
 
     fn hash<H: Hasher>(&self, state: &mut H) {
         self.bytes().hash(state);
+    }
+}
+
+/// The empty name.
+impl Default for Name {
+    ghost use Rattle.std.specs.Prelude.{◌≡◌, []};
+
+    ghost is_default = { λ name. name ≡ [] };
+
+    fn default() -> Name {
+        Name {
+            length: 0,
+            bytes: [0; 32],
+        }
     }
 }

@@ -1,12 +1,13 @@
 //! Decimal prices.
-ghost use Rattle.std.specs.Prelude.{◌≡◌, ◌↔◌, ◌≤◌, IsSome, IfSome};
+ghost use Rattle.std.specs.Prelude.{◌≡◌, ◌↔◌, ◌≤◌, IsTrue, IsSome, IfSome};
+ghost use Rattle.std.specs.Cmp.{partial_equiv_from_equiv};
 
 use std::marker::Model;
 
 /// A decimal price: `mantissa` divided by ten to the power of `decimals`, which is 0 to 18.
 ///
 /// Prices are equal where both parts are: 1.0 and 1.00 are two prices.
-#[derive(Clone, Copy, Debug, PartialEq, Eq)]
+#[derive(Clone, Copy, Debug)]
 pub struct Price {
     mantissa: i64,
     decimals: u8,
@@ -54,4 +55,25 @@ impl Price {
     {
         self.decimals
     }
+}
+
+impl PartialEq for Price {
+    ghost use Rattle.mama_msg.specs.Equality.{same_price, same_price_equivalence};
+
+    ghost eq = { same_price };
+
+    ghost laws = { partial_equiv_from_equiv same_price_equivalence };
+
+    fn eq(&self, other: &Price) -> bool
+        ensures value { result ≡ same_price self.now other.now }
+        ensures exact { IsTrue result ↔ (self.now ≡ other.now) }
+    {
+        self.mantissa == other.mantissa && self.decimals == other.decimals
+    }
+}
+
+impl Eq for Price {
+    ghost use Rattle.mama_msg.specs.Equality.{same_price_equivalence};
+
+    ghost laws = { same_price_equivalence };
 }

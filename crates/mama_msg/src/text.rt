@@ -88,7 +88,10 @@ impl PartialEq for TextValue {
 
     ghost laws = { partial_equiv_from_equiv nat_list_eq_equiv };
 
-    fn eq(&self, other: &TextValue) -> bool {
+    fn eq(&self, other: &TextValue) -> bool
+        ensures value { result ≡ bytes_eq self.now other.now }
+        ensures exact { IsTrue result ↔ (self.now ≡ other.now) }
+    {
         self.bytes() == other.bytes()
     }
 }

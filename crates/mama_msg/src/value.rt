@@ -1,5 +1,6 @@
 //! The value of a field.
-ghost use Rattle.std.specs.Prelude.{◌≡◌, IfOk};
+ghost use Rattle.std.specs.Prelude.{◌≡◌, ◌↔◌, IsTrue, IfOk};
+ghost use Rattle.std.specs.Cmp.{partial_equiv_from_equiv};
 
 use crate::price::Price;
 use crate::raw::BytesValue;
@@ -7,7 +8,7 @@ use crate::text::TextValue;
 use mama_memory::OutOfMemory;
 
 /// The value of a field, of one of fourteen types.
-#[derive(Debug, PartialEq, Eq, Drop)]
+#[derive(Debug, Drop)]
 pub enum Value {
     /// True or false.
     Bool(bool),
@@ -61,4 +62,41 @@ impl Value {
             Value::Moment(at) => Ok(Value::Moment(*at)),
         }
     }
+}
+
+impl PartialEq for Value {
+    ghost use Rattle.mama_msg.specs.Equality.{same_value, same_value_equivalence};
+
+    ghost eq = { same_value };
+
+    ghost laws = { partial_equiv_from_equiv same_value_equivalence };
+
+    fn eq(&self, other: &Value) -> bool
+        ensures value { result ≡ same_value self.now other.now }
+        ensures exact { IsTrue result ↔ (self.now ≡ other.now) }
+    {
+        match (self, other) {
+            (Value::Bool(a), Value::Bool(b)) => a == b,
+            (Value::Char(a), Value::Char(b)) => a == b,
+            (Value::I8(a), Value::I8(b)) => a == b,
+            (Value::I16(a), Value::I16(b)) => a == b,
+            (Value::I32(a), Value::I32(b)) => a == b,
+            (Value::I64(a), Value::I64(b)) => a == b,
+            (Value::U8(a), Value::U8(b)) => a == b,
+            (Value::U16(a), Value::U16(b)) => a == b,
+            (Value::U32(a), Value::U32(b)) => a == b,
+            (Value::U64(a), Value::U64(b)) => a == b,
+            (Value::Text(a), Value::Text(b)) => a == b,
+            (Value::Bytes(a), Value::Bytes(b)) => a == b,
+            (Value::Price(a), Value::Price(b)) => a == b,
+            (Value::Moment(a), Value::Moment(b)) => a == b,
+            _ => false,
+        }
+    }
+}
+
+impl Eq for Value {
+    ghost use Rattle.mama_msg.specs.Equality.{same_value_equivalence};
+
+    ghost laws = { same_value_equivalence };
 }

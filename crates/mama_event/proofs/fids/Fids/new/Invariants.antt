@@ -8,5 +8,5 @@ invariant-loop-i l = record {
   size : length l.kept ≡ 8;
   front : take l.i l.kept ≡ take l.i l.fids;
   back : drop l.i l.kept ≡ replicate (8 - l.i) 0;
-  rest : is_ascending_above l.before (drop l.i l.fids) ≡ is_ascending_above 0 l.fids
+  rest : is_ascending_above l.before (drop l.i l.fids) ≡ is_ascending_above 0 l.fids;
 }

@@ -5,5 +5,5 @@ use Rattle.mama_event.proofs.order.Orders.copied.Given as goal
 abbrev pub invariant-loop-i : goal.invariant-loop-i
 invariant-loop-i l = record {
   size : length l.orders-inside.orders ≡ 8;
-  front : take l.i l.orders-inside.orders ≡ take l.i l.self-inside.orders
+  front : take l.i l.orders-inside.orders ≡ take l.i l.self-inside.orders;
 }

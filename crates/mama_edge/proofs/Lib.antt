@@ -1,0 +1,3 @@
+pub mod ToldLaws
+pub mod DecimalLaws
+pub mod QuotedLaws

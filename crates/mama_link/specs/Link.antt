@@ -1,0 +1,111 @@
+-- What a link lets through. The messages that go into a link are numbered from 1, and `rows` are its fault rows.
+use Rattle.std.specs.Prelude.{◌≡◌, ℕ, ◌+◌, Bool, true, false, not, ◌==◌, nat_lt, List, [], ◌∷◌, ◌++◌, length, Option, None, Some, filter, map}
+use Rattle.std.specs.List.{enumerate_from, flat_map, range_with_len}
+use Rattle.mama_link.specs.declared.faults.Fault.{Fault}
+use Rattle.mama_link.specs.declared.faults.Fault.TheVariants.{Lose, Dup, Hold}
+use Rattle.mama_link.specs.declared.faults.FaultRow.{FaultRow}
+use Rattle.mama_link.specs.Faults.{fault_at}
+
+-- whether the message numbered i, which has this fault if any, is held until the place
+abbrev pub is_held_until : ℕ → ℕ → Option Fault → Bool
+is_held_until place i None = false
+is_held_until place i (Some Lose) = false
+is_held_until place i (Some Dup) = false
+is_held_until place i (Some (Hold by)) = i + by == place
+
+-- whether it is held until after the place
+abbrev pub is_held_after : ℕ → ℕ → Option Fault → Bool
+is_held_after place i None = false
+is_held_after place i (Some Lose) = false
+is_held_after place i (Some Dup) = false
+is_held_after place i (Some (Hold by)) = nat_lt place (i + by)
+
+module _ {T : Type 0} where
+  -- what comes out of a message in its own place: the message, but nothing where it is lost or held, and twice where it is repeated
+  abbrev pub copies : Option Fault → T → List T
+  copies None message = message ∷ []
+  copies (Some Lose) message = []
+  copies (Some Dup) message = message ∷ message ∷ []
+  copies (Some (Hold by)) message = []
+
+  -- the messages with their numbers
+  abbrev pub numbered : List T → List (ℕ × T)
+  numbered x = enumerate_from 1 x
+
+  -- the messages without their numbers
+  abbrev pub messages : List (ℕ × T) → List T
+  messages entries = map (λ (entry : ℕ × T). entry.1) entries
+
+  -- what comes out of one numbered message in its own place
+  abbrev pub own : List FaultRow → ℕ × T → List T
+  own rows entry = copies (fault_at rows entry.0) entry.1
+
+  -- whether a numbered message is held until the place
+  abbrev pub is_due : List FaultRow → ℕ → ℕ × T → Bool
+  is_due rows place entry = is_held_until place entry.0 (fault_at rows entry.0)
+
+  -- whether a numbered message is held until after the place
+  abbrev pub is_held : List FaultRow → ℕ → ℕ × T → Bool
+  is_held rows place entry = is_held_after place entry.0 (fault_at rows entry.0)
+
+  -- what comes out at a place when the messages x go in: the own output of the message of that number, and then the messages held until there, in order of number
+  abbrev pub emit : List FaultRow → List T → ℕ → List T
+  emit rows x place =
+      flat_map (own rows) (filter (λ (entry : ℕ × T). entry.0 == place) (numbered x)) ++ messages (filter (is_due rows place) (numbered x))
+
+  -- the messages that are still held when x went in, with their numbers, in order of number
+  abbrev pub held : List FaultRow → List T → List (ℕ × T)
+  held rows x = filter (is_held rows (length x)) (numbered x)
+
+  -- what comes out at the link's end: the messages still held, in order of number
+  abbrev pub rest : List FaultRow → List T → List T
+  rest rows x = messages (held rows x)
+
+  -- all that comes out of a link into which the messages x go before its end
+  abbrev pub through : List FaultRow → List T → List T
+  through rows x = flat_map (emit rows x) (range_with_len 1 (length x)) ++ rest rows x
+
+-- a link at rest: its rows, how many messages it passed, and those that it holds, with their numbers, in order of number
+pub record Standing (T : Type 0) : Type 0 where
+  pub rows : List FaultRow
+  pub passed : ℕ
+  pub held : List (ℕ × T)
+
+-- what contracts see of a link: how it stands, and for how many rows' messages it has room
+pub record LinkData (T : Type 0) : Type 0 where
+  pub standing : Standing T
+  pub room : ℕ
+
+module _ {T : Type 0} where
+  -- how a link of these rows stands when the messages x went in
+  abbrev pub standing_after : List FaultRow → List T → Standing T
+  standing_after rows x = record { rows = rows; passed = length x; held = held rows x }
+
+  -- a link stands for the messages that went in
+  abbrev pub StandsFor : List T → Standing T → Type 0
+  StandsFor x link = link ≡ standing_after link.rows x
+
+  -- what a link puts out when it passes the message next
+  abbrev pub coming : Standing T → T → List T
+  coming link message =
+      copies (fault_at link.rows (link.passed + 1)) message ++ messages (filter (is_due link.rows (link.passed + 1)) link.held)
+
+  -- the message, where its fault holds it back
+  abbrev pub held_back : Option Fault → T → Option T
+  held_back None message = None
+  held_back (Some Lose) message = None
+  held_back (Some Dup) message = None
+  held_back (Some (Hold by)) message = Some message
+
+  -- at a place, nothing or the message of that number
+  abbrev pub at_place : ℕ → Option T → List (ℕ × T)
+  at_place place None = []
+  at_place place (Some message) = (place, message) ∷ []
+
+  -- how a link stands when it passed the message next
+  abbrev pub standing_next : Standing T → T → Standing T
+  standing_next link message = record {
+    rows = link.rows;
+    passed = link.passed + 1;
+    held = filter (λ (entry : ℕ × T). not (is_due link.rows (link.passed + 1) entry)) link.held ++ at_place (link.passed + 1) (held_back (fault_at link.rows (link.passed + 1)) message);
+  }

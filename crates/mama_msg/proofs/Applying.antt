@@ -1,0 +1,43 @@
+-- What the laws of keyed lists say of messages.
+use Rattle.std.specs.Prelude.{◌≡◌, ℕ, ◌+◌, false, not, List, [], length, fold, count_by, Some, if◌then◌else◌, slice_get}
+use Rattle.std.proofs.Common.{◌∙◌}
+use Rattle.mama_msg.specs.declared.field.Key.{Key}
+use Rattle.mama_msg.specs.Field.{FieldData, key_of, same_key}
+use Rattle.mama_msg.specs.Keys.{same_key-Decides}
+use Rattle.mama_msg.specs.Message.{AreDistinct, has_key, with_key, updated, apply}
+use Rattle.mama_msg.proofs.KeyedLists.{fold_put, Apart-merged, merged_nil, at_key-merged}
+use Rattle.mama_msg.proofs.Merging.{merged_merged, merged_self, merged_from_nil, slice_get-merged_kept, slice_get-merged_replaced, length-merged}
+use Rattle.mama_msg.proofs.Indexing.{Apart-from_distinct, AreDistinct-from_apart}
+
+pub fold-updated : (m u : List FieldData) → AreDistinct u → fold updated m u ≡ apply m u
+fold-updated m u d = fold_put key_of same_key same_key-Decides m u (Apart-from_distinct u d)
+
+pub apply-from_nil : (u : List FieldData) → apply [] u ≡ u
+apply-from_nil u = merged_from_nil key_of same_key same_key-Decides u
+
+pub fold-updated_nil : (u : List FieldData) → AreDistinct u → fold updated [] u ≡ u
+fold-updated_nil u d = fold-updated [] u d ∙ apply-from_nil u
+
+pub apply-nil : (m : List FieldData) → apply m [] ≡ m
+apply-nil m = merged_nil key_of same_key same_key-Decides m
+
+pub apply-self : (m : List FieldData) → AreDistinct m → apply m m ≡ m
+apply-self m d = merged_self key_of same_key same_key-Decides m (Apart-from_distinct m d)
+
+pub apply-apply : (m u v : List FieldData) → AreDistinct v → apply (apply m u) v ≡ apply m (apply u v)
+apply-apply m u v d = merged_merged key_of same_key same_key-Decides m u v (Apart-from_distinct v d)
+
+pub AreDistinct-apply : (m u : List FieldData) → AreDistinct m → AreDistinct u → AreDistinct (apply m u)
+AreDistinct-apply m u d e = AreDistinct-from_apart (apply m u) (Apart-merged key_of same_key same_key-Decides m u (Apart-from_distinct m d) (Apart-from_distinct u e))
+
+pub with_key-apply : (k : Key) (m u : List FieldData) → AreDistinct u → with_key k (apply m u) ≡ (if has_key k u then with_key k u else with_key k m)
+with_key-apply k m u d = at_key-merged key_of same_key same_key-Decides k m u (Apart-from_distinct u d)
+
+pub slice_get-apply_kept : (m u : List FieldData) (i : ℕ) (f : FieldData) → slice_get m i ≡ Some f → has_key (key_of f) u ≡ false → slice_get (apply m u) i ≡ Some f
+slice_get-apply_kept m u i f h absent = slice_get-merged_kept key_of same_key same_key-Decides m u i f h absent
+
+pub slice_get-apply_replaced : (m u : List FieldData) (i : ℕ) (f g : FieldData) → slice_get m i ≡ Some f → with_key (key_of f) u ≡ Some g → slice_get (apply m u) i ≡ Some g
+slice_get-apply_replaced m u i f g h found = slice_get-merged_replaced key_of same_key same_key-Decides m u i f g h found
+
+pub length-apply : (m u : List FieldData) → length (apply m u) ≡ length m + count_by (λ f. not (has_key (key_of f) m)) u
+length-apply m u = length-merged key_of same_key same_key-Decides m u

@@ -1,0 +1,16 @@
+pub mod Choices
+pub mod Cuts
+pub mod Numbers
+pub mod Quotes
+pub mod Hex
+pub mod Texts
+pub mod Fields
+pub mod Asked
+pub mod Distinct
+pub mod Spaced
+pub mod Cutting
+pub mod IdLaws
+pub mod KindLaws
+pub mod ValueLaws
+pub mod FieldLaws
+pub mod OrderLaws
