@@ -1,5 +1,5 @@
 -- Each kind of step keeps the rule of a lane, and what looks tell.
-use Rattle.std.proofs.Common.{◌≡◌, ◌≢◌, ℕ, zero, suc, ◌+◌, ◌<◌, ◌≤◌, Bool, List, [], ◌∷◌, ◌++◌, length, map, set, sym, refl, ap, ◌∙◌, subst, ◌⊎◌, inl, inr, ⊎_elim, append_assoc, append-nil, lt_of_not-le, arith}
+use Rattle.std.proofs.Common.{◌≡◌, ◌≢◌, ℕ, ◌+◌, ◌<◌, ◌≤◌, List, [], ◌∷◌, ◌++◌, length, set, sym, refl, ap, ◌∙◌, subst, ◌⊎◌, ⊎_elim, append_assoc, append-nil, lt_of_not-le, arith}
 use native.Mathlib.Decide.{dec_le}
 use Rattle.std.proofs.lemmas.List.{map-append}
 use Rattle.std.specs.List.{AllByRecursion}
@@ -15,7 +15,7 @@ use Rattle.mama_lane.specs.declared.view.View.{View}
 use Rattle.mama_lane.specs.declared.view.Role.{Role}
 use Rattle.mama_lane.specs.declared.view.Role.TheVariants.{Taker, Port, Note, Spent}
 use Rattle.mama_lane.specs.Steps.{opener, spent, bound, with_port, next_port, with_put, with_taken, noted_port, with_learnt, with_closed}
-use Rattle.mama_lane.specs.Rule.{notes_of, IsPort, Fits, Kept, IsKept, CameFromPort, IsCaughtUp, AreBegun}
+use Rattle.mama_lane.specs.Rule.{notes_of, Fits, Kept, IsKept, CameFromPort, IsCaughtUp, AreBegun}
 use Rattle.mama_lane.proofs.Lists.{by_port-append, by_port_here, by_port_else, each_map, each_both, each_snoc, changed, changed_here, changed_else, changed_cases, first_of, at_end, at_same, at_there, not_empty}
 
 -- no pass has two roles

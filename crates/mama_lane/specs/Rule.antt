@@ -1,5 +1,5 @@
 -- The rule of a lane: what it holds and what its passes know fit together.
-use Rattle.std.specs.Prelude.{◌≡◌, ◌≢◌, ℕ, ◌<◌, ◌≤◌, List, [], ◌∷◌, ◌++◌, map}
+use Rattle.std.specs.Prelude.{◌≡◌, ◌≢◌, ℕ, ◌<◌, ◌≤◌, List, [], ◌++◌, map}
 use Rattle.std.specs.List.{AllByRecursion}
 use mathlib.Core.List.{IsPrefix}
 use mathlib.Core.Option.{some}
@@ -14,7 +14,8 @@ abbrev pub notes_of : {E N : Type 0} → (E → N) → List (ℕ × E) → List 
 notes_of noted items = map (λ x. (x.0, noted x.1)) items
 
 module _ {N : Type 0} where
-  -- the pass at i is the one of its port. The taker made the port, and has not closed it; it knows what the port sent.
+  -- The pass at i is the one pass of its port. The taker made the port and has not closed it, and the pass knows what
+  -- the port sent and the bounds.
   pub record IsPort (taker : View N) (seat : ℕ → ℕ) (sent : ℕ → List N) (i : ℕ) (v : View N) : Type 0 where
     pub seated : seat v.number ≡ i
     pub made : v.number < taker.made
@@ -22,26 +23,30 @@ module _ {N : Type 0} where
     pub bounds : v.bounds ≡ taker.bounds
     pub open_yet : AllByRecursion (λ c. c.0 ≢ v.number) taker.closed
 
-  -- what a port or a note knows is true
+  -- what the pass at i knows, if it is a port's or a note's, is true
   pub record Fits (taker : View N) (seat : ℕ → ℕ) (sent : ℕ → List N) (i : ℕ) (v : View N) : Type 0 where
     pub port : v.role ≡ Port → IsPort taker seat sent i v
     pub note : v.role ≡ Note → IsPrefix v.put (sent v.number)
 
 module _ {E N : Type 0} (noted : E → N) (lawful : Bounds → ℕ → List N → Type 0) where
-  -- Of each port: what was taken from it, and then what the lane holds of it, is what it put, which is lawful.
-  -- seat: the pass of each port; sent: what each port put.
+  -- The rule of a lane, where the taker's view is taker, the lane holds items, and views has the view of each pass:
+  -- of each port, what was taken from it and then what the lane holds of it is what it put (flows), which is lawful
+  -- (allowed). What the taker learnt and closed, and what ports and notes know, is true.
   pub record Kept (taker : View N) (items : List (ℕ × E)) (views : List (View N)) : Type 0 where
+    -- the pass of each port, and what each port put
     pub seat : ℕ → ℕ
     pub sent : ℕ → List N
     pub role : taker.role ≡ Taker
     pub flows : (port : ℕ) → sent port ≡ by_port port (taker.taken ++ notes_of noted items)
+    -- ports that were not made have put nothing
     pub unmade : (port : ℕ) → taker.made ≤ port → sent port ≡ []
     pub allowed : (port : ℕ) → lawful taker.bounds port (sent port)
+    -- what a note named is a beginning of what its port put; a port that was closed puts no more
     pub learnt : AllByRecursion (λ c. IsPrefix c.1 (sent c.0)) taker.learnt
     pub closed : AllByRecursion (λ c. (c.0 < taker.made) × (c.1 ≡ sent c.0)) taker.closed
     pub fits : (i : ℕ) (v : View N) → get_elem? views i ≡ some v → Fits taker seat sent i v
 
-  -- the taker's pass is the first
+  -- the rule, as the queue keeps it: the taker's pass is the first
   abbrev pub IsKept : List (ℕ × E) → List (View N) → Type 0
   IsKept items views = (taker : View N) → get_elem? views 0 ≡ some taker → Kept taker items views
 

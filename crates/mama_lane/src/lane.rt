@@ -1,5 +1,3 @@
-ghost use Rattle.std.specs.Prelude.{◌≡◌};
-
 use crate::rule::Queue;
 use mama_event::{Bounds, Stream};
 use std::marker::Model;

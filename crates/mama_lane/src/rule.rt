@@ -1,5 +1,5 @@
 // The rule of a lane's queue, and what each kind of step does to the view of the pass that makes it.
-ghost use Rattle.std.specs.Prelude.{◌≡◌, ◌+◌};
+ghost use Rattle.std.specs.Prelude.{◌≡◌};
 ghost use Rattle.mama_event.specs.declared.shape.Bounds.{Bounds as BoundsRecord};
 ghost use Rattle.mama_lane.specs.Rule.{IsKept, CameFromPort, IsCaughtUp, AreBegun};
 ghost use Rattle.mama_lane.specs.Steps.{opener, spent, bound, with_port, next_port, with_put, with_taken, noted_port, with_learnt, with_closed};

@@ -1,10 +1,10 @@
 // The steps of the passes of a lane, as their views see them.
-ghost use Rattle.std.specs.Prelude.{◌≡◌, ◌++◌, ◌∷◌, [], ℕ, OnErr, OnOk, IfErr, IfSome, IfNone};
+ghost use Rattle.std.specs.Prelude.{◌≡◌, ◌++◌, ◌∷◌, [], OnErr, OnOk, IfErr, IfSome, IfNone};
 ghost use Rattle.std.specs.List.{AllByRecursion};
 ghost use mathlib.Core.List.{IsPrefix};
 ghost use Rattle.crossbeam_queue.specs.SegTies.{IsSegPassOf};
 ghost use Rattle.mama_journal.specs.Lane.{by_port};
-ghost use Rattle.mama_lane.specs.declared.view.Role.TheVariants.{Taker as TakerRole, Port as PortRole, Note as NoteRole};
+ghost use Rattle.mama_lane.specs.declared.view.Role.TheVariants.{Port as PortRole, Note as NoteRole};
 ghost use Rattle.mama_lane.specs.Rule.{CameFromPort};
 ghost use Rattle.mama_lane.specs.Steps.{bound, with_port, next_port, with_put, with_taken, noted_port, with_learnt, with_closed};
 

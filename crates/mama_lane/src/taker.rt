@@ -24,9 +24,7 @@ pub struct Taker<E: Stream> {
 }
 
 impl<E: Stream> Model for Taker<E> {
-    ghost use Rattle.std.specs.Prelude.{◌≡◌, ℕ, false, None, [], slice_index_or, vec_len};
-    ghost use Rattle.std.specs.List.{list_any};
-    ghost use Rattle.mama_journal.specs.Lane.{by_port};
+    ghost use Rattle.std.specs.Prelude.{◌≡◌, None};
     ghost use Rattle.mama_lane.specs.Values.{TakerValue};
 
     ghost Value = { TakerValue E.Note };

@@ -6,7 +6,7 @@ ghost use Rattle.mama_event.specs.Lawful.{IsLawful};
 ghost use Rattle.mama_event.specs.ToTimers.{note_of, is_last, fits};
 ghost use Rattle.mama_journal.specs.Lane.{by_port};
 ghost use Rattle.mama_lane.specs.Rule.{notes_of};
-ghost use Rattle.mama_lane.specs.Values.{after_put, new_port, new_ports, new_taker};
+ghost use Rattle.mama_lane.specs.Values.{after_put, new_port, new_ports};
 
 use super::*;
 use mama_event::{Bounds, ObjectId, OutOfMemory, Stream, TimerId, TimersNote, ToTimers};

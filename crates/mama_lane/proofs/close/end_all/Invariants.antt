@@ -1,5 +1,4 @@
-use Rattle.std.proofs.Common.{◌≡◌, ◌++◌}
-use Rattle.std.specs.List.{All}
+use Rattle.std.proofs.Common.{◌≡◌}
 use Rattle.crossbeam_queue.specs.SegTies.{IsSegPassOf}
 use Rattle.mama_lane.specs.Steps.{with_ended}
 use Rattle.mama_lane.proofs.close.end_all.Given as goal

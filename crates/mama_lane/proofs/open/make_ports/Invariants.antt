@@ -1,4 +1,4 @@
-use Rattle.std.proofs.Common.{◌≡◌, ◌≤◌, length, vec_len, vec_capacity}
+use Rattle.std.proofs.Common.{◌≡◌, ◌≤◌, vec_len, vec_capacity}
 use Rattle.crossbeam_queue.specs.SegTies.{IsSegPassOf}
 use Rattle.mama_lane.specs.Steps.{opened}
 use Rattle.mama_lane.specs.Values.{new_ports}

@@ -1,4 +1,3 @@
-use Rattle.std.proofs.Common.{ap, sym}
 use Rattle.mama_lane.proofs.Kept.{binds}
 use Rattle.mama_lane.proofs.steps.bind.Goals as goal
 

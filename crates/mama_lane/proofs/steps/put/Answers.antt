@@ -1,4 +1,3 @@
-use Rattle.std.proofs.Common.{sym, subst, ℕ}
 use Rattle.mama_lane.proofs.Kept.{puts}
 use Rattle.mama_lane.proofs.steps.put.Goals as goal
 
