@@ -3,3 +3,5 @@ pub mod LinkLemmas
 pub mod SlotLemmas
 pub mod CursorLemmas
 pub mod PassLemmas
+pub mod LawLemmas
+pub mod Rows

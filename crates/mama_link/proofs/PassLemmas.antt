@@ -31,8 +31,12 @@ pub record PassEnds {T : Type 0} (rows : List FaultRow) (table : List (ℕ × Fa
   pub out : (x : List T) → StandsFor x (record { rows = rows; passed = passed; held = held_in table slots }) →
       copies fault message ++ taken_at (slots_due place 0 table) slots ≡ emit rows (x ++ message ∷ []) (length x + 1)
   pub standing : (x : List T) → StandsFor x (record { rows = rows; passed = passed; held = held_in table slots }) →
-      StandsFor (x ++ message ∷ []) (record { rows = rows; passed = place; held = held_in table
-        (if is_some fault then emptied_at (slots_due place 0 table) slots ++ held_back fault message ∷ [] else emptied_at (slots_due place 0 table) slots) })
+      StandsFor (x ++ message ∷ []) (record {
+        rows = rows;
+        passed = place;
+        held = held_in table
+            (if is_some fault then emptied_at (slots_due place 0 table) slots ++ held_back fault message ∷ [] else emptied_at (slots_due place 0 table) slots);
+      })
 
 module _ {T : Type 0} (rows : List FaultRow) (table : List (ℕ × Fault)) (passed : ℕ) (slots : List (Option T)) (is : IsTable rows table) (caught : IsCaughtUp table passed (length slots)) where
   are_told : AreTold rows table
@@ -77,7 +81,7 @@ module _ {T : Type 0} (rows : List FaultRow) (table : List (ℕ × Fault)) (pass
   -- as many are held as were, without those due, and with the next message where it is held
   pub counted : (o : Option Fault) (message : T) →
       length (filter (λ (entry : ℕ × T). not (is_due rows (passed + 1) entry)) (held_in table slots) ++ at_place (passed + 1) (held_back o message))
-        + length (messages (filter (is_due rows (passed + 1)) (held_in table slots)))
+      + length (messages (filter (is_due rows (passed + 1)) (held_in table slots)))
       ≡ length (held_in table slots) + length (option_to_list (held_back o message))
   counted o message =
       let due : ℕ × T → Bool = is_due rows (passed + 1) in
@@ -132,8 +136,12 @@ pub record PreparedEnds {T : Type 0} (rows : List FaultRow) (passed count room :
   pub out : (x : List T) → StandsFor x link.standing →
       copies prepared.fault prepared.message ++ taken_at (slots_due prepared.place 0 (table_of rows)) slots ≡ emit link.standing.rows (x ++ prepared.message ∷ []) (length x + 1)
   pub standing : (x : List T) → StandsFor x link.standing →
-      StandsFor (x ++ prepared.message ∷ []) (record { rows = rows; passed = prepared.place; held = held_in (table_of rows)
-        (if is_some prepared.fault then emptied_at (slots_due prepared.place 0 (table_of rows)) slots ++ held_back prepared.fault prepared.message ∷ [] else emptied_at (slots_due prepared.place 0 (table_of rows)) slots) })
+      StandsFor (x ++ prepared.message ∷ []) (record {
+        rows = rows;
+        passed = prepared.place;
+        held = held_in (table_of rows)
+            (if is_some prepared.fault then emptied_at (slots_due prepared.place 0 (table_of rows)) slots ++ held_back prepared.fault prepared.message ∷ [] else emptied_at (slots_due prepared.place 0 (table_of rows)) slots);
+      })
 
 -- a link as contracts see it, from its parts
 abbrev pub seen : {T : Type 0} → List FaultRow → ℕ → ℕ → List (Option T) → LinkData T

@@ -39,6 +39,7 @@ impl<T> Link<T> {
     pub fn new(alloc: Global, faults: Faults) -> Link<T>
         ensures { result.standing ≡ standing_after faults [] }
     {
+        // No row has the index 0, so the first message comes before or at the first entry.
         let _ = faults.table();
         Link {
             faults,
@@ -78,7 +79,8 @@ impl<T: Duplicate> Link<T> {
         Prepared::new(place, fault, message, due)
     }
 
-    /// Makes the copies and the room that the next pass takes, which is to be of this message. What the link holds stays.
+    /// Makes the copies and the room that the next pass takes, which is to be of this message. What the link holds stays,
+    /// and what was prepared before stays prepared.
     pub fn prepare(&mut self, message: &T) -> Result<Prepared<T>, OutOfMemory>
         ensures prepared { IfOk result (λ prepared. IsPreparedFor self.new prepared) }
         ensures message { IfOk result (λ prepared. prepared.message ≡ message.now) }
@@ -108,7 +110,8 @@ impl<T: Duplicate> Link<T> {
         self.passed = place;
     }
 
-    /// Passes the message, the next of the link. Err is want of memory, and gives the message back.
+    /// Passes the message, the next of the link. Err is want of memory, and gives the message back. It is also the
+    /// answer of a link that 2^64 - 1 messages have passed.
     pub fn pass(&mut self, message: T, out: &mut Outbox<T>) -> Result<(), T>
         ensures out { OnOk result ((x : List T) → StandsFor x self.old.standing → out.new.items ≡ out.old.items ++ emit self.old.standing.rows (x ++ message ∷ []) (length x + 1)) }
         ensures standing { OnOk result ((x : List T) → StandsFor x self.old.standing → StandsFor (x ++ message ∷ []) self.new.standing) }
@@ -140,3 +143,6 @@ impl<T: Duplicate> Link<T> {
         Ok(())
     }
 }
+
+#[cfg(test)]
+mod tests;

@@ -42,9 +42,9 @@ keep-requires g c =
     let dues : c.due_at.result.now ≡ slots_due c.args.prepared.place 0 table = c.due_at.ensures.due ∙ ap (λ (n : ℕ). slots_due n 0 table) c.place-place.ensures in
     let taken = ap (λ (ds : List ℕ). length (taken_at ds slots)) dues in
     λ faulty.
-        let some : IsSome c.args.prepared.fault = search rules in
-        let room = e.room_for some in
-        omega (arith, room, c.release-released.ensures.len, c.release-released.ensures.capacity)
+    let some : IsSome c.args.prepared.fault = search rules in
+    let room = e.room_for some in
+    omega (arith, room, c.release-released.ensures.len, c.release-released.ensures.capacity)
 
 pub invariant_of-self : goal.invariant_of-self
 invariant_of-self g c =
@@ -58,7 +58,7 @@ invariant_of-self g c =
     let emptied = ap (λ (ds : List ℕ). emptied_at ds slots) dues in
     let one = ap (λ (o : Option _). length (option_to_list o)) c.put_own-own.ensures.held in
     let count : c.self.inside.held - c.release-released.result + c.count_slot.result ≡ c.self.inside.held - length (taken_at (slots_due c.args.prepared.place 0 table) slots) + length (option_to_list (held_back fault message)) =
-        omega (arith, taken, one, c.release-released.ensures.count, c.count_slot.ensures) in
+    omega (arith, taken, one, c.release-released.ensures.count, c.count_slot.ensures) in
     let left : c.keep.new.slots.items ≡ (if is_some fault then emptied_at (slots_due c.args.prepared.place 0 table) slots ++ held_back fault message ∷ [] else emptied_at (slots_due c.args.prepared.place 0 table) slots) = cc in
     kept_along table _ _ _ _ _ _ e.ends.kept c.place-place.ensures count left
 
