@@ -1,0 +1,4 @@
+pub mod Edges
+pub mod Kept
+pub mod Lists
+pub mod Takers
