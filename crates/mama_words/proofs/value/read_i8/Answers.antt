@@ -1,0 +1,10 @@
+use Rattle.std.proofs.Common.{◌^◌, refl, sym, ◌∙◌, arith}
+use Rattle.std.specs.Int.{w8}
+use Rattle.mama_words.proofs.Numbers.{int_in_cast, int_in_narrow_none}
+use Rattle.mama_words.proofs.value.read_i8.Goals as goal
+
+pub returns-in_err-number : goal.returns-in_err-number
+returns-in_err-number c = c.from_residual.ensures ∙ int_in_narrow_none (2 ^ 7) c.args.text.now (omega arith) c.in_err-number.ensures
+
+pub returns : goal.returns
+returns c = c.ok.ensures.value ∙ int_in_cast w8 (2 ^ 7) c.args.text.now c.in_ok-number.number c.try_from.result refl c.in_ok-number.ensures c.try_from.ensures

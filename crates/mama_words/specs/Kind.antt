@@ -1,0 +1,40 @@
+-- Kinds and qualities, and the words for them.
+use Rattle.std.specs.Prelude.{ℕ, codes, List, Option, Some, None, if◌then◌else◌}
+use Rattle.std.specs.Str.{bytes_eq}
+use Rattle.mama_event.specs.declared.market.SubKind.{SubKind}
+use Rattle.mama_event.specs.declared.market.SubKind.TheVariants.{Market, Snapshot, Basic}
+use Rattle.mama_event.specs.declared.market.MsgKind.{MsgKind}
+use Rattle.mama_event.specs.declared.market.MsgKind.TheVariants.{Initial, Update, Recap}
+use Rattle.mama_event.specs.declared.market.Quality.{Quality}
+use Rattle.mama_event.specs.declared.market.Quality.TheVariants.{Ok as IsOk, Stale}
+
+abbrev pub sub_kind_text : SubKind → List ℕ
+sub_kind_text Market = codes "market"
+sub_kind_text Snapshot = codes "snapshot"
+sub_kind_text Basic = codes "basic"
+
+abbrev pub sub_kind_in : List ℕ → Option SubKind
+sub_kind_in word =
+    if bytes_eq word (codes "market") then Some Market
+    else (if bytes_eq word (codes "snapshot") then Some Snapshot
+    else (if bytes_eq word (codes "basic") then Some Basic else None))
+
+abbrev pub msg_kind_text : MsgKind → List ℕ
+msg_kind_text Initial = codes "initial"
+msg_kind_text Update = codes "update"
+msg_kind_text Recap = codes "recap"
+
+abbrev pub msg_kind_in : List ℕ → Option MsgKind
+msg_kind_in word =
+    if bytes_eq word (codes "initial") then Some Initial
+    else (if bytes_eq word (codes "update") then Some Update
+    else (if bytes_eq word (codes "recap") then Some Recap else None))
+
+abbrev pub quality_text : Quality → List ℕ
+quality_text IsOk = codes "ok"
+quality_text Stale = codes "stale"
+
+abbrev pub quality_in : List ℕ → Option Quality
+quality_in word =
+    if bytes_eq word (codes "ok") then Some IsOk
+    else (if bytes_eq word (codes "stale") then Some Stale else None)

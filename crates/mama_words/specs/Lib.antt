@@ -1,0 +1,9 @@
+pub mod Reading
+pub mod Parting
+pub mod Number
+pub mod Quote
+pub mod Kind
+pub mod Id
+pub mod Value
+pub mod Field
+pub mod Order

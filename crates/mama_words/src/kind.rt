@@ -1,0 +1,86 @@
+ghost use Rattle.std.specs.Prelude.{◌≡◌, ◌++◌, OnOk, OnErr};
+ghost use Rattle.mama_words.specs.Kind as kinds;
+
+use mama_event::{MsgKind, Quality, SubKind};
+use mama_memory::OutOfMemory;
+
+/// The kind of subscription that a word names.
+pub fn read_sub_kind(word: &[u8]) -> Option<SubKind>
+    ensures { result ≡ kinds.sub_kind_in word.now }
+{
+    if word == b"market".as_slice() {
+        Some(SubKind::Market)
+    } else if word == b"snapshot".as_slice() {
+        Some(SubKind::Snapshot)
+    } else if word == b"basic".as_slice() {
+        Some(SubKind::Basic)
+    } else {
+        None
+    }
+}
+
+/// Appends the word for a kind of subscription. Where no memory is found, nothing is appended.
+pub fn print_sub_kind(kind: SubKind, out: &mut Vec<u8>) -> Result<(), OutOfMemory>
+    ensures ok { OnOk result (out.new.items ≡ out.old.items ++ kinds.sub_kind_text kind) }
+    ensures err { OnErr result (out.new.items ≡ out.old.items) }
+{
+    match kind {
+        SubKind::Market => out.extend_from_slice(b"market")?,
+        SubKind::Snapshot => out.extend_from_slice(b"snapshot")?,
+        SubKind::Basic => out.extend_from_slice(b"basic")?,
+    }
+    Ok(())
+}
+
+/// The kind of message that a word names.
+pub fn read_msg_kind(word: &[u8]) -> Option<MsgKind>
+    ensures { result ≡ kinds.msg_kind_in word.now }
+{
+    if word == b"initial".as_slice() {
+        Some(MsgKind::Initial)
+    } else if word == b"update".as_slice() {
+        Some(MsgKind::Update)
+    } else if word == b"recap".as_slice() {
+        Some(MsgKind::Recap)
+    } else {
+        None
+    }
+}
+
+/// Appends the word for a kind of message. Where no memory is found, nothing is appended.
+pub fn print_msg_kind(kind: MsgKind, out: &mut Vec<u8>) -> Result<(), OutOfMemory>
+    ensures ok { OnOk result (out.new.items ≡ out.old.items ++ kinds.msg_kind_text kind) }
+    ensures err { OnErr result (out.new.items ≡ out.old.items) }
+{
+    match kind {
+        MsgKind::Initial => out.extend_from_slice(b"initial")?,
+        MsgKind::Update => out.extend_from_slice(b"update")?,
+        MsgKind::Recap => out.extend_from_slice(b"recap")?,
+    }
+    Ok(())
+}
+
+/// The quality that a word names.
+pub fn read_quality(word: &[u8]) -> Option<Quality>
+    ensures { result ≡ kinds.quality_in word.now }
+{
+    if word == b"ok".as_slice() {
+        Some(Quality::Ok)
+    } else if word == b"stale".as_slice() {
+        Some(Quality::Stale)
+    } else {
+        None
+    }
+}
+
+/// Appends the word for a quality. Where no memory is found, nothing is appended.
+pub fn print_quality(quality: Quality, out: &mut Vec<u8>) -> Result<(), OutOfMemory>
+    ensures ok { OnOk result (out.new.items ≡ out.old.items ++ kinds.quality_text quality) }
+    ensures err { OnErr result (out.new.items ≡ out.old.items) }
+{
+    match quality {
+        Quality::Ok => out.extend_from_slice(b"ok")?,
+        Quality::Stale => out.extend_from_slice(b"stale")?,
+    }
+    Ok(())
+}
