@@ -1,17 +1,17 @@
 -- The decimal spelling of a number, and what its digits stand for.
-use Rattle.std.proofs.Common.{◌≡◌, ◌≢◌, ℕ, zero, suc, ◌+◌, ◌-◌, ◌*◌, ◌/◌, ◌%◌, ◌^◌, ◌<◌, ◌≤◌, List, [], ◌∷◌, ◌++◌, length, get_or, take, drop, set, refl, append_assoc, ap, sym, ◌∙◌, subst, arith, ℤ, pos, negsuc, FitsSigned, ◌⊎◌, inl, inr, Option, Some, None, IfSome, IfNone}
+use Rattle.std.proofs.Common.{◌≡◌, ◌≢◌, ℕ, zero, suc, ◌+◌, ◌*◌, ◌/◌, ◌%◌, ◌^◌, ◌<◌, ◌≤◌, List, [], ◌∷◌, ◌++◌, length, get_or, take, drop, set, append_assoc, ap, sym, ◌∙◌, subst, arith, ℤ, pos, negsuc, FitsSigned, inl, inr, Option, Some, None, IfSome, IfNone}
 use Rattle.std.specs.List.{AllByRecursion, between}
 use Rattle.std.specs.Char.{IsAsciiDigit}
 use Rattle.std.specs.Str.Parse.{AllDigits, digits_value}
 use Rattle.std.proofs.lemmas.Str.Parse.{IsNumeralModel, numerals_by_value, tells_digits, digit_from_value}
-use Rattle.std.proofs.lemmas.Fmt.{digits_decimal, digits_value-decimal, decimal_nonempty, first_decimal, decimal_injective, decimal_digit, decimal_step, decimal-digits_value, length-decimal-le}
+use Rattle.std.proofs.lemmas.Fmt.{digits_decimal, digits_value-decimal, decimal_nonempty, first_decimal, decimal_injective, decimal_digit, decimal_step, decimal-digits_value}
 use Rattle.std.specs.Int.{w64}
 use Rattle.std.specs.Int.Signed.{mag}
 use Rattle.std.proofs.lemmas.Int.Digits.{digits_value_more, digits_more}
 use Rattle.std.proofs.lemmas.Bool.{cases_lt}
 use Rattle.std.proofs.lemmas.Slice.{first_rest}
 use Rattle.std.proofs.lemmas.List.{drop-set, drop_all, append-nil, length_push}
-use Rattle.std.proofs.lemmas.Str.Parse.{digits_value-take-le, digit_at}
+use Rattle.std.proofs.lemmas.Str.Parse.{digits_value-take-le}
 use Rattle.std.specs.Char.{digit_value}
 use Rattle.mama_edge.specs.Decimal.{decimal, int_decimal}
 
@@ -112,9 +112,11 @@ pub record BeginsAsNumeral (text : List ℕ) : Type 0 where
   pub some : 0 < length text
   pub lead : get_or text 0 0 ≡ 48 → length text ≡ 1
 
-pub begins : (text : List ℕ) → 0 < length text → (get_or text 0 0 ≡ 48 × (length text ≤ 1)) ⊎ (get_or text 0 0 ≢ 48) → BeginsAsNumeral text
-begins text some (inl short) = record { some = some; lead = λ _. omega (arith, some, short.1) }
-begins text some (inr other) = record { some = some; lead = λ e. absurd (other e) }
+pub begins : (text : List ℕ) → 0 < length text → ¬ ((get_or text 0 0 ≡ 48) × (1 < length text)) → BeginsAsNumeral text
+begins text some no_spare = record {
+  some = some;
+  lead = λ e. elim (cases_lt 1 (length text)) [ inl long ↦ absurd (no_spare (e, long)) | inr short ↦ omega arith ];
+}
 
 pub read_found : (r : Option ℕ) (text : List ℕ) → BeginsAsNumeral text → IfSome r (λ n. AllDigits 10 text × (n ≡ digits_value 10 text)) → IfSome r (λ n. n < 2 ^ 64) → IfSome r (λ n. text ≡ decimal n)
 read_found None text start found fits = tt

@@ -30,6 +30,8 @@ unquoted false (byte ∷ bytes) =
 
 -- what is read after a byte was taken, whatever comes behind it
 abbrev pub Continues : List ℕ → List ℕ → Bool → ℕ → Taken → Type 0
-Continues old new is_escaped byte (More next) = (bytes : List ℕ) → put_front old (unquoted is_escaped (byte ∷ bytes)) ≡ put_front new (unquoted next bytes)
-Continues old new is_escaped byte Closed = (new ≡ old) × ((bytes : List ℕ) → unquoted is_escaped (byte ∷ bytes) ≡ at_end bytes)
+Continues old new is_escaped byte (More next) =
+    (bytes : List ℕ) → put_front old (unquoted is_escaped (byte ∷ bytes)) ≡ put_front new (unquoted next bytes)
+Continues old new is_escaped byte Closed =
+    (new ≡ old) × ((bytes : List ℕ) → unquoted is_escaped (byte ∷ bytes) ≡ at_end bytes)
 Continues old new is_escaped byte Bad = (bytes : List ℕ) → unquoted is_escaped (byte ∷ bytes) ≡ None

@@ -1,6 +1,5 @@
 ghost use Rattle.std.specs.Prelude.{◌≡◌, ◌↔◌, ◌⊎◌, ◌+◌, ◌-◌, ◌<◌, ◌≤◌, [], ◌++◌, Some, length, take, min, Contains, IsErr, IfOk, OnErr, MatchResult, vec_len, vec_capacity};
 ghost use Rattle.mama_edge.specs.Count.{Rose, raised};
-ghost use Rattle.mama_edge.specs.Told.{with_end};
 
 use crate::sink::{Sink, WriteFailed};
 use mama_memory::OutOfMemory;
@@ -28,7 +27,14 @@ impl Model for MemorySink {
 
     ghost Value = { SinkState };
 
-    ghost view = { λ s. record { written = s.bytes.items; room = s.room; piece = s.piece; failing = s.failing.items; calls = s.calls; faults = s.faults } };
+    ghost view = { λ s. record {
+      written = s.bytes.items;
+      room = s.room;
+      piece = s.piece;
+      failing = s.failing.items;
+      calls = s.calls;
+      faults = s.faults;
+    } };
 
     ghost invariant = { λ s. (vec_len s.bytes ≤ s.room) × (s.room ≤ vec_capacity s.bytes) × (0 < s.piece) };
 }
@@ -42,7 +48,14 @@ impl MemorySink {
         failing: Vec<u64>,
     ) -> Result<MemorySink, OutOfMemory>
         requires { 0 < piece }
-        ensures { IfOk result (λ sink. sink ≡ record { written = []; room = room; piece = piece; failing = failing.items; calls = 0; faults = 0 }) }
+        ensures { IfOk result (λ sink. sink ≡ record {
+          written = [];
+          room = room;
+          piece = piece;
+          failing = failing.items;
+          calls = 0;
+          faults = 0;
+        }) }
     {
         let bytes = Vec::with_capacity(alloc, room)?;
         Ok(MemorySink {
@@ -74,16 +87,19 @@ impl Sink for MemorySink {
         requires { 0 < length buf.now }
         ensures some { IfOk result (λ n. 0 < n) }
         ensures bound { IfOk result (λ n. n ≤ length buf.now) }
-        ensures appended { IfOk result (λ n. Some self.new.written ≡ with_end (Some self.old.written) (take n buf.now)) }
+        ensures appended { IfOk result (λ n. self.new.written ≡ self.old.written ++ take n buf.now) }
 
         ensures failed { OnErr result (Rose self.old.faults self.new.faults) }
         ensures unchanged { OnErr result (self.new.written ≡ self.old.written) }
         ensures never_falls { self.old.faults ≤ self.new.faults }
 
-        ensures refused { IsErr result ↔ (Contains self.old.failing (raised self.old.calls) ⊎ (length self.old.written ≡ self.old.room)) }
-        ensures amount { IfOk result (λ n. n ≡ min self.old.piece (min (length buf.now) (self.old.room - length self.old.written))) }
+        ensures refused { IsErr result ↔ (Contains self.old.failing (raised self.old.calls)
+            ⊎ (length self.old.written ≡ self.old.room)) }
+        ensures amount { IfOk result (λ n. n ≡
+            min self.old.piece (min (length buf.now) (self.old.room - length self.old.written))) }
         ensures after { MatchResult result
-            (λ n. self.new ≡ record self.old { written = self.old.written ++ take n buf.now; calls = raised self.old.calls })
+            (λ n. self.new ≡ record self.old
+            { written = self.old.written ++ take n buf.now; calls = raised self.old.calls })
             (λ _. self.new ≡ record self.old { calls = raised self.old.calls; faults = raised self.old.faults }) }
     {
         self.calls = self.calls.saturating_add(1);

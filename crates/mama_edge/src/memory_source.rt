@@ -1,6 +1,5 @@
-ghost use Rattle.std.specs.Prelude.{◌≡◌, ◌↔◌, ℕ, ◌<◌, ◌≤◌, [], Some, length, take, drop, min, Contains, IsErr, IfOk, OnErr, MatchResult};
+ghost use Rattle.std.specs.Prelude.{◌≡◌, ◌↔◌, ℕ, ◌<◌, ◌≤◌, [], ◌++◌, Some, length, take, drop, min, Contains, IsErr, IfOk, OnErr, MatchResult};
 ghost use Rattle.mama_edge.specs.Count.{Rose, raised};
-ghost use Rattle.mama_edge.specs.Told.{with_front};
 
 use crate::source::{ReadFailed, Source};
 use std::marker::Model;
@@ -26,7 +25,13 @@ impl Model for MemorySource {
 
     ghost Value = { SourceState };
 
-    ghost view = { λ s. record { left = drop s.start s.bytes.items; piece = s.piece; failing = s.failing.items; calls = s.calls; faults = s.faults } };
+    ghost view = { λ s. record {
+      left = drop s.start s.bytes.items;
+      piece = s.piece;
+      failing = s.failing.items;
+      calls = s.calls;
+      faults = s.faults;
+    } };
 
     ghost invariant = { λ s. (s.start ≤ vec_len s.bytes) × (0 < s.piece) };
 }
@@ -35,7 +40,13 @@ impl MemorySource {
     /// A source of these bytes, of which a call gives at most `piece`.
     pub fn new(bytes: Vec<u8>, piece: usize, failing: Vec<u64>) -> MemorySource
         requires { 0 < piece }
-        ensures { result ≡ record { left = bytes.items; piece = piece; failing = failing.items; calls = 0; faults = 0 } }
+        ensures { result ≡ record {
+          left = bytes.items;
+          piece = piece;
+          failing = failing.items;
+          calls = 0;
+          faults = 0;
+        } }
     {
         MemorySource {
             bytes,
@@ -64,7 +75,7 @@ impl Source for MemorySource {
     fn read(&mut self, buf: &mut [u8]) -> Result<usize, ReadFailed>
         requires { 0 < length buf.old }
         ensures bound { IfOk result (λ n. n ≤ length buf.new) }
-        ensures given { IfOk result (λ n. Some self.old.left ≡ with_front (take n buf.new) (Some self.new.left)) }
+        ensures given { IfOk result (λ n. self.old.left ≡ take n buf.new ++ self.new.left) }
         ensures end { IfOk result (λ n. (n ≡ 0) ↔ (self.old.left ≡ [])) }
 
         ensures failed { OnErr result (Rose self.old.faults self.new.faults) }

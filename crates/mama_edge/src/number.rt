@@ -1,4 +1,4 @@
-ghost use Rattle.std.specs.Prelude.{◌≡◌, ℕ, ℤ, suc, ◌+◌, ◌*◌, ◌^◌, ◌<◌, ◌≤◌, ◌∷◌, ◌++◌, drop, length, IfSome, IfNone, SomeIff, OnOk, OnErr, FitsSigned};
+ghost use Rattle.std.specs.Prelude.{◌≡◌, ℕ, ℤ, suc, ◌+◌, ◌*◌, ◌^◌, ◌<◌, ◌≤◌, ◌∷◌, ◌++◌, drop, length, slice_index, ◌↔◌, IsTrue, IfSome, IfNone, SomeIff, OnOk, OnErr, FitsSigned};
 ghost use Rattle.std.specs.Char.{IsAsciiDigit, digit_value};
 ghost use Rattle.std.specs.Int.{w64};
 ghost use Rattle.std.specs.List.{AllByRecursion};
@@ -16,10 +16,17 @@ pub fn read_u64(text: &[u8]) -> Option<u64>
     if text.is_empty() {
         return None;
     }
-    if text[0] == b'0' && text.len() > 1 {
+    if has_spare_zero(text) {
         return None;
     }
     digits_number(text)
+}
+
+/// Whether a zero stands in front of more.
+fn has_spare_zero(text: &[u8]) -> bool
+    ensures { IsTrue result ↔ ((slice_index text.now 0 ≡ 48) × (1 < length text.now)) }
+{
+    text.len() > 1 && text[0] == b'0'
 }
 
 /// The number that these digits stand for, zeros in front or not.
@@ -37,7 +44,8 @@ fn digits_number(digits: &[u8]) -> Option<u64>
 
 /// The number with one digit more behind it.
 fn next_number(number: u64, byte: u8) -> Option<u64>
-    ensures { SomeIff result ((digit_value byte < 10) × (number * 10 + digit_value byte < 2 ^ 64)) (number * 10 + digit_value byte) }
+    ensures { let next = number * 10 + digit_value byte in
+        SomeIff result ((digit_value byte < 10) × (next < 2 ^ 64)) next }
 {
     let digit = char::from(byte).to_digit(10)?;
     number.checked_mul(10)?.checked_add(u64::from(digit))
@@ -67,13 +75,11 @@ fn read_negative(digits: &[u8]) -> Option<i64>
     ensures none { IfNone result ((n : ℕ) → n < 2 ^ 63 → digits.now ≡ decimal (suc n) → ⊥) }
 {
     let size = read_u64(digits)?;
-    if size == 0 {
+    let below = size.checked_sub(1)?;
+    if below >= 1 << 63 {
         return None;
     }
-    if size > 1 << 63 {
-        return None;
-    }
-    Some(-1 - ((size - 1) as i64))
+    Some(-1 - (below as i64))
 }
 
 /// The number from 0 on that has these digits.

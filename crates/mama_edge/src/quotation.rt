@@ -9,8 +9,10 @@ use std::alloc::Global;
 /// The text that stands between these quotes, where the whole of it is the spelling of a quoted text of printable
 /// characters. Quotes and backslashes in it stand behind a backslash, and nothing else does.
 pub fn read_quoted(alloc: Global, text: &[u8]) -> Result<Option<Vec<u8>>, OutOfMemory>
-    ensures found { IfOk result (λ answer. IfSome answer (λ read. (text.now ≡ quoted read.items) × IsPrintable read.items)) }
-    ensures none { IfOk result (λ answer. IfNone answer ((t : List ℕ) → IsPrintable t → text.now ≡ quoted t → ⊥)) }
+    ensures found { IfOk result (λ answer. IfSome answer (λ read.
+        (text.now ≡ quoted read.items) × IsPrintable read.items)) }
+    ensures none { IfOk result (λ answer. IfNone answer
+        ((t : List ℕ) → IsPrintable t → text.now ≡ quoted t → ⊥)) }
 {
     if text.is_empty() {
         return Ok(None);

@@ -44,9 +44,12 @@ pub fn read_all<S: Source>(alloc: Global, source: &mut S, limit: usize) -> Resul
 
     ensures fault { IsErrOf result ReadAll.ReadFault → Rose (S.faults source.old) (S.faults source.new) }
     // One byte more than the limit was taken exactly where that is the answer.
-    ensures too_long { IsErrOf result ReadAll.TooLong → Lost (limit + 1) (S.left source.old) (S.left source.new) }
-    ensures partly { IsErrOf result ReadAll.ReadFault → LostAtMost limit (S.left source.old) (S.left source.new) }
-    ensures no_memory { IsErrOf result ReadAll.OutOfMemory → LostAtMost limit (S.left source.old) (S.left source.new) }
+    ensures too_long { IsErrOf result ReadAll.TooLong →
+        Lost (S.left source.old) (S.left source.new) (limit + 1) }
+    ensures partly { IsErrOf result ReadAll.ReadFault →
+        LostAtMost (S.left source.old) (S.left source.new) limit }
+    ensures no_memory { IsErrOf result ReadAll.OutOfMemory →
+        LostAtMost (S.left source.old) (S.left source.new) limit }
 
     ensures never_falls { S.faults source.old ≤ S.faults source.new }
 {

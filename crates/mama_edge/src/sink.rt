@@ -1,6 +1,6 @@
 ghost use Rattle.std.specs.Prelude.{◌≡◌, ℕ, ◌<◌, ◌≤◌, List, Option, length, take, IfOk, OnErr};
 ghost use Rattle.mama_edge.specs.Count.{Rose};
-ghost use Rattle.mama_edge.specs.Told.{with_end};
+ghost use Rattle.mama_edge.specs.Told.{Appended, Kept};
 
 use std::error::Error;
 use std::fmt;
@@ -31,9 +31,9 @@ pub trait Sink {
         requires { 0 < length buf.now }
         ensures some { IfOk result (λ n. 0 < n) }
         ensures bound { IfOk result (λ n. n ≤ length buf.now) }
-        ensures appended { IfOk result (λ n. written self.new ≡ with_end (written self.old) (take n buf.now)) }
+        ensures appended { IfOk result (λ n. Appended (written self.old) (written self.new) (take n buf.now)) }
 
         ensures failed { OnErr result (Rose (faults self.old) (faults self.new)) }
-        ensures unchanged { OnErr result (written self.new ≡ written self.old) }
+        ensures unchanged { OnErr result (Kept (written self.old) (written self.new)) }
         ensures never_falls { faults self.old ≤ faults self.new };
 }

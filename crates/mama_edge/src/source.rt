@@ -1,6 +1,6 @@
 ghost use Rattle.std.specs.Prelude.{◌≡◌, ◌↔◌, ℕ, ◌<◌, ◌≤◌, List, [], Option, length, take, IfOk, IfSome, OnErr};
 ghost use Rattle.mama_edge.specs.Count.{Rose};
-ghost use Rattle.mama_edge.specs.Told.{with_front};
+ghost use Rattle.mama_edge.specs.Told.{Gave, Kept};
 
 use std::error::Error;
 use std::fmt;
@@ -31,11 +31,11 @@ pub trait Source {
         requires { 0 < length buf.old }
         ensures bound { IfOk result (λ n. n ≤ length buf.new) }
         // The bytes are the first that were left, and they are gone.
-        ensures given { IfOk result (λ n. left self.old ≡ with_front (take n buf.new) (left self.new)) }
+        ensures given { IfOk result (λ n. Gave (left self.old) (left self.new) (take n buf.new)) }
         // There are none exactly where none were left.
         ensures end { IfOk result (λ n. IfSome (left self.old) (λ bytes. (n ≡ 0) ↔ (bytes ≡ []))) }
 
         ensures failed { OnErr result (Rose (faults self.old) (faults self.new)) }
-        ensures unchanged { OnErr result (left self.new ≡ left self.old) }
+        ensures unchanged { OnErr result (Kept (left self.old) (left self.new)) }
         ensures never_falls { faults self.old ≤ faults self.new };
 }

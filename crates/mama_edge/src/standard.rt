@@ -1,42 +1,34 @@
-ghost use Rattle.std.specs.Prelude.{◌≡◌, ℕ, None, is_ok, if◌then◌else◌};
-ghost use Rattle.mama_edge.specs.Count.{raised};
+ghost use Rattle.std.specs.Prelude.{◌≡◌, None};
 
 use crate::clock::Clock;
 use crate::sink::{Sink, WriteFailed};
 use crate::source::{ReadFailed, Source};
 use std::io::{Read, Write};
-use std::marker::Model;
 use std::time;
 
-/// A reader as a source. It tells no bytes. Each read that answers an error is a fault, and the count of faults stands
-/// still at 2^64 - 1. Contracts see that count.
+/// A reader as a source. It tells the bytes that its reader tells: those of memory, and none of the standard input.
+///
+/// Each read that answers an error is a fault, and the count of faults stands still at 2^64 - 1.
 #[derive(Drop)]
 pub struct StdSource<R> {
     inner: R,
     faults: u64,
 }
 
-impl<R> Model for StdSource<R> {
-    ghost use Rattle.std.specs.Prelude.{ℕ};
-
-    ghost Value = { ℕ };
-
-    ghost view = { λ s. s.faults };
-}
-
-impl<R> StdSource<R> {
+impl<R: Read> StdSource<R> {
     /// The reader, before any fault.
     pub fn new(inner: R) -> StdSource<R>
-        ensures { result ≡ 0 }
+        ensures tells { ⟦<StdSource<R> as Source>⟧.left result ≡ R.remaining inner }
+        ensures fresh { ⟦<StdSource<R> as Source>⟧.faults result ≡ 0 }
     {
         StdSource { inner, faults: 0 }
     }
 }
 
 impl<R: Read> Source for StdSource<R> {
-    ghost left = { λ _. None };
+    ghost left = { λ s. R.remaining s.inner };
 
-    ghost faults = { λ count. count };
+    ghost faults = { λ s. s.faults };
 
     fn read(&mut self, buf: &mut [u8]) -> Result<usize, ReadFailed> {
         match self.inner.read(buf) {
@@ -49,35 +41,30 @@ impl<R: Read> Source for StdSource<R> {
     }
 }
 
-/// A writer as a sink. It tells no bytes. Each write that answers an error or takes no byte is a fault, and the count
-/// of faults stands still at 2^64 - 1. Contracts see that count. It does not flush: lend it the writer, and flush that.
+/// A writer as a sink. It tells the bytes that its writer tells: those in memory, and none of the standard output. It
+/// does not flush: lend it the writer, and flush that.
+///
+/// Each write that answers an error or takes no byte is a fault, and the count of faults stands still at 2^64 - 1.
 #[derive(Drop)]
 pub struct StdSink<W> {
     inner: W,
     faults: u64,
 }
 
-impl<W> Model for StdSink<W> {
-    ghost use Rattle.std.specs.Prelude.{ℕ};
-
-    ghost Value = { ℕ };
-
-    ghost view = { λ s. s.faults };
-}
-
-impl<W> StdSink<W> {
+impl<W: Write> StdSink<W> {
     /// The writer, before any fault.
     pub fn new(inner: W) -> StdSink<W>
-        ensures { result ≡ 0 }
+        ensures tells { ⟦<StdSink<W> as Sink>⟧.written result ≡ W.contents inner }
+        ensures fresh { ⟦<StdSink<W> as Sink>⟧.faults result ≡ 0 }
     {
         StdSink { inner, faults: 0 }
     }
 }
 
 impl<W: Write> Sink for StdSink<W> {
-    ghost written = { λ _. None };
+    ghost written = { λ s. W.contents s.inner };
 
-    ghost faults = { λ count. count };
+    ghost faults = { λ s. s.faults };
 
     fn write(&mut self, buf: &[u8]) -> Result<usize, WriteFailed> {
         match self.inner.write(buf) {

@@ -1,3 +1,5 @@
+ghost use Rattle.std.specs.Prelude.{◌≡◌, IfOk, IfSome};
+
 use crate::*;
 use std::alloc::{AllocError, Global};
 use std::io;
@@ -36,9 +38,18 @@ fn writes_up_to_a_fault(rt: HostRuntime) -> Result<(), Fail> {
             Some(_) => assert_eq!(rt; answer, Err(WriteFault { written }), "room {room}"),
             None => assert_eq!(rt; answer, Ok(()), "room {room}"),
         }
-        assert!(rt; written <= 400);
-        assert_eq!(rt; sink.written(), &text[..written as usize], "room {room}");
+        assert_eq!(rt;
+            Some(sink.written()),
+            text.get(..written as usize),
+            "room {room}"
+        );
     }
+    assert_eq!(rt;
+        copied(alloc, Vec::from_slice(alloc, &text)?)?.as_slice(),
+        text.as_slice()
+    );
+    assert!(rt; written(alloc, &text)?.is_none());
+    assert!(rt; written(alloc, b"mama")?.is_some());
     let mut full = MemorySink::new(alloc, 0, 1, Vec::new(alloc))?;
     assert_eq!(rt; write_all_counted(&mut full, b""), Ok(()));
     assert_eq!(rt;
@@ -100,6 +111,25 @@ fn gives_moments_in_turn(rt: HostRuntime) -> Result<(), Fail> {
     assert!(rt; real.now() > 1_500_000_000_000);
     OpenGate.turn(GateActor::Queue(1));
     Ok(())
+}
+
+/// A copy, by way of a source over memory.
+fn copied(alloc: Global, bytes: Vec<u8>) -> Result<Vec<u8>, ReadAll>
+    ensures { IfOk result (λ copy. copy.items ≡ bytes.items) }
+{
+    let mut source = MemorySource::new(bytes, 1, Vec::new(alloc));
+    read_all(alloc, &mut source, usize::MAX)
+}
+
+/// A sink over memory with the text, if that has 100 bytes at most.
+fn written(alloc: Global, text: &[u8]) -> Result<Option<MemorySink>, OutOfMemory>
+    ensures { IfOk result (λ answer. IfSome answer (λ sink. sink.written ≡ text.now)) }
+{
+    let mut sink = MemorySink::new(alloc, 100, 10, Vec::new(alloc))?;
+    match write_all_counted(&mut sink, text) {
+        Ok(()) => Ok(Some(sink)),
+        Err(_) => Ok(None),
+    }
 }
 
 /// A reader that gives, and a writer that takes, a byte a call, and fails at the call with this number. The writer takes

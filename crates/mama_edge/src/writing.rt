@@ -1,6 +1,6 @@
-ghost use Rattle.std.specs.Prelude.{◌≡◌, ◌<◌, ◌≤◌, length, take, IfErr, OnOk, OnErr};
+ghost use Rattle.std.specs.Prelude.{◌<◌, ◌≤◌, length, take, IfErr, OnOk, OnErr};
 ghost use Rattle.mama_edge.specs.Count.{Rose};
-ghost use Rattle.mama_edge.specs.Told.{with_end};
+ghost use Rattle.mama_edge.specs.Told.{Appended};
 
 use crate::sink::Sink;
 use std::error::Error;
@@ -24,11 +24,11 @@ impl Error for WriteFault {}
 
 /// Writes the text, all of it or up to the first write that fails. It takes no memory. An empty text is no write.
 pub fn write_all_counted<K: Sink>(sink: &mut K, text: &[u8]) -> Result<(), WriteFault>
-    ensures whole { OnOk result (K.written sink.new ≡ with_end (K.written sink.old) text.now) }
+    ensures whole { OnOk result (Appended (K.written sink.old) (K.written sink.new) text.now) }
 
     // At a fault a part was written, which is not the whole.
     ensures part { IfErr result (λ fault.
-        K.written sink.new ≡ with_end (K.written sink.old) (take fault.written text.now)) }
+        Appended (K.written sink.old) (K.written sink.new) (take fault.written text.now)) }
     ensures less { IfErr result (λ fault. fault.written < length text.now) }
     ensures fault { OnErr result (Rose (K.faults sink.old) (K.faults sink.new)) }
 

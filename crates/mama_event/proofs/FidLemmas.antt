@@ -1,8 +1,10 @@
 -- A list of fids that is written into an array one by one.
-use Rattle.std.proofs.Common.{◌≡◌, ℕ, suc, ◌+◌, ◌-◌, ◌<◌, Bool, true, ◌&&◌, nat_lt, List, ◌∷◌, [], ◌++◌, length, take, drop, replicate, set, get_or, ap, sym, ◌∙◌, arith}
-use Rattle.std.proofs.lemmas.List.{take_more, take_more_set, drop-set-lt, drop_more}
-use Rattle.std.proofs.lemmas.Bool.{lt-ltb}
-use Rattle.mama_event.specs.FidList.{is_ascending_above}
+use Rattle.std.proofs.Common.{◌≡◌, ℕ, zero, suc, ◌+◌, ◌-◌, ◌<◌, ◌≤◌, Bool, true, false, ◌&&◌, ◌||◌, ◌==◌, nat_lt, nat_le, List, ◌∷◌, [], ◌++◌, length, take, drop, replicate, set, get_or, ap, sym, ◌∙◌, refl, arith}
+use Rattle.std.proofs.lemmas.List.{take_more, take_more_set, drop-set-lt, drop_more, take_all}
+use Rattle.std.proofs.lemmas.Bool.{lt-ltb, le-leb, and_from, and_parts, ltb-true, ne_eqb}
+use Rattle.std.proofs.Math.Seq.{drop-length}
+use Rattle.std.specs.List.{list_any}
+use Rattle.mama_event.specs.FidList.{is_ascending_above, is_fid_list}
 
 -- one more fid is kept
 pub fid_kept : (kept fids : List ℕ) (i : ℕ) → i < length kept → i < length fids → take i kept ≡ take i fids
@@ -30,3 +32,46 @@ ascending_rest fids i before more above =
     let test : nat_lt before x ≡ true = lt-ltb before x above in
     let passes : (nat_lt before x && is_ascending_above x (drop (i + 1) fids)) ≡ is_ascending_above x (drop (i + 1) fids) = ap (λ (b : Bool). b && is_ascending_above x (drop (i + 1) fids)) test in
     sym (ap (λ (xs : List ℕ). is_ascending_above before xs) (drop_more fids i 0 more) ∙ passes)
+
+-- the list that was kept whole can be asked for
+pub fid_list_kept : (kept fids : List ℕ) (before : ℕ) → 1 ≤ length fids → length fids ≤ 8
+    → take (length fids) kept ≡ take (length fids) fids
+    → is_ascending_above before (drop (length fids) fids) ≡ is_ascending_above 0 fids
+    → is_fid_list (take (length fids) kept) ≡ true
+fid_list_kept kept fids before some most front rest =
+    let same : take (length fids) kept ≡ fids = front ∙ take_all (length fids) fids (omega arith) in
+    let ascending : is_ascending_above 0 fids ≡ true = sym rest ∙ ap (λ (xs : List ℕ). is_ascending_above before xs) (drop-length fids) in
+    rw same (and_from (nat_le 1 (length fids) && nat_le (length fids) 8) (is_ascending_above 0 fids)
+    (and_from (nat_le 1 (length fids)) (nat_le (length fids) 8) (le-leb 1 (length fids) some) (le-leb (length fids) 8 most)) ascending)
+
+-- each fid of an ascending list is above the bound
+pub ascending_at : (bound : ℕ) (fids : List ℕ) (i : ℕ) → is_ascending_above bound fids ≡ true → i < length fids → bound < get_or fids i 0
+ascending_at bound [] i ascending within = omega arith
+ascending_at bound (f ∷ fs) zero ascending within = ltb-true bound f (and_parts (nat_lt bound f) (is_ascending_above f fs) ascending).0
+ascending_at bound (f ∷ fs) (suc i) ascending within =
+    let parts = and_parts (nat_lt bound f) (is_ascending_above f fs) ascending in
+    let first : bound < f = ltb-true bound f parts.0 in
+    let later : f < get_or fs i 0 = ascending_at f fs i parts.1 (omega arith) in
+    omega arith
+
+-- a fid of an ascending list is none of those before it
+pub ascending_fresh : (bound : ℕ) (fids : List ℕ) (i : ℕ) → is_ascending_above bound fids ≡ true → i < length fids
+    → list_any (λ fid. fid == get_or fids i 0) (take i fids) ≡ false
+ascending_fresh bound fids zero ascending within = refl
+ascending_fresh bound [] (suc i) ascending within = refl
+ascending_fresh bound (f ∷ fs) (suc i) ascending within =
+    let parts = and_parts (nat_lt bound f) (is_ascending_above f fs) ascending in
+    let above : f < get_or fs i 0 = ascending_at f fs i parts.1 (omega arith) in
+    let other : (f == get_or fs i 0) ≡ false = ne_eqb f (get_or fs i 0) (λ same. omega arith) in
+    ap (λ (b : Bool). b || list_any (λ fid. fid == get_or fs i 0) (take i fs)) other ∙ ascending_fresh f fs i parts.1 (omega arith)
+
+-- no fid of an ascending list is 0
+pub ascending_above_none : (bound : ℕ) (fids : List ℕ) (i : ℕ) → is_ascending_above bound fids ≡ true
+    → list_any (λ fid. fid == 0) (take i fids) ≡ false
+ascending_above_none bound fids zero ascending = refl
+ascending_above_none bound [] (suc i) ascending = refl
+ascending_above_none bound (f ∷ fs) (suc i) ascending =
+    let parts = and_parts (nat_lt bound f) (is_ascending_above f fs) ascending in
+    let above : bound < f = ltb-true bound f parts.0 in
+    let other : (f == 0) ≡ false = ne_eqb f 0 (λ same. omega arith) in
+    ap (λ (b : Bool). b || list_any (λ fid. fid == 0) (take i fs)) other ∙ ascending_above_none f fs i parts.1

@@ -1,15 +1,17 @@
 -- The fids of a question, as they lie in the value and as contracts see them.
-use Rattle.std.specs.Prelude.{◌≡◌, ℕ, ◌+◌, ◌-◌, ◌≤◌, ◌<◌, List, ◌++◌, length, take, drop, replicate}
+use Rattle.std.specs.Prelude.{◌≡◌, ℕ, true, ◌+◌, ◌-◌, ◌≤◌, ◌<◌, List, ◌++◌, length, take, drop, replicate}
 use Rattle.std.proofs.Common.{ap, ◌∙◌, sym, arith}
 use Rattle.std.proofs.lemmas.List.{take-append-drop, length-take-le}
+use Rattle.mama_event.specs.FidList.{is_fid_list}
 use Rattle.mama_event.specs.declared.fids.Fids.TheInside.{Inside}
 
 -- the fids in order: as many as the length says
 abbrev pub list_of : Inside → List ℕ
 list_of f = take f.length f.fids
 
--- what is past the length is zero, so that equal lists are equal values
-pub record IsPadded (f : Inside) : Type 0 where
+-- the fids can be asked for; what is past the length is zero, so that equal lists are equal values
+pub record AreFids (f : Inside) : Type 0 where
+  pub form : is_fid_list (list_of f) ≡ true
   pub short : f.length ≤ 8
   pub size : length f.fids ≡ 8
   pub rest : drop f.length f.fids ≡ replicate (8 - f.length) 0
@@ -26,5 +28,5 @@ padded_again k fids short size rest =
     ap (λ (n : ℕ). record { length = n; fids = take k fids ++ replicate (8 - n) 0 }) long
     ∙ ap (λ (xs : List ℕ). record { length = k; fids = xs }) whole
 
-pub inside_of-list_of : (f : Inside) → IsPadded f → inside_of (list_of f) ≡ f
+pub inside_of-list_of : (f : Inside) → AreFids f → inside_of (list_of f) ≡ f
 inside_of-list_of f fits = padded_again f.length f.fids fits.short fits.size fits.rest

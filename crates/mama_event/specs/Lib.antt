@@ -1,7 +1,10 @@
 pub mod Fids
+pub mod Equality
+pub mod EqualityLaws
 pub mod FidList
 pub mod Lawful
 pub mod LawfulLaws
+pub mod Laws
 pub mod Object
 pub mod Ports
 pub mod Publisher

@@ -28,6 +28,68 @@ pub enum Callback {
     Reply { body: Msg },
 }
 
+impl PartialEq for Callback {
+    ghost use Rattle.std.specs.Prelude.{◌≡◌};
+    ghost use Rattle.std.specs.Cmp.{partial_equiv_from_equiv};
+    ghost use Rattle.mama_event.specs.Equality.{same_callback};
+    ghost use Rattle.mama_event.specs.EqualityLaws.{same_callback_equivalence};
+
+    ghost eq = { same_callback };
+
+    ghost laws = { partial_equiv_from_equiv same_callback_equivalence };
+
+    fn eq(&self, other: &Callback) -> bool
+        ensures { result ≡ same_callback self.now other.now }
+    {
+        match (self, other) {
+            (Callback::Create, Callback::Create) => true,
+            (
+                Callback::Msg { msg, quality },
+                Callback::Msg {
+                    msg: other_msg,
+                    quality: other_quality,
+                },
+            ) => msg == other_msg && quality == other_quality,
+            (
+                Callback::Gap { first, to },
+                Callback::Gap {
+                    first: other_first,
+                    to: other_to,
+                },
+            ) => first == other_first && to == other_to,
+            (
+                Callback::Quality { quality, number },
+                Callback::Quality {
+                    quality: other_quality,
+                    number: other_number,
+                },
+            ) => quality == other_quality && number == other_number,
+            (
+                Callback::RecapRequest { sender },
+                Callback::RecapRequest {
+                    sender: other_sender,
+                },
+            ) => sender == other_sender,
+            (Callback::Error { code }, Callback::Error { code: other_code }) => code == other_code,
+            (Callback::Destroy, Callback::Destroy) => true,
+            (
+                Callback::Tick { moment },
+                Callback::Tick {
+                    moment: other_moment,
+                },
+            ) => moment == other_moment,
+            (Callback::Reply { body }, Callback::Reply { body: other_body }) => body == other_body,
+            _ => false,
+        }
+    }
+}
+
+impl Eq for Callback {
+    ghost use Rattle.mama_event.specs.EqualityLaws.{same_callback_equivalence};
+
+    ghost laws = { same_callback_equivalence };
+}
+
 impl Duplicate for Callback {
     fn try_clone(&self) -> Result<Callback, OutOfMemory> {
         match self {
@@ -60,6 +122,29 @@ impl Duplicate for Callback {
 pub struct CallNote {
     pub call: Callback,
     pub orders: Orders,
+}
+
+impl PartialEq for CallNote {
+    ghost use Rattle.std.specs.Prelude.{◌≡◌};
+    ghost use Rattle.std.specs.Cmp.{partial_equiv_from_equiv};
+    ghost use Rattle.mama_event.specs.Equality.{same_call_note};
+    ghost use Rattle.mama_event.specs.EqualityLaws.{same_call_note_equivalence};
+
+    ghost eq = { same_call_note };
+
+    ghost laws = { partial_equiv_from_equiv same_call_note_equivalence };
+
+    fn eq(&self, other: &CallNote) -> bool
+        ensures { result ≡ same_call_note self.now other.now }
+    {
+        self.call == other.call && self.orders == other.orders
+    }
+}
+
+impl Eq for CallNote {
+    ghost use Rattle.mama_event.specs.EqualityLaws.{same_call_note_equivalence};
+
+    ghost laws = { same_call_note_equivalence };
 }
 
 impl Duplicate for CallNote {

@@ -7,7 +7,7 @@ use std::marker::Model;
 pub const MOST_FIDS: usize = 8;
 
 /// 1 to 8 fids that a reply is asked to have, each from 1 and strictly ascending. They lie in the value itself.
-#[derive(Clone, Copy, Debug, PartialEq, Eq)]
+#[derive(Clone, Copy, Debug)]
 pub struct Fids {
     length: u8,
     fids: [u16; 8],
@@ -18,15 +18,38 @@ impl Model for Fids {
 
     ghost Value = { List ℕ };
 
-    ghost use Rattle.mama_event.specs.Fids.{list_of, IsPadded, inside_of, inside_of-list_of};
+    ghost use Rattle.mama_event.specs.Fids.{list_of, AreFids, inside_of, inside_of-list_of};
 
     ghost view = { list_of };
 
-    ghost invariant = { IsPadded };
+    ghost invariant = { AreFids };
 
     ghost inverse = { inside_of };
 
     ghost inverse_ok = { inside_of-list_of };
+}
+
+impl PartialEq for Fids {
+    ghost use Rattle.std.specs.Prelude.{◌≡◌};
+    ghost use Rattle.std.specs.Cmp.{partial_equiv_from_equiv};
+    ghost use Rattle.std.specs.Str.{bytes_eq};
+    ghost use Rattle.std.specs.Cmp.Lexicographic.{nat_list_eq_equiv};
+
+    ghost eq = { bytes_eq };
+
+    ghost laws = { partial_equiv_from_equiv nat_list_eq_equiv };
+
+    fn eq(&self, other: &Fids) -> bool
+        ensures { result ≡ bytes_eq self.now other.now }
+    {
+        self.as_slice() == other.as_slice()
+    }
+}
+
+impl Eq for Fids {
+    ghost use Rattle.std.specs.Cmp.Lexicographic.{nat_list_eq_equiv};
+
+    ghost laws = { nat_list_eq_equiv };
 }
 
 impl Fids {
@@ -58,7 +81,7 @@ impl Fids {
     /// How many fids there are: 1 to 8.
     pub fn len(&self) -> usize
         ensures len { result ≡ length self.now }
-        ensures most { result ≤ 8 }
+        ensures form { is_fid_list self.now ≡ true }
     {
         self.length as usize
     }
@@ -70,5 +93,12 @@ impl Fids {
     {
         let fids = &self.fids;
         fids[i]
+    }
+
+    /// The fids in order.
+    pub fn as_slice(&self) -> &[u16]
+        ensures { result.now ≡ self.now }
+    {
+        &self.fids[..self.length as usize]
     }
 }

@@ -1,11 +1,20 @@
-//! The words of the market data layer: ids of objects, messages of the market, callbacks and orders.
+//! The words of the market data layer: ids of objects, messages of the market, callbacks and orders, and the events
+//! that actors put on each other's lanes.
 //!
-//! Everything here is plain data. What an actor does with it stands in the actor's own crate.
+//! Everything here is plain data, except that an event that makes an object brings its listener. Each event has a
+//! note, which is plain data with the listener's tag in the listener's place: journals are lists of notes. What an
+//! actor does with an event stands in the actor's own crate.
+//!
+//! The trait [`Stream`] says of the events of one lane which lists a port may put, by their notes; `IsLawful` carries
+//! that promise, with `fits` of each lane for what an event asks of those before it. Nothing follows a last event, and
+//! every prefix of a lawful list is lawful. The words for what a publisher puts over its journal are here too, as
+//! `publisher_puts_at`, and so are those for a publisher's record, `record_after`, and for a genuine message.
 #![tactic(auto)]
 
 mod callback;
 mod fids;
 mod ids;
+mod laws;
 mod market;
 mod order;
 mod publisher_entry;
@@ -19,6 +28,7 @@ mod to_timers;
 pub use callback::{CallNote, Callback};
 pub use fids::{Fids, MOST_FIDS};
 pub use ids::{InboxId, ObjectId, SubId, TimerId};
+pub use laws::plain_data_is_compared_exactly;
 pub use mama_memory::{Duplicate, OutOfMemory};
 pub use market::{ImageHead, MarketMsg, MsgKind, Quality, SubKind};
 pub use order::{MOST_ORDERS, Order, Orders, PlanRow};
@@ -29,3 +39,6 @@ pub use to_bridge::{BridgeNote, InboxTerms, SubTerms, ToBridge};
 pub use to_publisher::{PublisherNote, ToPublisher};
 pub use to_queue::{Make, QueueNote, ToQueue};
 pub use to_timers::{TimersNote, ToTimers};
+
+#[cfg(test)]
+mod tests;

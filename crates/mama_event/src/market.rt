@@ -42,6 +42,32 @@ pub struct MarketMsg {
     pub body: Msg,
 }
 
+impl PartialEq for MarketMsg {
+    ghost use Rattle.std.specs.Prelude.{◌≡◌};
+    ghost use Rattle.std.specs.Cmp.{partial_equiv_from_equiv};
+    ghost use Rattle.mama_event.specs.Equality.{same_market_msg};
+    ghost use Rattle.mama_event.specs.EqualityLaws.{same_market_msg_equivalence};
+
+    ghost eq = { same_market_msg };
+
+    ghost laws = { partial_equiv_from_equiv same_market_msg_equivalence };
+
+    fn eq(&self, other: &MarketMsg) -> bool
+        ensures { result ≡ same_market_msg self.now other.now }
+    {
+        self.kind == other.kind
+            && self.sender == other.sender
+            && self.seq == other.seq
+            && self.body == other.body
+    }
+}
+
+impl Eq for MarketMsg {
+    ghost use Rattle.mama_event.specs.EqualityLaws.{same_market_msg_equivalence};
+
+    ghost laws = { same_market_msg_equivalence };
+}
+
 impl Duplicate for MarketMsg {
     fn try_clone(&self) -> Result<MarketMsg, OutOfMemory> {
         let body = self.body.try_clone()?;

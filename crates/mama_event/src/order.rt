@@ -9,7 +9,7 @@ use std::marker::Model;
 pub const MOST_ORDERS: usize = 8;
 
 /// What a listener, or a line of a client, can order.
-#[derive(Clone, Copy, Debug, PartialEq, Eq)]
+#[derive(Clone, Copy, Debug)]
 pub enum Order {
     /// End a subscription.
     Stop(SubId),
@@ -23,6 +23,42 @@ pub enum Order {
         topic: u32,
         fids: Fids,
     },
+}
+
+impl PartialEq for Order {
+    ghost use Rattle.std.specs.Prelude.{◌≡◌};
+    ghost use Rattle.std.specs.Cmp.{partial_equiv_from_equiv};
+    ghost use Rattle.mama_event.specs.Equality.{same_order};
+    ghost use Rattle.mama_event.specs.EqualityLaws.{same_order_equivalence};
+
+    ghost eq = { same_order };
+
+    ghost laws = { partial_equiv_from_equiv same_order_equivalence };
+
+    fn eq(&self, other: &Order) -> bool
+        ensures { result ≡ same_order self.now other.now }
+    {
+        match (self, other) {
+            (Order::Stop(a), Order::Stop(b)) => a == b,
+            (Order::Disarm(a), Order::Disarm(b)) => a == b,
+            (Order::Close(a), Order::Close(b)) => a == b,
+            (
+                Order::Ask { inbox, topic, fids },
+                Order::Ask {
+                    inbox: other_inbox,
+                    topic: other_topic,
+                    fids: other_fids,
+                },
+            ) => inbox == other_inbox && topic == other_topic && fids == other_fids,
+            _ => false,
+        }
+    }
+}
+
+impl Eq for Order {
+    ghost use Rattle.mama_event.specs.EqualityLaws.{same_order_equivalence};
+
+    ghost laws = { same_order_equivalence };
 }
 
 /// The orders of one callback, in the order in which they were given: at most 8. They lie in the value itself.
@@ -43,6 +79,29 @@ impl Model for Orders {
     ghost view = { λ o. take o.count o.orders };
 
     ghost invariant = { λ o. (o.count ≤ 8) × (length o.orders ≡ 8) };
+}
+
+impl PartialEq for Orders {
+    ghost use Rattle.std.specs.Prelude.{◌≡◌};
+    ghost use Rattle.std.specs.Cmp.{partial_equiv_from_equiv};
+    ghost use Rattle.mama_event.specs.Equality.{same_orders};
+    ghost use Rattle.mama_event.specs.EqualityLaws.{same_orders_equivalence};
+
+    ghost eq = { same_orders };
+
+    ghost laws = { partial_equiv_from_equiv same_orders_equivalence };
+
+    fn eq(&self, other: &Orders) -> bool
+        ensures { result ≡ same_orders self.now other.now }
+    {
+        self.as_slice() == other.as_slice()
+    }
+}
+
+impl Eq for Orders {
+    ghost use Rattle.mama_event.specs.EqualityLaws.{same_orders_equivalence};
+
+    ghost laws = { same_orders_equivalence };
 }
 
 impl Orders {
@@ -99,6 +158,13 @@ impl Orders {
         &orders[i]
     }
 
+    /// The orders in the order in which they were given.
+    pub fn as_slice(&self) -> &[Order]
+        ensures { result.now ≡ self.now }
+    {
+        &self.orders[..self.count]
+    }
+
     /// The same orders once more.
     pub fn copied(&self) -> Orders
         ensures { result ≡ self.now }
@@ -121,8 +187,31 @@ impl Duplicate for Orders {
 }
 
 /// A planned order: given in the object's callback of this number, which counts from 1 with the creation.
-#[derive(Clone, Copy, Debug, PartialEq, Eq)]
+#[derive(Clone, Copy, Debug)]
 pub struct PlanRow {
     pub call: u32,
     pub order: Order,
+}
+
+impl PartialEq for PlanRow {
+    ghost use Rattle.std.specs.Prelude.{◌≡◌};
+    ghost use Rattle.std.specs.Cmp.{partial_equiv_from_equiv};
+    ghost use Rattle.mama_event.specs.Equality.{same_plan_row};
+    ghost use Rattle.mama_event.specs.EqualityLaws.{same_plan_row_equivalence};
+
+    ghost eq = { same_plan_row };
+
+    ghost laws = { partial_equiv_from_equiv same_plan_row_equivalence };
+
+    fn eq(&self, other: &PlanRow) -> bool
+        ensures { result ≡ same_plan_row self.now other.now }
+    {
+        self.call == other.call && self.order == other.order
+    }
+}
+
+impl Eq for PlanRow {
+    ghost use Rattle.mama_event.specs.EqualityLaws.{same_plan_row_equivalence};
+
+    ghost laws = { same_plan_row_equivalence };
 }

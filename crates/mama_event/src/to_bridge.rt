@@ -21,6 +21,34 @@ pub struct SubTerms {
     pub faults: Faults,
 }
 
+impl PartialEq for SubTerms {
+    ghost use Rattle.std.specs.Prelude.{◌≡◌};
+    ghost use Rattle.std.specs.Cmp.{partial_equiv_from_equiv};
+    ghost use Rattle.mama_event.specs.Equality.{same_sub_terms};
+    ghost use Rattle.mama_event.specs.EqualityLaws.{same_sub_terms_equivalence};
+
+    ghost eq = { same_sub_terms };
+
+    ghost laws = { partial_equiv_from_equiv same_sub_terms_equivalence };
+
+    fn eq(&self, other: &SubTerms) -> bool
+        ensures { result ≡ same_sub_terms self.now other.now }
+    {
+        self.topic == other.topic
+            && self.kind == other.kind
+            && self.queue == other.queue
+            && self.cache == other.cache
+            && self.recaps == other.recaps
+            && self.faults.rows() == other.faults.rows()
+    }
+}
+
+impl Eq for SubTerms {
+    ghost use Rattle.mama_event.specs.EqualityLaws.{same_sub_terms_equivalence};
+
+    ghost laws = { same_sub_terms_equivalence };
+}
+
 impl fmt::Debug for SubTerms {
     fn fmt<W: fmt::Write>(&self, f: &mut fmt::Formatter<W>) -> fmt::Result {
         let topic = self.topic;
@@ -55,6 +83,29 @@ impl Duplicate for SubTerms {
 pub struct InboxTerms {
     pub queue: u32,
     pub faults: Faults,
+}
+
+impl PartialEq for InboxTerms {
+    ghost use Rattle.std.specs.Prelude.{◌≡◌};
+    ghost use Rattle.std.specs.Cmp.{partial_equiv_from_equiv};
+    ghost use Rattle.mama_event.specs.Equality.{same_inbox_terms};
+    ghost use Rattle.mama_event.specs.EqualityLaws.{same_inbox_terms_equivalence};
+
+    ghost eq = { same_inbox_terms };
+
+    ghost laws = { partial_equiv_from_equiv same_inbox_terms_equivalence };
+
+    fn eq(&self, other: &InboxTerms) -> bool
+        ensures { result ≡ same_inbox_terms self.now other.now }
+    {
+        self.queue == other.queue && self.faults.rows() == other.faults.rows()
+    }
+}
+
+impl Eq for InboxTerms {
+    ghost use Rattle.mama_event.specs.EqualityLaws.{same_inbox_terms_equivalence};
+
+    ghost laws = { same_inbox_terms_equivalence };
 }
 
 impl fmt::Debug for InboxTerms {
@@ -176,6 +227,85 @@ pub enum BridgeNote {
     SendsDone,
     Settled,
     Bye,
+}
+
+impl PartialEq for BridgeNote {
+    ghost use Rattle.std.specs.Prelude.{◌≡◌};
+    ghost use Rattle.std.specs.Cmp.{partial_equiv_from_equiv};
+    ghost use Rattle.mama_event.specs.Equality.{same_bridge_note};
+    ghost use Rattle.mama_event.specs.EqualityLaws.{same_bridge_note_equivalence};
+
+    ghost eq = { same_bridge_note };
+
+    ghost laws = { partial_equiv_from_equiv same_bridge_note_equivalence };
+
+    fn eq(&self, other: &BridgeNote) -> bool
+        ensures { result ≡ same_bridge_note self.now other.now }
+    {
+        match (self, other) {
+            (
+                BridgeNote::Join { sub, terms, tag },
+                BridgeNote::Join {
+                    sub: other_sub,
+                    terms: other_terms,
+                    tag: other_tag,
+                },
+            ) => sub == other_sub && terms == other_terms && tag == other_tag,
+            (BridgeNote::Leave { sub }, BridgeNote::Leave { sub: other_sub }) => sub == other_sub,
+            (
+                BridgeNote::OpenInbox { inbox, terms, tag },
+                BridgeNote::OpenInbox {
+                    inbox: other_inbox,
+                    terms: other_terms,
+                    tag: other_tag,
+                },
+            ) => inbox == other_inbox && terms == other_terms && tag == other_tag,
+            (BridgeNote::CloseInbox { inbox }, BridgeNote::CloseInbox { inbox: other_inbox }) =>
+                inbox == other_inbox,
+            (
+                BridgeNote::Ask { inbox, topic, fids },
+                BridgeNote::Ask {
+                    inbox: other_inbox,
+                    topic: other_topic,
+                    fids: other_fids,
+                },
+            ) => inbox == other_inbox && topic == other_topic && fids == other_fids,
+            (BridgeNote::Publish { msg }, BridgeNote::Publish { msg: other_msg }) => msg
+                == other_msg,
+            (
+                BridgeNote::Image { sub, msg },
+                BridgeNote::Image {
+                    sub: other_sub,
+                    msg: other_msg,
+                },
+            ) => sub == other_sub && msg == other_msg,
+            (
+                BridgeNote::Reply { inbox, body },
+                BridgeNote::Reply {
+                    inbox: other_inbox,
+                    body: other_body,
+                },
+            ) => inbox == other_inbox && body == other_body,
+            (
+                BridgeNote::RecapWish { sub, sender },
+                BridgeNote::RecapWish {
+                    sub: other_sub,
+                    sender: other_sender,
+                },
+            ) => sub == other_sub && sender == other_sender,
+            (BridgeNote::ClientDone, BridgeNote::ClientDone) => true,
+            (BridgeNote::SendsDone, BridgeNote::SendsDone) => true,
+            (BridgeNote::Settled, BridgeNote::Settled) => true,
+            (BridgeNote::Bye, BridgeNote::Bye) => true,
+            _ => false,
+        }
+    }
+}
+
+impl Eq for BridgeNote {
+    ghost use Rattle.mama_event.specs.EqualityLaws.{same_bridge_note_equivalence};
+
+    ghost laws = { same_bridge_note_equivalence };
 }
 
 impl<L: Tagged> Stream for ToBridge<L> {

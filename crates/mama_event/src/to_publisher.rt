@@ -20,12 +20,53 @@ pub enum ToPublisher {
 }
 
 /// A `ToPublisher` as plain data.
-#[derive(Clone, Copy, Debug, PartialEq, Eq)]
+#[derive(Clone, Copy, Debug)]
 pub enum PublisherNote {
     Want { sub: SubId, kind: MsgKind },
     Ask { inbox: InboxId, fids: Fids },
     Settle,
     Fin,
+}
+
+impl PartialEq for PublisherNote {
+    ghost use Rattle.std.specs.Prelude.{◌≡◌};
+    ghost use Rattle.std.specs.Cmp.{partial_equiv_from_equiv};
+    ghost use Rattle.mama_event.specs.Equality.{same_publisher_note};
+    ghost use Rattle.mama_event.specs.EqualityLaws.{same_publisher_note_equivalence};
+
+    ghost eq = { same_publisher_note };
+
+    ghost laws = { partial_equiv_from_equiv same_publisher_note_equivalence };
+
+    fn eq(&self, other: &PublisherNote) -> bool
+        ensures { result ≡ same_publisher_note self.now other.now }
+    {
+        match (self, other) {
+            (
+                PublisherNote::Want { sub, kind },
+                PublisherNote::Want {
+                    sub: other_sub,
+                    kind: other_kind,
+                },
+            ) => sub == other_sub && kind == other_kind,
+            (
+                PublisherNote::Ask { inbox, fids },
+                PublisherNote::Ask {
+                    inbox: other_inbox,
+                    fids: other_fids,
+                },
+            ) => inbox == other_inbox && fids == other_fids,
+            (PublisherNote::Settle, PublisherNote::Settle) => true,
+            (PublisherNote::Fin, PublisherNote::Fin) => true,
+            _ => false,
+        }
+    }
+}
+
+impl Eq for PublisherNote {
+    ghost use Rattle.mama_event.specs.EqualityLaws.{same_publisher_note_equivalence};
+
+    ghost laws = { same_publisher_note_equivalence };
 }
 
 impl Stream for ToPublisher {

@@ -1,4 +1,6 @@
-ghost use Rattle.std.specs.Prelude.{◌≡◌, IfOk};
+ghost use Rattle.std.specs.Prelude.{◌≡◌, ◌&&◌, IfOk};
+ghost use Rattle.mama_event.specs.Object.{same_object};
+ghost use Rattle.mama_event.specs.Equality.{same_make};
 
 use crate::ids::{InboxId, ObjectId, SubId, TimerId};
 use crate::market::{MarketMsg, SubKind};
@@ -82,6 +84,110 @@ pub enum QueueNote {
         object: ObjectId,
     },
     Fin,
+}
+
+/// Whether two ids name one object.
+fn same(a: &ObjectId, b: &ObjectId) -> bool
+    ensures { result ≡ same_object a.now b.now }
+{
+    a == b
+}
+
+/// Whether two objects are made alike.
+fn made_alike(a: &Make, b: &Make) -> bool
+    ensures { result ≡ same_make a.now b.now }
+{
+    a == b
+}
+
+/// Whether an object, what it is made as and its listener's tag are the same on both sides.
+fn same_making(
+    object: &ObjectId,
+    make: &Make,
+    tag: &ObjectId,
+    other_object: &ObjectId,
+    other_make: &Make,
+    other_tag: &ObjectId,
+) -> bool
+    ensures { result ≡ (same_object object.now other_object.now && same_make make.now other_make.now && same_object tag.now other_tag.now) }
+{
+    same(object, other_object) && made_alike(make, other_make) && same(tag, other_tag)
+}
+
+impl PartialEq for QueueNote {
+    ghost use Rattle.std.specs.Prelude.{◌≡◌};
+    ghost use Rattle.std.specs.Cmp.{partial_equiv_from_equiv};
+    ghost use Rattle.mama_event.specs.Equality.{same_queue_note};
+    ghost use Rattle.mama_event.specs.EqualityLaws.{same_queue_note_equivalence};
+
+    ghost eq = { same_queue_note };
+
+    ghost laws = { partial_equiv_from_equiv same_queue_note_equivalence };
+
+    fn eq(&self, other: &QueueNote) -> bool
+        ensures { result ≡ same_queue_note self.now other.now }
+    {
+        match (self, other) {
+            (
+                QueueNote::Create {
+                    slot,
+                    object,
+                    make,
+                    tag,
+                },
+                QueueNote::Create {
+                    slot: other_slot,
+                    object: other_object,
+                    make: other_make,
+                    tag: other_tag,
+                },
+            ) => slot == other_slot
+                && same_making(object, make, tag, other_object, other_make, other_tag),
+            (
+                QueueNote::Deliver { slot, sub, msg },
+                QueueNote::Deliver {
+                    slot: other_slot,
+                    sub: other_sub,
+                    msg: other_msg,
+                },
+            ) => slot == other_slot && sub == other_sub && msg == other_msg,
+            (
+                QueueNote::Reply { slot, inbox, body },
+                QueueNote::Reply {
+                    slot: other_slot,
+                    inbox: other_inbox,
+                    body: other_body,
+                },
+            ) => slot == other_slot && inbox == other_inbox && body == other_body,
+            (
+                QueueNote::Tick {
+                    slot,
+                    timer,
+                    moment,
+                },
+                QueueNote::Tick {
+                    slot: other_slot,
+                    timer: other_timer,
+                    moment: other_moment,
+                },
+            ) => slot == other_slot && timer == other_timer && moment == other_moment,
+            (
+                QueueNote::Gone { slot, object },
+                QueueNote::Gone {
+                    slot: other_slot,
+                    object: other_object,
+                },
+            ) => slot == other_slot && object == other_object,
+            (QueueNote::Fin, QueueNote::Fin) => true,
+            _ => false,
+        }
+    }
+}
+
+impl Eq for QueueNote {
+    ghost use Rattle.mama_event.specs.EqualityLaws.{same_queue_note_equivalence};
+
+    ghost laws = { same_queue_note_equivalence };
 }
 
 impl<L: Tagged> Stream for ToQueue<L> {

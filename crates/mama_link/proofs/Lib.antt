@@ -1,2 +1,5 @@
 pub mod FaultLemmas
 pub mod LinkLemmas
+pub mod SlotLemmas
+pub mod CursorLemmas
+pub mod PassLemmas

@@ -2,4 +2,5 @@ pub mod Faults
 pub mod Table
 pub mod Outbox
 pub mod Link
+pub mod Prepared
 pub mod Slots

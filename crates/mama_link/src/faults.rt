@@ -1,5 +1,9 @@
-ghost use Rattle.std.specs.Prelude.{◌≡◌, ◌≢◌, ◌==◌, ◌+◌, ◌++◌, ◌∷◌, [], None, Some, is_some, IfOk, OnOk, IfErr, if◌then◌else◌};
+ghost use Rattle.std.specs.Prelude.{◌≡◌, ◌≢◌, ◌==◌, ◌+◌, ◌<◌, ◌^◌, ◌++◌, ◌∷◌, ℕ, [], length, None, Some, All, IfOk, OnOk, IfErr, if◌then◌else◌};
+ghost use Rattle.std.specs.Ordering.{nat_cmp};
+ghost use Rattle.std.specs.BTreeMap.{get, IsOrdered};
 ghost use Rattle.mama_link.specs.declared.faults.FaultsFault.TheVariants.{OutOfMemory as NoMemory};
+ghost use Rattle.mama_link.specs.Faults.{fault_at, first_fault, is_zero_hold};
+ghost use Rattle.mama_link.specs.Table.{table_of, slots_at, slots_due, IsTable};
 
 use mama_memory::OutOfMemory;
 use std::alloc::{AllocError, AllocFailed, Global};
@@ -69,8 +73,6 @@ impl<T: Drop> From<AllocFailed<T>> for FaultsFault {
 }
 
 impl FaultRow {
-    ghost use Rattle.mama_link.specs.Faults.{is_zero_hold};
-
     /// What is bad about a row, told whether an earlier row has its index.
     fn fault(&self, repeated: bool) -> Option<FaultsFault>
         ensures { result ≡ (if self.now.index == 0 then Some FaultsFault.ZeroIndex else (if is_zero_hold self.now.fault then Some (FaultsFault.ZeroHold self.now.index) else (if repeated then Some (FaultsFault.Repeated self.now.index) else None))) }
@@ -87,12 +89,6 @@ impl FaultRow {
         }
     }
 }
-
-ghost use Rattle.std.specs.Prelude.{ℕ};
-ghost use Rattle.std.specs.Ordering.{nat_cmp};
-ghost use Rattle.std.specs.BTreeMap.{get, IsOrdered};
-ghost use Rattle.mama_link.specs.Faults.{fault_at, first_fault};
-ghost use Rattle.mama_link.specs.Table.{table_of, slots_at, slots_due};
 
 /// The rows by their indexes, or what is bad about the first bad one.
 fn by_index(alloc: Global, rows: &[FaultRow]) -> Result<BTreeMap<u32, Fault>, FaultsFault>
@@ -114,10 +110,11 @@ fn by_index(alloc: Global, rows: &[FaultRow]) -> Result<BTreeMap<u32, Fault>, Fa
 
 /// The rows in the order of their indexes.
 fn in_order(alloc: Global, by_index: &BTreeMap<u32, Fault>) -> Result<Vec<(u32, Fault)>, AllocError>
-    ensures { IfOk result (λ table. table.items ≡ by_index.now.entries) }
+    ensures entries { IfOk result (λ table. table.items ≡ by_index.now.entries) }
+    ensures found { IfOk result (λ table. All (λ entry. get nat_cmp by_index.now entry.0 ≡ Some entry.1) table.items) }
 {
     let mut table = Vec::new(alloc);
-    for (index, fault) in by_index {
+    for (index, fault) in by_index.iter() {
         table.push((*index, *fault))?;
     }
     Ok(table)
@@ -178,10 +175,6 @@ impl Model for Faults {
 }
 
 impl Faults {
-    ghost use Rattle.std.specs.Prelude.{◌≡◌, ◌≢◌, [], None, Some, IfOk, OnOk, IfErr};
-    ghost use Rattle.mama_link.specs.declared.faults.FaultsFault.TheVariants.{OutOfMemory as NoMemory};
-    ghost use Rattle.mama_link.specs.Faults.{first_fault};
-
     /// No faults.
     pub fn none(alloc: Global) -> Faults
         ensures { result ≡ [] }
@@ -212,6 +205,26 @@ impl Faults {
         ensures { result.now ≡ self.now }
     {
         self.rows.as_slice()
+    }
+
+    /// The rows in the order of their indexes.
+    pub(crate) fn table(&self) -> &[(u32, Fault)]
+        ensures table { result.now ≡ table_of self.now }
+        ensures entries { IsTable self.now (table_of self.now) }
+    {
+        self.table.as_slice()
+    }
+
+    /// The numbers of the table's entries whose messages are due at a place.
+    pub(crate) fn due_at(&self, place: u64) -> &[usize]
+        ensures due { result.now ≡ slots_due place 0 (table_of self.now) }
+        ensures entries { IsTable self.now (table_of self.now) }
+        ensures few { length result.now < 2 ^ 63 }
+    {
+        match self.dues.get(&place) {
+            Some(slots) => slots.as_slice(),
+            None => &[],
+        }
     }
 
     /// Equal faults.

@@ -1,5 +1,5 @@
 -- What the laws of keyed lists say of messages.
-use Rattle.std.specs.Prelude.{◌≡◌, ℕ, ◌+◌, Bool, true, false, not, List, [], ◌∷◌, length, fold, count_by, Option, Some, if◌then◌else◌, slice_get, refl}
+use Rattle.std.specs.Prelude.{◌≡◌, ℕ, ◌+◌, false, not, List, [], length, fold, count_by, Some, if◌then◌else◌, slice_get}
 use Rattle.std.proofs.Common.{◌∙◌}
 use Rattle.mama_msg.specs.declared.field.Key.{Key}
 use Rattle.mama_msg.specs.Field.{FieldData, key_of, same_key}

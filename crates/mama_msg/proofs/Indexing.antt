@@ -1,17 +1,15 @@
 -- What an insert leaves of the fields that are kept under their keys.
-use Rattle.std.specs.Prelude.{◌≡◌, ℕ, Bool, true, false, List, [], ◌∷◌, ◌++◌, length, map, fold, Option, Some, None, find, refl, if◌then◌else◌, ◌==◌, slice_get, is_some, ◌≢◌}
-use Rattle.std.specs.Option.{option_map}
-use Rattle.std.specs.Map.{values_of, keys_of, lookup}
-use Rattle.std.specs.Str.{bytes_eq}
+use Rattle.std.specs.Prelude.{◌≡◌, ℕ, List, [], ◌∷◌, Option, Some, refl, if◌then◌else◌, ◌==◌, is_some, ◌≢◌}
+use Rattle.std.specs.Map.{values_of, lookup}
 use Rattle.std.proofs.Common.{ap, sym, ◌∙◌, subst, eqb-true, ne_eqb}
 use Rattle.indexmap.specs.IndexMap.{insert_entry}
 use Rattle.mama_msg.specs.declared.field.Key.{Key}
 use Rattle.mama_msg.specs.declared.field.Key.TheVariants.{Numbered, Named}
-use Rattle.mama_msg.specs.Field.{FieldData, key_of, key_from, same_key}
+use Rattle.mama_msg.specs.Field.{FieldData, key_of, same_key}
 use Rattle.mama_msg.specs.Keys.{same_key-Decides}
 use Rattle.mama_msg.specs.Message.{AreDistinct, has_key, with_key, updated, with_fid}
 use Rattle.mama_msg.specs.Index.{indexed, IsIndexed}
-use Rattle.mama_msg.proofs.KeyedLists.{split, Apart, put, put_first, put_first-put, Apart-put, merged, same_symm, is_some-at_key}
+use Rattle.mama_msg.proofs.KeyedLists.{split, Apart, put_first, put_first-put, Apart-put, same_symm, is_some-at_key}
 
 -- the two ways to say that keys are distinct
 pub Apart-from_distinct : (m : List FieldData) → AreDistinct m → Apart key_of same_key same_key-Decides m

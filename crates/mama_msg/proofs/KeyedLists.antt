@@ -1,14 +1,12 @@
 -- Lists of things that are told apart by keys: replacing, adding and looking up.
-use Rattle.std.specs.Prelude.{◌≡◌, ℕ, Bool, true, false, not, ◌||◌, List, [], ◌∷◌, ◌++◌, length, map, filter, fold, Option, Some, None, unwrap_or, find, refl, if◌then◌else◌, slice_get, is_some}
+use Rattle.std.specs.Prelude.{◌≡◌, Bool, true, false, not, ◌||◌, List, [], ◌∷◌, ◌++◌, map, filter, fold, Option, Some, None, unwrap_or, find, refl, if◌then◌else◌, is_some}
 use Rattle.std.specs.Bool.{Decides}
 use Rattle.std.specs.List.{list_any}
-use Rattle.std.specs.Cmp.{IsEquivalence, both_ways}
+use Rattle.std.specs.Cmp.{both_ways}
 use Rattle.std.proofs.Common.{ap, sym, ◌∙◌, true≢false, arith, subst, append_assoc}
-use Rattle.std.proofs.lemmas.Bool.{or_parts, or_from, or_left, or_right}
+use Rattle.std.proofs.lemmas.Bool.{or_parts, or_from}
 use Rattle.std.proofs.lemmas.List.{map-append}
-use Rattle.std.proofs.lemmas.List.Elements.{filter-append}
-use Rattle.std.proofs.lemmas.List.Folds.{list_any-append, find-append}
-use Rattle.std.proofs.lemmas.Grind.{common_steps}
+use Rattle.std.proofs.lemmas.List.Folds.{list_any-append}
 
 -- either answer of a test
 pub split : {P : Type 0} (b : Bool) → (b ≡ true → P) → (b ≡ false → P) → P

@@ -1,13 +1,13 @@
 -- The laws of putting one list of keyed things into another.
-use Rattle.std.specs.Prelude.{◌≡◌, ℕ, zero, suc, ◌+◌, Bool, true, false, not, ◌||◌, List, [], ◌∷◌, ◌++◌, length, map, filter, fold, count_by, Option, Some, None, unwrap_or, refl, if◌then◌else◌, slice_get}
+use Rattle.std.specs.Prelude.{◌≡◌, ℕ, zero, suc, ◌+◌, Bool, true, false, not, ◌||◌, List, [], ◌∷◌, ◌++◌, length, map, fold, count_by, Option, Some, unwrap_or, refl, if◌then◌else◌, slice_get}
 use Rattle.std.specs.Bool.{Decides}
-use Rattle.std.proofs.Common.{ap, sym, ◌∙◌, true≢false, subst, append_assoc, length-append}
+use Rattle.std.proofs.Common.{ap, sym, ◌∙◌, true≢false, append_assoc, length-append}
 use Rattle.std.proofs.lemmas.Bool.{or_parts, or_from, or_left, or_right}
 use Rattle.std.proofs.lemmas.List.{map-append, length-map}
 use Rattle.std.proofs.lemmas.List.Elements.{filter-append}
 use Rattle.std.proofs.lemmas.List.Folds.{list_any-append}
 use Rattle.std.proofs.lemmas.List.Sums.{length-filter}
-use Rattle.mama_msg.proofs.KeyedLists.{split, has, at_key, Apart, swapped, put, over, fresh, merged, same_symm, same_refl, key-swapped, has-map_swapped, map_swapped_absent, at_key_absent, at_key-put, key-over, has-map_over, fold_put}
+use Rattle.mama_msg.proofs.KeyedLists.{split, has, at_key, Apart, swapped, put, over, fresh, merged, same_symm, same_refl, key-swapped, map_swapped_absent, at_key_absent, at_key-put, key-over, has-map_over, fold_put}
 
 append_nil : {X : Type 0} → (xs : List X) → xs ++ [] ≡ xs
 append_nil [] = refl

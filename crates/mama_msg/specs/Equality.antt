@@ -1,26 +1,26 @@
 -- Values, fields and messages are compared exactly: the tests hold where both sides are one, and nowhere else.
-use Rattle.std.specs.Prelude.{◌≡◌, ℕ, ℤ, Bool as Truths, true, false, ◌==◌, ◌&&◌, List}
+use Rattle.std.specs.Prelude.{◌≡◌, Bool, false, ◌==◌, ◌&&◌, List}
 use Rattle.std.specs.Bool.{Decides, beq}
 use Rattle.std.specs.Cmp.{IsEquivalence, booleans_Decides, decided}
 use Rattle.std.specs.Cmp.Lexicographic.{pointwise, pointwise_decides}
 use Rattle.std.specs.Ordering.{int_eq}
 use Rattle.std.specs.Str.{bytes_eq}
-use Rattle.std.proofs.Common.{ap, sym, ◌∙◌, true≢false}
+use Rattle.std.proofs.Common.{ap, sym, true≢false}
 use Rattle.std.proofs.lemmas.Bool.{and_parts, and_from}
 use Rattle.std.proofs.lemmas.Bool.Decides.{Decides-eqb, Decides-int_eq}
 use Rattle.std.proofs.lemmas.Slice.Eq.{bytes_eq-Decides}
 use Rattle.mama_msg.specs.Price.{PriceData}
 use Rattle.mama_msg.specs.Field.{FieldData}
 use Rattle.mama_msg.specs.declared.value.Value.{Value}
-use Rattle.mama_msg.specs.declared.value.Value.TheVariants.{Bool, Char, I8, I16, I32, I64, U8, U16, U32, U64, Text, Bytes, Price, Moment}
+use Rattle.mama_msg.specs.declared.value.Value.TheVariants.{Bool as Truth, Char, I8, I16, I32, I64, U8, U16, U32, U64, Text, Bytes, Price, Moment}
 
 -- two prices have the same parts
-abbrev pub same_price : PriceData → PriceData → Truths
+abbrev pub same_price : PriceData → PriceData → Bool
 same_price a b = int_eq a.mantissa b.mantissa && a.decimals == b.decimals
 
 -- two values are of one type and hold the same
-abbrev pub same_value : Value → Value → Truths
-same_value (Bool a) (Bool b) = beq a b
+abbrev pub same_value : Value → Value → Bool
+same_value (Truth a) (Truth b) = beq a b
 same_value (Char a) (Char b) = a == b
 same_value (I8 a) (I8 b) = int_eq a b
 same_value (I16 a) (I16 b) = int_eq a b
@@ -37,11 +37,11 @@ same_value (Moment a) (Moment b) = a == b
 same_value _ _ = false
 
 -- two fields have the same fid, name and value
-abbrev pub same_field : FieldData → FieldData → Truths
+abbrev pub same_field : FieldData → FieldData → Bool
 same_field a b = (a.fid == b.fid && bytes_eq a.name b.name) && same_value a.value b.value
 
 -- two messages have the same fields in the same order
-abbrev pub same_message : List FieldData → List FieldData → Truths
+abbrev pub same_message : List FieldData → List FieldData → Bool
 same_message m n = pointwise same_field m n
 
 pub same_price-Decides : (a b : PriceData) → Decides (same_price a b) (a ≡ b)
@@ -57,7 +57,7 @@ same_price-Decides a b = (
 )
 
 pub same_value-Decides : (a b : Value) → Decides (same_value a b) (a ≡ b)
-same_value-Decides (Bool a) (Bool b) = (λ h. ap Bool ((booleans_Decides a b).0 h), λ e. (booleans_Decides a b).1 (cc))
+same_value-Decides (Truth a) (Truth b) = (λ h. ap Truth ((booleans_Decides a b).0 h), λ e. (booleans_Decides a b).1 (cc))
 same_value-Decides (Char a) (Char b) = (λ h. ap Char ((Decides-eqb a b).0 h), λ e. (Decides-eqb a b).1 (cc))
 same_value-Decides (I8 a) (I8 b) = (λ h. ap I8 ((Decides-int_eq a b).0 h), λ e. (Decides-int_eq a b).1 (cc))
 same_value-Decides (I16 a) (I16 b) = (λ h. ap I16 ((Decides-int_eq a b).0 h), λ e. (Decides-int_eq a b).1 (cc))

@@ -9,9 +9,9 @@ use std::marker::Model;
 /// What tells the fields of a message apart: the fid, or the name where the fid is 0.
 #[derive(Clone, Copy, Debug, Hash)]
 pub enum Key {
-    /// A fid, 1 to 65,535.
+    /// The fid of a field that has one.
     Numbered(u16),
-    /// A name, of a field whose fid is 0. It is not empty.
+    /// The name of a field whose fid is 0.
     Named(Name),
 }
 

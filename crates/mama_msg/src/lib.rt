@@ -1,4 +1,13 @@
 //! Messages: lists of typed fields with distinct keys.
+//!
+//! A [`Field`] has a fid, a [`Name`] and a [`Value`] of one of fourteen types. Its key is its fid, or its name where the
+//! fid is 0, and no two fields of a [`Msg`] have one key. Every part is made by a constructor that refuses what is out
+//! of form, and keeps that form from then on.
+//!
+//! Contracts see a message as the list of its fields (`specs/Field`, `specs/Message`), whatever the index behind it
+//! is. `add` puts a field last (`has_key` says when it may not), `update` replaces or adds one (`updated`), `apply` does so
+//! with all fields of another message (`apply`), `find` looks one up (`asked_for`) and the getters read its value
+//! (`specs/Get`). The laws of `apply` stand in `laws`. After want of memory a message is as it was.
 #![tactic(auto)]
 
 mod field;
@@ -20,3 +29,6 @@ pub use price::Price;
 pub use raw::BytesValue;
 pub use text::{TextValue, is_printable};
 pub use value::Value;
+
+#[cfg(test)]
+mod tests;

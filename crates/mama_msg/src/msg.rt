@@ -1,5 +1,5 @@
 //! Messages.
-ghost use Rattle.std.specs.Prelude.{◌≡◌, ◌≢◌, ◌+◌, ◌<◌, ◌≤◌, ◌↔◌, true, [], ◌∷◌, ◌++◌, length, fold, slice_get, IsTrue, IsOk, IfOk, OnOk, IfErr, OnErr, ◌⊎◌};
+ghost use Rattle.std.specs.Prelude.{◌≡◌, ◌≢◌, ◌+◌, ◌^◌, ◌<◌, ◌≤◌, ◌↔◌, true, [], ◌∷◌, ◌++◌, length, fold, not, count_by, slice_get, IsTrue, IsOk, IfOk, OnOk, IfErr, OnErr, ◌⊎◌};
 ghost use Rattle.std.specs.Cmp.{partial_equiv_from_equiv};
 ghost use Rattle.std.specs.Option.{option_copied};
 ghost use Rattle.std.specs.Map.{values_of};
@@ -85,6 +85,18 @@ fn first_named<'a>(fields: &'a Fields, name: &Name) -> Option<&'a Field>
     fields.values().find(|field| field.name() == name)
 }
 
+// How many fields of an update have keys that no field has.
+fn new_keys(fields: &Fields, update: &Fields) -> usize
+    requires { IsIndexed fields.now.entries }
+    ensures value { result ≡ count_by (λ f. not (has_key (key_of f) (values_of fields.now.entries))) (values_of update.now.entries) }
+    ensures small { result < 2 ^ 63 }
+{
+    update
+        .values()
+        .filter(|field| !has(fields, field.key()))
+        .count()
+}
+
 // Puts a field in the place of the one with its key, or last where there is none.
 fn put(fields: &mut Fields, field: Field) -> Result<(), AllocFailed<(Key, Field)>>
     requires { IsIndexed fields.old.entries }
@@ -93,6 +105,7 @@ fn put(fields: &mut Fields, field: Field) -> Result<(), AllocFailed<(Key, Field)
     ensures err { OnErr result (IsUnchanged fields.old fields.new) }
     ensures value_returned { IfErr result (λ failed. failed.value.1 ≡ field) }
     ensures succeeds { 0 < spare fields.old → IsOk result }
+    ensures replaces { has_key (key_of field) (values_of fields.old.entries) ≡ true → IsOk result }
     ensures spare { spare fields.old ≤ spare fields.new + 1 }
 {
     fields.insert(field.key(), field)?;
@@ -193,14 +206,23 @@ impl Msg {
         Ok(())
     }
 
-    /// Puts a field whole in the place of the one with its key, or last where there is none.
+    /// Puts a field whole in the place of the one with its key, or last where there is none. To replace a field takes
+    /// no memory.
     pub fn update(&mut self, field: Field) -> Result<(), OutOfMemory>
         ensures ok { OnOk result (self.new ≡ updated self.old field) }
+        ensures replaces { has_key (key_of field) self.old ≡ true → IsOk result }
         ensures err { OnErr result (self.new ≡ self.old) }
     {
         put(&mut self.fields, field)?;
         Ok(())
     }
+    /// The number of fields that the message has once `other` is applied.
+    pub fn len_after(&self, other: &Msg) -> usize
+        ensures { result ≡ length (apply self.now other.now) }
+    {
+        self.fields.len() + new_keys(&self.fields, &other.fields)
+    }
+
     /// Applies a message: each of its fields is put in the place of the field with its key, and those with new keys
     /// come last, in their order. It takes time by the fields of `other`, and not by those of the message.
     pub fn apply(&mut self, other: &Msg) -> Result<(), OutOfMemory>

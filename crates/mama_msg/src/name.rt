@@ -122,3 +122,17 @@ impl Hash for Name {
         self.bytes().hash(state);
     }
 }
+
+/// The empty name.
+impl Default for Name {
+    ghost use Rattle.std.specs.Prelude.{◌≡◌, []};
+
+    ghost is_default = { λ name. name ≡ [] };
+
+    fn default() -> Name {
+        Name {
+            length: 0,
+            bytes: [0; 32],
+        }
+    }
+}

@@ -8,3 +8,9 @@ pub mod Fields
 pub mod Asked
 pub mod Distinct
 pub mod Spaced
+pub mod Cutting
+pub mod IdLaws
+pub mod KindLaws
+pub mod ValueLaws
+pub mod FieldLaws
+pub mod OrderLaws

@@ -40,6 +40,12 @@ IsOrder (Disarm id) = IsId id
 IsOrder (Close id) = IsId id
 IsOrder (Ask id topic fids) = IsId id × (topic < 2 ^ 64) × (is_fid_list fids ≡ true) × (are_small fids ≡ true)
 
+abbrev pub order_kind_text : OrderKind → List ℕ
+order_kind_text kinds.Stop = codes "stop"
+order_kind_text kinds.Disarm = codes "disarm"
+order_kind_text kinds.Close = codes "close"
+order_kind_text kinds.Ask = codes "ask"
+
 -- the kind of order that begins with this word
 unfoldable pub order_kind_in : List ℕ → Option OrderKind
 order_kind_in word =

@@ -1,4 +1,4 @@
-use Rattle.std.proofs.Common.{arith, ◌<◌, ◌^◌}
+use Rattle.std.proofs.Common.{arith}
 use Rattle.std.proofs.lemmas.Fmt.{decimal_nonempty, length-decimal-le}
 use Rattle.mama_edge.proofs.DecimalLaws.{numeral_of_decimal, digits_by_recursion}
 use Rattle.mama_edge.specs.Decimal.{decimal}

@@ -1,4 +1,4 @@
-use Rattle.std.proofs.Common.{◌≡◌, ℕ, ◌+◌, ◌<◌, ◌≤◌, ◌++◌, drop, length}
+use Rattle.std.proofs.Common.{◌≡◌, ◌+◌, ◌<◌, ◌≤◌, ◌++◌, drop, length}
 use Rattle.mama_edge.specs.Decimal.{decimal}
 use Rattle.mama_edge.proofs.number.put_digits.Given as goal
 

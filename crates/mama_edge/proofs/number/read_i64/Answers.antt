@@ -1,4 +1,4 @@
-use Rattle.std.proofs.Common.{◌<◌, length, ap, sym, ◌∙◌, arith}
+use Rattle.std.proofs.Common.{◌<◌, length, ap, arith}
 use Rattle.std.proofs.lemmas.Bool.Decides.{nat_tests}
 use Rattle.mama_edge.proofs.DecimalLaws.{negative_none, int_decimal_nonempty, begins_with}
 use Rattle.mama_edge.proofs.number.read_i64.Goals as goal

@@ -2,14 +2,14 @@ use Rattle.std.proofs.Common.{suc, arith}
 use Rattle.mama_edge.proofs.DecimalLaws.{one_number}
 use Rattle.mama_edge.proofs.number.read_negative.Goals as goal
 
-pub returns-then-size-eq0-clause-none : goal.returns-then-size-eq0-clause-none
-returns-then-size-eq0-clause-none c = λ n small e.
+pub returns-in_err-below-clause-none : goal.returns-in_err-below-clause-none
+returns-in_err-below-clause-none c = rw c.from_residual-in_err-below.ensures (λ n small e.
     let fits = c.in_ok-size.ensures.fits in
     let same = one_number c.args.digits.now c.in_ok-size.size (suc n) fits (omega arith) c.in_ok-size.ensures.found e in
-    omega arith
+    c.in_err-below.ensures (omega arith))
 
-pub returns-then-size-clause-none : goal.returns-then-size-clause-none
-returns-then-size-clause-none c = λ n small e.
+pub returns-then-below-clause-none : goal.returns-then-below-clause-none
+returns-then-below-clause-none c = λ n small e.
     let fits = c.in_ok-size.ensures.fits in
     let same = one_number c.args.digits.now c.in_ok-size.size (suc n) fits (omega arith) c.in_ok-size.ensures.found e in
     omega arith

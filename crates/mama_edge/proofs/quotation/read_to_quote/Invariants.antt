@@ -1,4 +1,4 @@
-use Rattle.std.proofs.Common.{◌≡◌, ℕ, false, drop}
+use Rattle.std.proofs.Common.{◌≡◌, false, drop}
 use Rattle.mama_edge.specs.Unquoting.{unquoted, put_front}
 use Rattle.mama_edge.proofs.quotation.read_to_quote.Given as goal
 

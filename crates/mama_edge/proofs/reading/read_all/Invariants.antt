@@ -1,11 +1,11 @@
-use Rattle.std.proofs.Common.{◌≡◌, ℕ, ◌-◌, ◌≤◌, vec_len}
-use Rattle.mama_edge.specs.Told.{with_front}
+use Rattle.std.proofs.Common.{◌-◌, ◌≤◌, vec_len}
+use Rattle.mama_edge.specs.Told.{Gave}
 use Rattle.mama_edge.proofs.reading.read_all.Given as goal
 
 abbrev pub invariant-pieces : goal.invariant-pieces
 invariant-pieces g l =
     (vec_len l.bytes ≤ l.limit)
-    × (g.S.Source.left l.fn.source ≡ with_front l.bytes.items (g.S.Source.left l.source))
+    × Gave (g.S.Source.left l.fn.source) (g.S.Source.left l.source) l.bytes.items
     × (g.S.Source.faults l.fn.source ≤ g.S.Source.faults l.source)
 
 abbrev pub decreases-pieces : goal.decreases-pieces

@@ -1,5 +1,5 @@
 use Rattle.std.proofs.Common.{rules, ◌≡◌, length, length-set, arith, ◌∙◌}
-use Rattle.mama_event.proofs.FidLemmas.{fid_kept, blank_left, ascending_rest}
+use Rattle.mama_event.proofs.FidLemmas.{fid_kept, blank_left, ascending_rest, fid_list_kept}
 use Rattle.mama_event.proofs.fids.Fids.new.Goals as goal
 
 pub loop-i-preserved : goal.loop-i-preserved
@@ -13,4 +13,9 @@ loop-i-preserved c = record {
 pub invariant_of-result : goal.invariant_of-result
 invariant_of-result c =
     let all : c.loop-i.i ≡ length c.args.fids.now = omega arith in
-    record { short = omega arith; size = c.loop-i.invariant.size; rest = rw (← all) c.loop-i.invariant.back }
+    record {
+      form = fid_list_kept c.loop-i.kept c.args.fids.now c.loop-i.before (omega arith) (omega arith) (rw (← all) c.loop-i.invariant.front) (rw (← all) c.loop-i.invariant.rest);
+      short = omega arith;
+      size = c.loop-i.invariant.size;
+      rest = rw (← all) c.loop-i.invariant.back;
+    }

@@ -1,5 +1,5 @@
 -- The copies, put in one after another, are the update applied.
-use Rattle.std.specs.Prelude.{◌≡◌, List, fold}
+use Rattle.std.specs.Prelude.{List, fold}
 use Rattle.std.specs.Map.{values_of}
 use Rattle.std.proofs.Common.{◌∙◌, ap}
 use Rattle.mama_msg.specs.Field.{FieldData}

@@ -1,5 +1,5 @@
 -- The copies, put one after another into the empty message, are the message.
-use Rattle.std.specs.Prelude.{◌≡◌, List, [], fold}
+use Rattle.std.specs.Prelude.{List, [], fold}
 use Rattle.std.specs.Map.{values_of}
 use Rattle.std.proofs.Common.{◌∙◌, ap}
 use Rattle.mama_msg.specs.Field.{FieldData}

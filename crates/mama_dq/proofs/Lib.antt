@@ -1,0 +1,9 @@
+pub mod CacheLemmas
+pub mod StrategyLemmas
+pub mod Relations
+pub mod ImageLaw
+pub mod CacheOrder
+pub mod SameKind
+pub mod GapLaw
+pub mod StaleLaw
+pub mod OrderlyLaw

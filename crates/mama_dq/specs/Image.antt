@@ -1,0 +1,23 @@
+-- What an image that is ok promises.
+use Rattle.std.specs.Prelude.{◌≡◌, ℕ, List}
+use Rattle.std.specs.List.{AllByRecursion}
+use Rattle.mama_msg.specs.Field.{FieldData}
+use Rattle.mama_event.specs.declared.market.SubKind.{SubKind}
+use Rattle.mama_event.specs.declared.market.MarketMsg.{MarketMsg}
+use Rattle.mama_event.specs.Record.{record_after, IsGenuine}
+use Rattle.mama_dq.specs.declared.table.Phase.{Phase}
+use Rattle.mama_dq.specs.declared.table.Phase.TheVariants.{LiveOk}
+use Rattle.mama_dq.specs.Context.{ContextData}
+use Rattle.mama_dq.specs.Strategy.{fold}
+
+-- the image of a context is the record of its sender at the last number
+abbrev pub IsSendersRecord : (ℕ → List FieldData) → (ℕ → List (List FieldData)) → ContextData → Type 0
+IsSendersRecord bases updates c = c.image ≡ record_after (bases c.sender) (updates c.sender) c.last
+
+-- Whatever messages a subscription took, in whatever order, if each is genuine for the bases and the updates of the
+-- senders, then an image that is ok is its sender's record at the last number.
+abbrev pub ImageLaw : Type 0
+ImageLaw = (bases : ℕ → List FieldData) (updates : ℕ → List (List FieldData)) (kind : SubKind) (size : ℕ) (messages : List MarketMsg)
+    → AllByRecursion (IsGenuine bases updates) messages
+    → (fold kind size messages).phase ≡ LiveOk
+    → IsSendersRecord bases updates (fold kind size messages)

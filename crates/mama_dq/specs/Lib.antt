@@ -1,0 +1,7 @@
+pub mod Table
+pub mod Cache
+pub mod Context
+pub mod Strategy
+pub mod Image
+pub mod Gap
+pub mod Orderly

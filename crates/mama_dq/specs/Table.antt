@@ -1,0 +1,83 @@
+-- What a message is to an image, and the table of actions of market subscriptions.
+use Rattle.std.specs.Prelude.{ℕ, suc, Bool, true, false, ◌==◌, nat_lt, if◌then◌else◌}
+use Rattle.mama_event.specs.declared.market.MsgKind.{MsgKind}
+use Rattle.mama_event.specs.declared.market.MsgKind.TheVariants.{Initial, Update, Recap}
+use Rattle.mama_event.specs.declared.market.MarketMsg.{MarketMsg}
+use Rattle.mama_dq.specs.declared.table.Phase.{Phase}
+use Rattle.mama_dq.specs.declared.table.Phase.TheVariants.{Await, LiveOk, LiveStale}
+use Rattle.mama_dq.specs.declared.table.Relation.{Relation}
+use Rattle.mama_dq.specs.declared.table.Relation.TheVariants.{Next, Same, Old, Ahead, Other}
+use Rattle.mama_dq.specs.declared.table.Action.{Action}
+use Rattle.mama_dq.specs.declared.table.Action.TheVariants.{Keep, Start, Apply, ApplyKeep, KeepOnly, Ignore, Gap, Switch, Replace, Heal, Adopt}
+
+-- whether a message of this kind is an update, and not an image message
+abbrev pub is_update : MsgKind → Bool
+is_update Initial = false
+is_update Update = true
+is_update Recap = false
+
+-- what a number is to the last number of the same sender
+abbrev pub relation_of_number : ℕ → ℕ → Relation
+relation_of_number last n = if n == suc last then Next else if n == last then Same else if nat_lt n last then Old else Ahead
+
+-- what a message is to a sender and its last number
+abbrev pub relation_of : ℕ → ℕ → MarketMsg → Relation
+relation_of sender last m = if m.sender == sender then relation_of_number last m.seq else Other
+
+-- the action for an image message while there is an image that is the sender's record
+abbrev pub ok_image : Relation → Action
+ok_image Next = Replace
+ok_image Same = Replace
+ok_image Old = Ignore
+ok_image Ahead = Replace
+ok_image Other = Adopt
+
+-- the action for an update then
+abbrev pub ok_update : Relation → Action
+ok_update Next = Apply
+ok_update Same = Ignore
+ok_update Old = Ignore
+ok_update Ahead = Gap
+ok_update Other = Switch
+
+-- the action for an image message while there is an image that may lack updates
+abbrev pub stale_image : Relation → Action
+stale_image Next = Heal
+stale_image Same = Heal
+stale_image Old = Heal
+stale_image Ahead = Heal
+stale_image Other = Adopt
+
+-- the action for an update then
+abbrev pub stale_update : Relation → Action
+stale_update Next = ApplyKeep
+stale_update Same = KeepOnly
+stale_update Old = KeepOnly
+stale_update Ahead = Gap
+stale_update Other = Switch
+
+-- The action for a message in a phase. While there is no image the relation is not looked at.
+abbrev pub decided : Phase → Relation → Bool → Action
+decided Await relation false = Start
+decided Await relation true = Keep
+decided LiveOk relation false = ok_image relation
+decided LiveOk relation true = ok_update relation
+decided LiveStale relation false = stale_image relation
+decided LiveStale relation true = stale_update relation
+
+-- the numbers of phases, relations and kinds of messages, by which the cells of the table are numbered
+abbrev pub phase_number : Phase → ℕ
+phase_number Await = 0
+phase_number LiveOk = 1
+phase_number LiveStale = 2
+
+abbrev pub relation_number : Relation → ℕ
+relation_number Next = 0
+relation_number Same = 1
+relation_number Old = 2
+relation_number Ahead = 3
+relation_number Other = 4
+
+abbrev pub kind_number : Bool → ℕ
+kind_number false = 0
+kind_number true = 1

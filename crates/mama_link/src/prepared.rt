@@ -1,0 +1,124 @@
+ghost use Rattle.std.specs.Prelude.{◌≡◌, ◌+◌, ◌<◌, ◌≤◌, ◌^◌, ◌++◌, ◌↔◌, length, IsTrue, IfOk, IfErr};
+ghost use Rattle.mama_link.specs.Link.{copies, held_back};
+ghost use Rattle.mama_link.specs.Prepared.{copy_for};
+
+use crate::faults::Fault;
+use crate::outbox::Outbox;
+use mama_memory::Duplicate;
+use std::marker::Model;
+
+/// A pass of one message through a link, for which all memory is there.
+#[derive(Drop)]
+pub struct Prepared<T> {
+    place: u64,
+    fault: Option<Fault>,
+    message: T,
+    copy: Option<T>,
+    len: usize,
+}
+
+impl<T> Model for Prepared<T> {
+    ghost use Rattle.std.specs.Prelude.{◌≡◌};
+    ghost use Rattle.mama_link.specs.Prepared.{Readied, copy_for};
+
+    ghost Value = { Readied T };
+
+    ghost view = { λ p. record { place = p.place; fault = p.fault; message = p.message; len = p.len } };
+
+    ghost invariant = { λ p. p.copy ≡ copy_for p.fault p.message };
+}
+
+impl<T> Prepared<T> {
+    /// The number of messages that this pass will put out.
+    pub fn len(&self) -> usize
+        ensures { result ≡ self.now.len }
+    {
+        self.len
+    }
+
+    /// Whether this pass will put out nothing.
+    pub fn is_empty(&self) -> bool
+        ensures { IsTrue result ↔ (self.now.len ≡ 0) }
+    {
+        self.len == 0
+    }
+
+    /// The place of this pass, which is the number of its message.
+    pub(crate) fn place(&self) -> u64
+        ensures { result ≡ self.now.place }
+    {
+        self.place
+    }
+
+    /// What befalls the message.
+    pub(crate) fn fault(&self) -> Option<Fault>
+        ensures { result ≡ self.now.fault }
+    {
+        self.fault
+    }
+
+}
+
+impl<T: Drop> Prepared<T> {
+    /// The message.
+    pub(crate) fn into_message(self) -> T
+        ensures { result ≡ self.message }
+    {
+        self.message
+    }
+
+    /// Puts out what comes of the message in its place, and gives it back where it is held.
+    pub(crate) fn put_own(self, out: &mut Outbox<T>) -> Option<T>
+        requires { length (copies self.fault self.message) ≤ out.old.spare }
+        ensures out { out.new.items ≡ out.old.items ++ copies self.fault self.message }
+        ensures spare { out.new.spare + length (copies self.fault self.message) ≡ out.old.spare }
+        ensures held { result ≡ held_back self.fault self.message }
+    {
+        match self.fault {
+            None => {
+                out.push_reserved(self.message);
+                None
+            }
+            Some(Fault::Lose) => None,
+            Some(Fault::Dup) => {
+                out.push_reserved(self.message);
+                if let Some(copy) = self.copy {
+                    out.push_reserved(copy);
+                }
+                None
+            }
+            Some(Fault::Hold(_)) => Some(self.message),
+        }
+    }
+}
+
+impl<T: Duplicate> Prepared<T> {
+    /// A pass at a place where this many held messages come out besides, or the message.
+    pub(crate) fn new(
+        place: u64,
+        fault: Option<Fault>,
+        message: T,
+        due: usize,
+    ) -> Result<Prepared<T>, T>
+        requires { due < 2 ^ 63 }
+        ensures prepared { IfOk result (λ p. p ≡ record { place = place; fault = fault; message = message; len = length (copies fault message) + due }) }
+        ensures refused { IfErr result (λ back. back ≡ message) }
+    {
+        let (copy, own) = match fault {
+            None => (None, 1),
+            Some(Fault::Lose) => (None, 0),
+            Some(Fault::Dup) => match message.try_clone() {
+                Ok(copy) => (Some(copy), 2),
+                Err(_) => return Err(message),
+            },
+            Some(Fault::Hold(_)) => (None, 0),
+        };
+        Ok(Prepared {
+            place,
+            fault,
+            message,
+            copy,
+            len: own + due,
+        })
+    }
+}

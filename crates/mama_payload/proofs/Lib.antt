@@ -1,0 +1,10 @@
+pub mod Steps
+pub mod Parts
+pub mod Keys
+pub mod Fields
+pub mod Messages
+pub mod Lettering
+pub mod Loops
+pub mod Going
+pub mod GoingOn
+pub mod Places

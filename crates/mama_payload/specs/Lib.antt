@@ -1,0 +1,4 @@
+pub mod Stop
+pub mod Spelling
+pub mod Reading
+pub mod Laws

@@ -1,0 +1,114 @@
+-- The one spelling of a message, payload version 1. All numbers have the most significant byte first; signed ones are
+-- two's complement.
+use Rattle.std.specs.Prelude.{ℕ, ℤ, ◌<◌, ◌≤◌, ◌^◌, true, false, List, [], ◌∷◌, ◌++◌, length}
+use Rattle.std.specs.List.{flat_map, AllByRecursion}
+use Rattle.std.specs.Int.{Width, w8, w16, w32, w64, to_be_bytes, cast_unsigned}
+use Rattle.std.specs.Int.RustNames.{FitsSigned}
+use Rattle.mama_msg.specs.declared.value.Value.{Value}
+use Rattle.mama_msg.specs.declared.value.Value.TheVariants as values
+use Rattle.mama_msg.specs.Value.{IsText}
+use Rattle.mama_msg.specs.Field.{FieldData, IsKeyed}
+use Rattle.mama_msg.specs.Message.{AreDistinct}
+use Rattle.mama_payload.specs.declared.kind.Kind.{Kind}
+use Rattle.mama_payload.specs.declared.kind.Kind.TheVariants as kinds
+use Rattle.mama_msg.specs.Name.{IsNameText}
+
+-- the kind of a value
+abbrev pub kind_of : Value → Kind
+kind_of (values.Bool b) = kinds.Bool
+kind_of (values.Char n) = kinds.Char
+kind_of (values.I8 z) = kinds.I8
+kind_of (values.I16 z) = kinds.I16
+kind_of (values.I32 z) = kinds.I32
+kind_of (values.I64 z) = kinds.I64
+kind_of (values.U8 n) = kinds.U8
+kind_of (values.U16 n) = kinds.U16
+kind_of (values.U32 n) = kinds.U32
+kind_of (values.U64 n) = kinds.U64
+kind_of (values.Text text) = kinds.Text
+kind_of (values.Bytes bytes) = kinds.Bytes
+kind_of (values.Price price) = kinds.Price
+kind_of (values.Moment n) = kinds.Moment
+
+-- the tag byte of a kind
+abbrev pub tag_of : Kind → ℕ
+tag_of kinds.Bool = 0x01
+tag_of kinds.Char = 0x02
+tag_of kinds.I8 = 0x03
+tag_of kinds.I16 = 0x04
+tag_of kinds.I32 = 0x05
+tag_of kinds.I64 = 0x06
+tag_of kinds.U8 = 0x07
+tag_of kinds.U16 = 0x08
+tag_of kinds.U32 = 0x09
+tag_of kinds.U64 = 0x0a
+tag_of kinds.Text = 0x0b
+tag_of kinds.Bytes = 0x0c
+tag_of kinds.Price = 0x0d
+tag_of kinds.Moment = 0x0e
+
+-- a signed number in two's complement
+abbrev pub signed : Width → ℤ → List ℕ
+signed w z = to_be_bytes w (cast_unsigned w z)
+
+-- one byte with the length, and then the bytes
+abbrev pub counted : List ℕ → List ℕ
+counted bytes = length bytes ∷ bytes
+
+-- the bytes of a value
+abbrev pub value_bytes : Value → List ℕ
+value_bytes (values.Bool false) = 0 ∷ []
+value_bytes (values.Bool true) = 1 ∷ []
+value_bytes (values.Char n) = n ∷ []
+value_bytes (values.I8 z) = signed w8 z
+value_bytes (values.I16 z) = signed w16 z
+value_bytes (values.I32 z) = signed w32 z
+value_bytes (values.I64 z) = signed w64 z
+value_bytes (values.U8 n) = n ∷ []
+value_bytes (values.U16 n) = to_be_bytes w16 n
+value_bytes (values.U32 n) = to_be_bytes w32 n
+value_bytes (values.U64 n) = to_be_bytes w64 n
+value_bytes (values.Text text) = counted text
+value_bytes (values.Bytes bytes) = counted bytes
+value_bytes (values.Price price) = signed w64 price.mantissa ++ price.decimals ∷ []
+value_bytes (values.Moment n) = to_be_bytes w64 n
+
+-- the bytes of a field: the tag, the fid, the name behind its length, and the value
+abbrev pub field_bytes : FieldData → List ℕ
+field_bytes f = tag_of (kind_of f.value) ∷ to_be_bytes w16 f.fid ++ (counted f.name ++ value_bytes f.value)
+
+-- the bytes of a message: the version 1, the number of fields, and the fields in order
+abbrev pub spelling : List FieldData → List ℕ
+spelling fields = 1 ∷ length fields ∷ flat_map field_bytes fields
+
+-- ---- what has a spelling
+
+-- a value is in the range of its type
+abbrev pub IsInRange : Value → Type 0
+IsInRange (values.Bool b) = Unit {0}
+IsInRange (values.Char n) = n < 2 ^ 8
+IsInRange (values.I8 z) = FitsSigned w8 z
+IsInRange (values.I16 z) = FitsSigned w16 z
+IsInRange (values.I32 z) = FitsSigned w32 z
+IsInRange (values.I64 z) = FitsSigned w64 z
+IsInRange (values.U8 n) = n < 2 ^ 8
+IsInRange (values.U16 n) = n < 2 ^ 16
+IsInRange (values.U32 n) = n < 2 ^ 32
+IsInRange (values.U64 n) = n < 2 ^ 64
+IsInRange (values.Text text) = IsText text
+IsInRange (values.Bytes bytes) = length bytes ≤ 255
+IsInRange (values.Price price) = FitsSigned w64 price.mantissa × (price.decimals ≤ 18)
+IsInRange (values.Moment n) = n < 2 ^ 64
+
+-- a field that the program's types can hold
+pub record IsField (f : FieldData) : Type 0 where
+  pub fid : f.fid < 2 ^ 16
+  pub name : IsNameText f.name
+  pub keyed : IsKeyed f.fid f.name
+  pub value : IsInRange f.value
+
+-- a message that has a spelling: at most 64 fields, with distinct keys
+pub record HasSpelling (fields : List FieldData) : Type 0 where
+  pub short : length fields ≤ 64
+  pub each : AllByRecursion IsField fields
+  pub distinct : AreDistinct fields

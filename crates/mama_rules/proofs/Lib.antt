@@ -1,0 +1,2 @@
+pub mod BridgeRows
+pub mod TimersRows

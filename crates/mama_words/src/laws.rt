@@ -1,0 +1,66 @@
+//! Laws of the words: what is read is spelled so, and what is spelled so is read.
+ghost use Rattle.std.specs.Prelude.{◌≡◌, ◌<◌, ◌≤◌, ◌^◌, ℕ, ℤ, true, List, map, Option, Some, Ok};
+ghost use Rattle.mama_edge.specs.Decimal.{decimal, int_decimal};
+ghost use Rattle.mama_edge.specs.Quoted.{quoted, IsPrintable};
+ghost use Rattle.mama_event.specs.declared.market.SubKind.{SubKind};
+ghost use Rattle.mama_event.specs.declared.market.MsgKind.{MsgKind};
+ghost use Rattle.mama_event.specs.declared.market.Quality.{Quality};
+ghost use Rattle.mama_msg.specs.Field.{FieldData};
+ghost use Rattle.mama_words.specs.declared.id.IdWord.{IdWord};
+ghost use Rattle.mama_words.specs.declared.order.OrderWord.{OrderWord};
+ghost use Rattle.mama_words.specs.Number.{number_in, int_in, is_within};
+ghost use Rattle.mama_words.specs.Quote.{quoted_in};
+ghost use Rattle.mama_words.specs.Kind.{sub_kind_in, sub_kind_text, msg_kind_in, msg_kind_text, quality_in, quality_text};
+ghost use Rattle.mama_words.specs.Id.{id_in, id_text};
+ghost use Rattle.mama_words.specs.Field.{field_in, field_text, IsField, message_in, IsMessage};
+ghost use Rattle.mama_words.specs.Order.{order_in, order_words, IsOrder, IsId};
+
+/// Numbers: one spelling for each.
+pub fn numbers_are_spelled()
+    ensures found { (text : List ℕ) (n : ℕ) → number_in text ≡ Some n → (n < 2 ^ 64) × (text ≡ decimal n) }
+    ensures again { (n : ℕ) → n < 2 ^ 64 → number_in (decimal n) ≡ Some n }
+    ensures int_found { (half : ℕ) (text : List ℕ) (z : ℤ) → int_in half text ≡ Some z → (is_within half z ≡ true) × (text ≡ int_decimal z) }
+    ensures int_again { (half : ℕ) (z : ℤ) → half ≤ 2 ^ 63 → is_within half z ≡ true → int_in half (int_decimal z) ≡ Some z }
+{
+}
+
+/// Texts between quotes.
+pub fn texts_are_spelled()
+    ensures found { (word text : List ℕ) → quoted_in word ≡ Some text → IsPrintable text × (word ≡ quoted text) }
+    ensures again { (text : List ℕ) → IsPrintable text → quoted_in (quoted text) ≡ Some text }
+{
+}
+
+/// Kinds and qualities.
+pub fn kinds_are_spelled()
+    ensures sub_kind_found { (word : List ℕ) (k : SubKind) → sub_kind_in word ≡ Some k → word ≡ sub_kind_text k }
+    ensures sub_kind_again { (k : SubKind) → sub_kind_in (sub_kind_text k) ≡ Some k }
+    ensures msg_kind_found { (word : List ℕ) (k : MsgKind) → msg_kind_in word ≡ Some k → word ≡ msg_kind_text k }
+    ensures msg_kind_again { (k : MsgKind) → msg_kind_in (msg_kind_text k) ≡ Some k }
+    ensures quality_found { (word : List ℕ) (q : Quality) → quality_in word ≡ Some q → word ≡ quality_text q }
+    ensures quality_again { (q : Quality) → quality_in (quality_text q) ≡ Some q }
+{
+}
+
+/// Ids, with any letter.
+pub fn ids_are_spelled()
+    ensures found { (letter : ℕ) (word : List ℕ) (id : IdWord) → id_in letter word ≡ Some id → IsId id × (word ≡ id_text letter id) }
+    ensures again { (letter : ℕ) (id : IdWord) → IsId id → id_in letter (id_text letter id) ≡ Some id }
+{
+}
+
+/// Fields, and messages as lists of words.
+pub fn fields_are_spelled()
+    ensures found { (word : List ℕ) (f : FieldData) → field_in word ≡ Ok f → IsField f × (word ≡ field_text f) }
+    ensures again { (f : FieldData) → IsField f → field_in (field_text f) ≡ Ok f }
+    ensures message_found { (words : List (List ℕ)) (fs : List FieldData) → message_in words ≡ Ok fs → IsMessage fs × (words ≡ map field_text fs) }
+    ensures message_again { (fs : List FieldData) → IsMessage fs → message_in (map field_text fs) ≡ Ok fs }
+{
+}
+
+/// Orders as lists of words.
+pub fn orders_are_spelled()
+    ensures found { (words : List (List ℕ)) (o : OrderWord) → order_in words ≡ Ok o → IsOrder o × (words ≡ order_words o) }
+    ensures again { (o : OrderWord) → IsOrder o → order_in (order_words o) ≡ Ok o }
+{
+}
