@@ -110,12 +110,12 @@ impl Growing {
                 call,
                 order: order_of(order),
             })?,
-            other => self.add_to_client(other)?,
+            other => self.add_to_client(&other)?,
         }
         Ok(())
     }
 
-    fn add_to_client(&mut self, line: Line) -> Result<(), OutOfMemory> {
+    fn add_to_client(&mut self, line: &Line) -> Result<(), OutOfMemory> {
         match line {
             Line::Sub {
                 topic,
@@ -124,25 +124,30 @@ impl Growing {
                 cache,
                 recaps,
             } => {
-                let topic = small(topic);
-                let queue = queue_of(queue);
-                self.begin(Object::Sub {
-                    topic,
-                    kind,
-                    queue,
-                    cache,
-                    recaps,
-                })
+                let object = Object::Sub {
+                    topic: small(*topic),
+                    kind: *kind,
+                    queue: queue_of(*queue),
+                    cache: *cache,
+                    recaps: *recaps,
+                };
+                self.begin(object)
             }
-            Line::Timer { queue, interval } => self.begin(Object::Timer {
-                queue: queue_of(queue),
-                interval,
-            }),
-            Line::Inbox { queue } => self.begin(Object::Inbox {
-                queue: queue_of(queue),
-            }),
-            Line::Order(order) => self.add_line(ClientLine::Order(order_of(order))),
-            Line::Now(moment) => self.add_line(ClientLine::Now(moment)),
+            Line::Timer { queue, interval } => {
+                let object = Object::Timer {
+                    queue: queue_of(*queue),
+                    interval: *interval,
+                };
+                self.begin(object)
+            }
+            Line::Inbox { queue } => {
+                let object = Object::Inbox {
+                    queue: queue_of(*queue),
+                };
+                self.begin(object)
+            }
+            Line::Order(order) => self.add_line(ClientLine::Order(order_of(*order))),
+            Line::Now(moment) => self.add_line(ClientLine::Now(*moment)),
             Line::NowClock => self.add_line(ClientLine::NowClock),
             _ => Ok(()),
         }
