@@ -24,6 +24,23 @@ impl Model for Script {
 impl Script {
     ghost use Rattle.std.specs.Prelude.{◌≡◌};
 
+    // The script of these parts, which an accepted text says.
+    pub(crate) fn new(
+        shape: Shape,
+        topics: Vec<TextValue>,
+        publishers: Vec<PublisherPart>,
+        clients: Vec<ClientLines>,
+    ) -> Script
+        ensures { result ≡ record { shape = shape; topics = topics.items; publishers = publishers.items; clients = clients.items } }
+    {
+        Script {
+            shape,
+            topics,
+            publishers,
+            clients,
+        }
+    }
+
     /// How many actors of each kind there are, and the topic of each publisher.
     pub fn shape(&self) -> &Shape
         ensures { result.now ≡ self.now.shape }

@@ -1,0 +1,3 @@
+pub mod RunData
+pub mod RunView
+pub mod LogText
