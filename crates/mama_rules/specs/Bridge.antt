@@ -329,11 +329,11 @@ settle_begins shape before e =
 abbrev pub ending_comes : Shape → List BridgeEvent → List BridgePut → BridgeEvent → List BridgePut
 ending_comes shape before sofar e =
     if turns (has_ending shape) before e then
-      flat_map (ended shape before sofar) (live_subs shape before)
-      ++ flat_map (ended_inbox shape before sofar) (open_inboxes shape before)
-      ++ to_timers t.Fin ∷ []
-      ++ map (λ k. to_queue k q.Fin) (numbers_below (queues_of shape))
-      ++ map (λ r. to_publisher r p.Fin) (numbers_below (publishers_of shape))
+    flat_map (ended shape before sofar) (live_subs shape before)
+    ++ flat_map (ended_inbox shape before sofar) (open_inboxes shape before)
+    ++ to_timers t.Fin ∷ []
+    ++ map (λ k. to_queue k q.Fin) (numbers_below (queues_of shape))
+    ++ map (λ r. to_publisher r p.Fin) (numbers_below (publishers_of shape))
     else []
 
 -- what the bridge puts at an event, given the events before it and what they put

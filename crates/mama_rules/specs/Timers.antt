@@ -205,7 +205,7 @@ answer shape before sofar _ = []
 abbrev pub ending_comes : Shape → List TimersEvent → List (ℕ × QueueNote) → TimersEvent → List (ℕ × QueueNote)
 ending_comes shape before sofar e =
     if turns (has_ending shape) before e then
-      flat_map (gone sofar) (live_timers shape before) ++ map (λ k. (k, q.Fin)) (numbers_below (queues_of shape))
+    flat_map (gone sofar) (live_timers shape before) ++ map (λ k. (k, q.Fin)) (numbers_below (queues_of shape))
     else []
 
 -- what the service puts at an event, given the events before it and what they put
