@@ -51,18 +51,18 @@ module _ (rows : List FaultRow) (table : List (ℕ × Fault)) (passed cursor : �
   none_here other =
       sym (is.found (passed + 1)) ∙ lookup_at_gap nat_cmp_total (passed + 1) table cursor is.ordered
       (λ j e h at.
-        let within : j < length table = slice_get_within table j e at in
-        let same : get_or table j no_entry ≡ e = get_or_from_slice_get table j e no_entry at in
-        let early : (get_or table j no_entry).0 ≤ passed = caught.before j h in
-        let key : (get_or table j no_entry).0 ≡ e.0 = ap (λ (x : ℕ × Fault). x.0) same in
-        above_is_greater (passed + 1) e.0 (omega arith))
+      let within : j < length table = slice_get_within table j e at in
+      let same : get_or table j no_entry ≡ e = get_or_from_slice_get table j e no_entry at in
+      let early : (get_or table j no_entry).0 ≤ passed = caught.before j h in
+      let key : (get_or table j no_entry).0 ≡ e.0 = ap (λ (x : ℕ × Fault). x.0) same in
+      above_is_greater (passed + 1) e.0 (omega arith))
       (λ e at.
-        let within : cursor < length table = slice_get_within table cursor e at in
-        let same : get_or table cursor no_entry ≡ e = get_or_from_slice_get table cursor e no_entry at in
-        let late : passed < (get_or table cursor no_entry).0 = caught.after cursor (omega arith) within in
-        let key : (get_or table cursor no_entry).0 ≡ e.0 = ap (λ (x : ℕ × Fault). x.0) same in
-        let no : e.0 ≢ passed + 1 = other e at in
-        below_is_less (passed + 1) e.0 (omega arith))
+      let within : cursor < length table = slice_get_within table cursor e at in
+      let same : get_or table cursor no_entry ≡ e = get_or_from_slice_get table cursor e no_entry at in
+      let late : passed < (get_or table cursor no_entry).0 = caught.after cursor (omega arith) within in
+      let key : (get_or table cursor no_entry).0 ≡ e.0 = ap (λ (x : ℕ × Fault). x.0) same in
+      let no : e.0 ≢ passed + 1 = other e at in
+      below_is_less (passed + 1) e.0 (omega arith))
 
   told_here : (e : ℕ × Fault) → slice_get table cursor ≡ Some e → fault_at rows e.0 ≡ Some e.1
   told_here e at =

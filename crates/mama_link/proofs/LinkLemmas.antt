@@ -94,7 +94,7 @@ own_is_held place (Some (Hold by)) message h = rw (later_is_after place by (h by
 abbrev pub HoldsByMore : List FaultRow → Type 0
 HoldsByMore rows = (i by : ℕ) → fault_at rows i ≡ Some (Hold by) → 0 < by
 
-numbered-more : {T : Type 0} (x : List T) (message : T) → numbered (x ++ message ∷ []) ≡ numbered x ++ (length x + 1, message) ∷ []
+pub numbered-more : {T : Type 0} (x : List T) (message : T) → numbered (x ++ message ∷ []) ≡ numbered x ++ (length x + 1, message) ∷ []
 numbered-more {T} x message =
     let same : 1 + length x ≡ length x + 1 = omega arith in
     numbered-push 1 x message ∙ ap (λ (n : ℕ). numbered x ++ (n, message) ∷ []) same
@@ -106,7 +106,7 @@ own-next {T} rows x message =
     let none : filter at (numbered x) ≡ [] = numbered-below 1 (length x + 1) x (omega arith) in
     let it : (length x + 1 == length x + 1) ≡ true = eq-eqb (length x + 1) (length x + 1) refl in
     let one : filter at (numbered (x ++ message ∷ [])) ≡ (length x + 1, message) ∷ [] =
-        ap (filter at) (numbered-more x message) ∙ filter-append at (numbered x) ((length x + 1, message) ∷ []) ∙ rw (none, it) refl in
+    ap (filter at) (numbered-more x message) ∙ filter-append at (numbered x) ((length x + 1, message) ∷ []) ∙ rw (none, it) refl in
     ap (flat_map (own rows)) one ∙ append-nil (copies (fault_at rows (length x + 1)) message)
 
 due-next : {T : Type 0} (rows : List FaultRow) (x : List T) (message : T) → HoldsByMore rows →
@@ -134,7 +134,7 @@ held-next {T} rows x message holds =
     ap (λ (n : ℕ). filter (is_held rows n) (numbered (x ++ message ∷ []))) long
     ∙ ap (filter is) (numbered-more x message) ∙ filter-append is (numbered x) ((length x + 1, message) ∷ [])
     ∙ rw (filter-both (is_held rows (length x)) (λ (e : ℕ × T). not (is_due rows (length x + 1) e)) is (λ e. held_after_next (length x) e.0 (fault_at rows e.0)) (numbered x))
-        (ap (λ (es : List (ℕ × T)). filter (λ (e : ℕ × T). not (is_due rows (length x + 1) e)) (held rows x) ++ es) (own_is_held (length x + 1) (fault_at rows (length x + 1)) message (holds (length x + 1))))
+    (ap (λ (es : List (ℕ × T)). filter (λ (e : ℕ × T). not (is_due rows (length x + 1) e)) (held rows x) ++ es) (own_is_held (length x + 1) (fault_at rows (length x + 1)) message (holds (length x + 1))))
 
 standing-next : {T : Type 0} (rows : List FaultRow) (x : List T) (message : T) → HoldsByMore rows → StandsFor (x ++ message ∷ []) (standing_next (standing_after rows x) message)
 standing-next {T} rows x message holds =

@@ -16,6 +16,18 @@ use Rattle.mama_link.specs.Slots.{no_entry, held_in, due_in, without_due, found_
 
 -- ---- one slot more
 
+-- no slots hold nothing
+pub held_in-none : {T : Type 0} (entries : List (ℕ × Fault)) → held_in {T = T} entries [] ≡ []
+held_in-none [] = refl
+held_in-none (e ∷ es) = refl
+
+-- no more is held than there are slots
+pub length-held_in : {T : Type 0} (entries : List (ℕ × Fault)) (slots : List (Option T)) → length (held_in entries slots) ≤ length slots
+length-held_in [] slots = omega arith
+length-held_in (e ∷ es) [] = omega arith
+length-held_in (e ∷ es) (None ∷ slots) = omega (arith, length-held_in es slots)
+length-held_in (e ∷ es) (Some message ∷ slots) = omega (arith, length-held_in es slots)
+
 -- a slot more holds its message under the index of its entry
 pub held_in-push : {T : Type 0} (entries : List (ℕ × Fault)) (slots : List (Option T)) (slot : Option T) → length slots < length entries →
     held_in entries (slots ++ slot ∷ []) ≡ held_in entries slots ++ at_place (get_or entries (length slots) no_entry).0 slot
@@ -117,7 +129,7 @@ found_at-due {T} place n (e ∷ es) front (slot ∷ slots) h =
     let all : List (Option T) = front ++ slot ∷ slots in
     let at : get_or all n None ≡ slot = seam-slot front n h slot slots in
     let ih : found_at (slots_due place (n + 1) es) all ≡ due_in place es slots =
-        ap (found_at (slots_due place (n + 1) es)) (push-seam front slot slots) ∙ found_at-due place (n + 1) es (front ++ slot ∷ []) slots (length-push front slot n h) in
+    ap (found_at (slots_due place (n + 1) es)) (push-seam front slot slots) ∙ found_at-due place (n + 1) es (front ++ slot ∷ []) slots (length-push front slot n h) in
     elim (holds_until place e.0 e.1) as (λ (b : Bool). found_at (if b then n ∷ slots_due place (n + 1) es else slots_due place (n + 1) es) all ≡ (if b then option_to_list slot else []) ++ due_in place es slots)
     [ true ↦ rw (at, ih) refl | false ↦ ih ]
 
@@ -142,9 +154,9 @@ taken_at-due {T} place n (e ∷ es) front (slot ∷ slots) h =
     let at : get_or all n None ≡ slot = seam-slot front n h slot slots in
     let emptied : set all n None ≡ (front ++ None ∷ []) ++ slots = seam-set front n h slot slots in
     let left : taken_at (slots_due place (n + 1) es) all ≡ due_in place es slots =
-        ap (taken_at (slots_due place (n + 1) es)) (push-seam front slot slots) ∙ taken_at-due place (n + 1) es (front ++ slot ∷ []) slots (length-push front slot n h) in
+    ap (taken_at (slots_due place (n + 1) es)) (push-seam front slot slots) ∙ taken_at-due place (n + 1) es (front ++ slot ∷ []) slots (length-push front slot n h) in
     let rest : taken_at (slots_due place (n + 1) es) (set all n None) ≡ due_in place es slots =
-        ap (taken_at (slots_due place (n + 1) es)) emptied ∙ taken_at-due place (n + 1) es (front ++ None ∷ []) slots (length-push front None n h) in
+    ap (taken_at (slots_due place (n + 1) es)) emptied ∙ taken_at-due place (n + 1) es (front ++ None ∷ []) slots (length-push front None n h) in
     elim (holds_until place e.0 e.1) as (λ (b : Bool). taken_at (if b then n ∷ slots_due place (n + 1) es else slots_due place (n + 1) es) all ≡ (if b then option_to_list slot else []) ++ due_in place es slots)
     [ true ↦ rw (at, rest) refl | false ↦ left ]
 
@@ -167,11 +179,11 @@ emptied_at-due {T} place n (e ∷ es) front (slot ∷ slots) h =
     let all : List (Option T) = front ++ slot ∷ slots in
     let due : List ℕ = slots_due place (n + 1) es in
     let left : emptied_at due all ≡ front ++ slot ∷ without_due place es slots =
-        ap (emptied_at due) (push-seam front slot slots) ∙ emptied_at-due place (n + 1) es (front ++ slot ∷ []) slots (length-push front slot n h)
-        ∙ sym (push-seam front slot (without_due place es slots)) in
+    ap (emptied_at due) (push-seam front slot slots) ∙ emptied_at-due place (n + 1) es (front ++ slot ∷ []) slots (length-push front slot n h)
+    ∙ sym (push-seam front slot (without_due place es slots)) in
     let rest : emptied_at due (set all n None) ≡ front ++ None ∷ without_due place es slots =
-        ap (emptied_at due) (seam-set front n h slot slots) ∙ emptied_at-due place (n + 1) es (front ++ None ∷ []) slots (length-push front None n h)
-        ∙ sym (push-seam front None (without_due place es slots)) in
+    ap (emptied_at due) (seam-set front n h slot slots) ∙ emptied_at-due place (n + 1) es (front ++ None ∷ []) slots (length-push front None n h)
+    ∙ sym (push-seam front None (without_due place es slots)) in
     elim (holds_until place e.0 e.1) as (λ (b : Bool). emptied_at (if b then n ∷ due else due) all ≡ front ++ (if b then None else slot) ∷ without_due place es slots)
     [ true ↦ rest | false ↦ left ]
 

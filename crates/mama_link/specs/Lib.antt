@@ -4,3 +4,4 @@ pub mod Outbox
 pub mod Link
 pub mod Prepared
 pub mod Slots
+pub mod Laws

@@ -28,6 +28,13 @@ module _ {T : Type 0} where
   copies (Some Dup) message = message ∷ message ∷ []
   copies (Some (Hold by)) message = []
 
+  -- all that comes out of a message, in its own place or later: nothing where it is lost, two where it is repeated, and else one
+  abbrev pub shares : Option Fault → T → List T
+  shares None message = message ∷ []
+  shares (Some Lose) message = []
+  shares (Some Dup) message = message ∷ message ∷ []
+  shares (Some (Hold by)) message = message ∷ []
+
   -- the messages with their numbers
   abbrev pub numbered : List T → List (ℕ × T)
   numbered x = enumerate_from 1 x
@@ -39,6 +46,10 @@ module _ {T : Type 0} where
   -- what comes out of one numbered message in its own place
   abbrev pub own : List FaultRow → ℕ × T → List T
   own rows entry = copies (fault_at rows entry.0) entry.1
+
+  -- all that comes out of one numbered message
+  abbrev pub shared : List FaultRow → ℕ × T → List T
+  shared rows entry = shares (fault_at rows entry.0) entry.1
 
   -- whether a numbered message is held until the place
   abbrev pub is_due : List FaultRow → ℕ → ℕ × T → Bool

@@ -53,3 +53,8 @@ module _ {T : Type 0} where
   abbrev pub emptied_at : List ℕ → List (Option T) → List (Option T)
   emptied_at [] slots = slots
   emptied_at (n ∷ numbers) slots = emptied_at numbers (slice_set slots n None)
+
+-- what a link keeps: the cursor is caught up, and the messages held are counted
+pub record IsKept {T : Type 0} (table : List (ℕ × Fault)) (passed count : ℕ) (slots : List (Option T)) : Type 0 where
+  pub caught_up : IsCaughtUp table passed (length slots)
+  pub counted : count ≡ length (held_in table slots)

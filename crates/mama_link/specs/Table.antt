@@ -41,15 +41,15 @@ slots_in (Some slots) = slots.items
 abbrev pub slots_at : {A : Type 0} → BTreeMap ℕ (Vec ℕ A) → ℕ → List ℕ
 slots_at dues place = slots_in (get nat_cmp dues place)
 
--- the entries are those of the rows, none of which is bad, in the order of their indexes
+-- the entries tell what the rows do, none of which is bad, in the order of their indexes
 pub record IsTable (rows : List FaultRow) (table : List (ℕ × Fault)) : Type 0 where
   pub sound : first_fault rows ≡ None
-  pub tabled : table ≡ table_of rows
   pub ordered : IsStrictlySortedBy nat_cmp (keys_of table)
   pub found : (i : ℕ) → lookup (is_at (nat_cmp i)) table ≡ fault_at rows i
   pub told : All (λ (entry : ℕ × Fault). fault_at rows entry.0 ≡ Some entry.1) table
 
 -- the table and the slots due at each place are those of the rows
 pub record IsIndexed {A : Type 0} (rows : List FaultRow) (table : List (ℕ × Fault)) (dues : BTreeMap ℕ (Vec ℕ A)) : Type 0 where
+  pub tabled : table ≡ table_of rows
   pub entries : IsTable rows table
   pub due : (place : ℕ) → slots_at dues place ≡ slots_due place 0 table

@@ -209,7 +209,8 @@ impl Faults {
 
     /// The rows in the order of their indexes.
     pub(crate) fn table(&self) -> &[(u32, Fault)]
-        ensures entries { IsTable self.now result.now }
+        ensures table { result.now ≡ table_of self.now }
+        ensures entries { IsTable self.now (table_of self.now) }
     {
         self.table.as_slice()
     }
@@ -217,6 +218,7 @@ impl Faults {
     /// The numbers of the table's entries whose messages are due at a place.
     pub(crate) fn due_at(&self, place: u64) -> &[usize]
         ensures due { result.now ≡ slots_due place 0 (table_of self.now) }
+        ensures entries { IsTable self.now (table_of self.now) }
         ensures few { length result.now < 2 ^ 63 }
     {
         match self.dues.get(&place) {

@@ -1,12 +1,28 @@
-//! What a link lets through: messages lost, repeated or held back by fault rows.
+//! Links with faults: messages pass a link one by one, and its fault rows say which are lost, repeated or held back.
+//!
+//! What a link promises is said of the whole list of messages that went in, numbered from 1. `specs/Link.antt` carries
+//! the promise: what comes out at a place (`emit`), what is still held (`held`), what the end puts out (`rest`), and all
+//! that comes out (`through`). A link stands for a list (`StandsFor`) where it passed as many messages as the list has
+//! and holds exactly those that are not yet due. A new link stands for no messages; each call of [`Link`] says what it
+//! puts out, for every list for which the link stood, and that the link stands for one message more.
+//!
+//! [`passes_all`], [`shares_out`], [`loses_nothing`] and [`at_most_twice`] are laws of those definitions: their contracts
+//! are the laws, and the calls do nothing.
+//!
+//! A pass costs time by what comes out at its place, and a logarithm of the number of rows. A link keeps a slot for each
+//! row whose message came, and the slots that are due at a place are listed when the rows are read ([`Faults::new`]).
 #![tactic(auto)]
 
 mod faults;
+mod laws;
+mod link;
 mod outbox;
 mod prepared;
 mod slots;
 
 pub use faults::{Fault, FaultRow, Faults, FaultsFault};
+pub use laws::{at_most_twice, loses_nothing, passes_all, shares_out};
+pub use link::Link;
 pub use mama_memory::{Duplicate, OutOfMemory};
 pub use outbox::Outbox;
 pub use prepared::Prepared;

@@ -98,3 +98,26 @@ impl<T> Outbox<T> {
         Ok(self.items.append(&mut other.items)?)
     }
 }
+
+#[cfg(test)]
+mod tests {
+    use super::*;
+    use std::test::Fail;
+
+    #[test]
+    fn keeps_items_in_order(rt: HostRuntime) -> Result<(), Fail> {
+        let mut out = Outbox::new(rt.alloc());
+        let mut more = Outbox::new(rt.alloc());
+        assert!(rt; out.is_empty());
+        assert!(rt; out.push(1u32).is_ok());
+        more.reserve(2)?;
+        more.push_reserved(2);
+        more.push_reserved(3);
+        out.append(&mut more)?;
+        assert_eq!(rt; (out.len(), more.len()), (3, 0));
+        for want in [Some(1), Some(2), Some(3), None] {
+            assert_eq!(rt; out.take_first(), want);
+        }
+        Ok(())
+    }
+}

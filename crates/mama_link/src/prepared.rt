@@ -56,7 +56,6 @@ impl<T> Prepared<T> {
     {
         self.fault
     }
-
 }
 
 impl<T: Drop> Prepared<T> {

@@ -1,0 +1,22 @@
+ghost use Rattle.mama_link.specs.Laws.{PassesAll, SharesOut, LosesNothing, AtMostTwice};
+
+/// Without rows a link is the identity. The contract is the law; the call does nothing.
+pub fn passes_all<T>()
+    ensures { PassesAll T }
+{}
+
+/// What comes out is, in some order, each message as often as its fault says: not at all where it is lost, twice where
+/// it is repeated, once where it is held or has no fault. The contract is the law; the call does nothing.
+pub fn shares_out<T>()
+    ensures { SharesOut T }
+{}
+
+/// Where no row loses a message, nothing is lost. The contract is the law; the call does nothing.
+pub fn loses_nothing<T>()
+    ensures { LosesNothing T }
+{}
+
+/// Each message comes out at most twice. The contract is the law; the call does nothing.
+pub fn at_most_twice<T>()
+    ensures { AtMostTwice T }
+{}
