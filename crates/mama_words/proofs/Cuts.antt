@@ -3,7 +3,7 @@ use Rattle.std.proofs.Common.{◌≡◌, ℕ, suc, ◌+◌, ◌-◌, ◌<◌, �
 use Rattle.std.proofs.lemmas.Bool.{ne_eqb}
 use Rattle.std.proofs.lemmas.List.{append-nil, drop_more, take_more, take_rest, drop_all, length-drop}
 use Rattle.mama_words.specs.declared.parting.Place.{Place}
-use Rattle.mama_words.specs.Parting.{onto_cut, cut_at, cut_word, is_gap, next_place, place_after, words_from, onto_first}
+use Rattle.mama_words.specs.Parting.{onto_cut, cut_at, cut_word, is_gap, next_place, place_after, words_from, onto_first, pieces}
 use Rattle.mama_words.specs.declared.parting.Place.TheVariants.{Outside}
 
 pub onto_cut-onto_cut : (a b : List ℕ) (cut : Option (List ℕ × List ℕ)) → onto_cut a (onto_cut b cut) ≡ onto_cut (a ++ b) cut
@@ -124,3 +124,27 @@ words_push ws total bs word after e so_far = append_assoc ws (word ∷ []) (word
 
 pub words_last : (ws total : List (List ℕ)) (bs : List ℕ) → None ≡ cut_word Outside bs → ws ++ words_from Outside bs ≡ total → ws ++ bs ∷ [] ≡ total
 words_last ws total bs e so_far = ap (λ (x : List (List ℕ)). ws ++ x) (sym (words_at_none bs e)) ∙ so_far
+
+-- the pieces are what stands before the first cut, and the pieces behind it
+
+abbrev pieces_of : ℕ → Option (List ℕ × List ℕ) → List ℕ → List (List ℕ)
+pieces_of c None all = all ∷ []
+pieces_of c (Some cut) all = cut.0 ∷ pieces c cut.1
+
+onto_pieces : (c b : ℕ) (bs : List ℕ) (cut : Option (List ℕ × List ℕ)) → onto_first b (pieces_of c cut bs) ≡ pieces_of c (onto_cut (b ∷ []) cut) (b ∷ bs)
+onto_pieces c b bs None = refl
+onto_pieces c b bs (Some cut) = refl
+
+pieces_step : (c b : ℕ) (bs : List ℕ) (here : Bool) → eqb b c ≡ here → pieces c bs ≡ pieces_of c (cut_at c bs) bs → pieces c (b ∷ bs) ≡ pieces_of c (cut_at c (b ∷ bs)) (b ∷ bs)
+pieces_step c b bs true e more = rw e refl
+pieces_step c b bs false e more = rw e (ap (onto_first b) more ∙ onto_pieces c b bs (cut_at c bs))
+
+pieces_from_cut : (c : ℕ) (text : List ℕ) → pieces c text ≡ pieces_of c (cut_at c text) text
+pieces_from_cut c [] = refl
+pieces_from_cut c (b ∷ bs) = pieces_step c b bs (eqb b c) refl (pieces_from_cut c bs)
+
+pub pieces_at_some : (c : ℕ) (text before rest : List ℕ) → cut_at c text ≡ Some (before, rest) → pieces c text ≡ before ∷ pieces c rest
+pieces_at_some c text before rest e = pieces_from_cut c text ∙ ap (λ (x : Option (List ℕ × List ℕ)). pieces_of c x text) e
+
+pub pieces_at_none : (c : ℕ) (text : List ℕ) → cut_at c text ≡ None → pieces c text ≡ text ∷ []
+pieces_at_none c text e = pieces_from_cut c text ∙ ap (λ (x : Option (List ℕ × List ℕ)). pieces_of c x text) e

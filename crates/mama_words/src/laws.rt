@@ -1,5 +1,5 @@
 //! Laws of the words: what is read is spelled so, and what is spelled so is read.
-ghost use Rattle.std.specs.Prelude.{◌≡◌, ◌<◌, ◌≤◌, ◌^◌, ℕ, ℤ, true, List, ◌∷◌, map, Option, Some, Ok};
+ghost use Rattle.std.specs.Prelude.{◌≡◌, ◌<◌, ◌≤◌, ◌^◌, ℕ, ℤ, true, List, [], ◌∷◌, map, Option, None, Some, Ok};
 ghost use Rattle.mama_edge.specs.Decimal.{decimal, int_decimal};
 ghost use Rattle.mama_edge.specs.Quoted.{quoted, IsPrintable};
 ghost use Rattle.mama_event.specs.declared.market.SubKind.{SubKind};
@@ -9,7 +9,7 @@ ghost use Rattle.mama_msg.specs.Field.{FieldData};
 ghost use Rattle.mama_words.specs.declared.id.IdWord.{IdWord};
 ghost use Rattle.mama_words.specs.declared.order.OrderWord.{OrderWord};
 ghost use Rattle.std.specs.List.{flat_map};
-ghost use Rattle.mama_words.specs.Parting.{words, parted_in};
+ghost use Rattle.mama_words.specs.Parting.{words, parted_in, cut_at, pieces};
 ghost use Rattle.mama_words.specs.Sentence.{spaced, sentence, IsWord, AreWords};
 ghost use Rattle.mama_words.specs.Number.{number_in, int_in, is_within};
 ghost use Rattle.mama_words.specs.Quote.{quoted_in};
@@ -60,6 +60,12 @@ pub fn fields_are_spelled()
 pub fn orders_are_spelled()
     ensures found { (words : List (List ℕ)) (o : OrderWord) → order_in words ≡ Ok o → IsOrder o × (words ≡ order_words o) }
     ensures again { (o : OrderWord) → IsOrder o → order_in (order_words o) ≡ Ok o }
+{}
+
+/// The pieces of a text between the bytes of a kind are what stands before the first of them, and the pieces behind it.
+pub fn pieces_are_cut()
+    ensures cut { (c : ℕ) (text before rest : List ℕ) → cut_at c text ≡ Some (before, rest) → pieces c text ≡ before ∷ pieces c rest }
+    ensures uncut { (c : ℕ) (text : List ℕ) → cut_at c text ≡ None → pieces c text ≡ text ∷ [] }
 {}
 
 /// The words of a line make the line, and words in a row are parted again.

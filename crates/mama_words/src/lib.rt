@@ -38,7 +38,7 @@ pub use kind::{
 };
 pub use laws::{
     fields_are_spelled, ids_are_spelled, kinds_are_spelled, lines_are_words, numbers_are_spelled,
-    orders_are_spelled, spellings_are_words, texts_are_spelled,
+    orders_are_spelled, pieces_are_cut, spellings_are_words, texts_are_spelled,
 };
 pub use mama_memory::OutOfMemory;
 pub use number::{read_below, read_between, read_int, read_number};
