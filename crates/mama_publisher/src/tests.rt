@@ -46,71 +46,116 @@ fn told(kind: MsgKind, seq: u32, body: Msg) -> MarketMsg {
     }
 }
 
-// The next event that the publisher put.
-fn image(rt: &impl Abort, out: &mut Outbox<ToBridge<ObjectId>>) -> Option<(SubId, MarketMsg)> {
-    match out.take_first().expect(rt, "an event") {
-        ToBridge::Image { sub, msg } => Some((sub, msg)),
+// A publisher of number 3 with this base.
+fn publisher(rt: &impl Abort, alloc: Global, base: Msg) -> Publisher {
+    Publisher::new(alloc, 3, base)
+        .ok()
+        .expect(rt, "at most 64 fields")
+}
+
+// What the publisher put first: an image for the subscription, and the message in it.
+fn image(out: &mut Outbox<ToBridge<ObjectId>>) -> Option<MarketMsg> {
+    match out.take_first() {
+        Some(ToBridge::Image { sub, msg }) if sub == SUB => Some(msg),
+        _ => None,
+    }
+}
+
+// What the publisher put first: a reply to the inbox, and its fields.
+fn reply(out: &mut Outbox<ToBridge<ObjectId>>) -> Option<Msg> {
+    match out.take_first() {
+        Some(ToBridge::Reply { inbox, body }) if inbox == INBOX => Some(body),
         _ => None,
     }
 }
 
 #[test]
-fn a_record_of_64_fields_is_full(rt: HostRuntime) -> Result<(), Fail> {
-    let alloc = rt.alloc();
-    assert!(rt; Publisher::new(alloc, 3, wide(&rt, alloc, 65)?).is_err());
-    let mut full = Publisher::new(alloc, 3, wide(&rt, alloc, 64)?)
-        .ok()
-        .ok_or("64 fields")?;
-    let one_new = message(&rt, alloc, &[(64, 5), (65, 6)])?;
-    assert_eq!(rt; full.send(&one_new).err(), Some(SendFault::RecordFull));
-    assert_eq!(rt; full.seq(), 0);
-    assert!(rt; *full.held() == wide(&rt, alloc, 64)?);
-    let none_new = message(&rt, alloc, &[(64, 5)])?;
-    assert!(rt; full.send(&none_new)? == told(MsgKind::Update, 1, none_new));
-    let mut last = Publisher::new(alloc, 3, wide(&rt, alloc, 63)?)
-        .ok()
-        .ok_or("63 fields")?;
-    let last_new = message(&rt, alloc, &[(63, 5), (64, 6)])?;
-    assert_eq!(rt; last.send(&last_new).map(|msg| msg.seq), Ok(1));
-    assert_eq!(rt; last.held().len(), 64);
+fn a_base_of_65_fields_is_given_back(rt: HostRuntime) -> Result<(), Fail> {
+    let base = wide(&rt, rt.alloc(), 65)?;
+    let back = Publisher::new(rt.alloc(), 3, base)
+        .err()
+        .expect(&rt, "the base");
+    assert_eq!(rt; back.len(), 65);
     Ok(())
 }
 
 #[test]
-fn answers_by_the_record_so_far(rt: HostRuntime) -> Result<(), Fail> {
-    let alloc = rt.alloc();
-    let mut publisher = Publisher::new(alloc, 3, message(&rt, alloc, &[(22, 100)])?)
-        .ok()
-        .ok_or("a base")?;
-    let mut out = Outbox::new(alloc);
+fn a_record_of_64_fields_refuses_a_new_key(rt: HostRuntime) -> Result<(), Fail> {
+    let base = wide(&rt, rt.alloc(), 64)?;
+    let mut full = publisher(&rt, rt.alloc(), base);
+    let update = message(&rt, rt.alloc(), &[(64, 5), (65, 6)])?;
+    let fault = full.send(&update).err();
+    assert_eq!(rt; fault, Some(SendFault::RecordFull));
+    assert_eq!(rt; full.seq(), 0);
+    let before = wide(&rt, rt.alloc(), 64)?;
+    assert!(rt; *full.held() == before);
+    Ok(())
+}
+
+#[test]
+fn a_record_of_64_fields_takes_a_key_that_it_has(rt: HostRuntime) -> Result<(), Fail> {
+    let base = wide(&rt, rt.alloc(), 64)?;
+    let mut full = publisher(&rt, rt.alloc(), base);
+    let update = message(&rt, rt.alloc(), &[(64, 5)])?;
+    let sent = full.send(&update)?;
+    assert!(rt; sent == told(MsgKind::Update, 1, update));
+    Ok(())
+}
+
+#[test]
+fn a_record_of_63_fields_takes_one_more(rt: HostRuntime) -> Result<(), Fail> {
+    let base = wide(&rt, rt.alloc(), 63)?;
+    let mut almost = publisher(&rt, rt.alloc(), base);
+    let update = message(&rt, rt.alloc(), &[(63, 5), (64, 6)])?;
+    let sent = almost.send(&update)?;
+    assert_eq!(rt; sent.seq, 1);
+    assert_eq!(rt; almost.held().len(), 64);
+    Ok(())
+}
+
+#[test]
+fn a_want_is_answered_with_the_record_so_far(rt: HostRuntime) -> Result<(), Fail> {
+    let base = message(&rt, rt.alloc(), &[(22, 100)])?;
+    let mut publisher = publisher(&rt, rt.alloc(), base);
+    let update = message(&rt, rt.alloc(), &[(25, 103), (22, 101)])?;
+    let _sent = publisher.send(&update)?;
+    let mut out = Outbox::new(rt.alloc());
     let want = ToPublisher::Want {
         sub: SUB,
-        kind: MsgKind::Initial,
+        kind: MsgKind::Recap,
     };
-    assert_eq!(rt; publisher.take(want, &mut out), Ok(Took::Running));
-    let first = told(MsgKind::Initial, 0, message(&rt, alloc, &[(22, 100)])?);
-    assert!(rt; image(&rt, &mut out) == Some((SUB, first)));
-    publisher.send(&message(&rt, alloc, &[(22, 101)])?)?;
-    publisher.send(&message(&rt, alloc, &[(30, 1), (25, 103)])?)?;
-    let record = [(22, 101), (30, 1), (25, 103)];
-    let recap = told(MsgKind::Recap, 2, message(&rt, alloc, &record)?);
+    let took = publisher.take(want, &mut out);
+    assert_eq!(rt; took, Ok(Took::Running));
+    let record = message(&rt, rt.alloc(), &[(22, 101), (25, 103)])?;
+    let recap = told(MsgKind::Recap, 1, record);
     assert!(rt; publisher.image(MsgKind::Recap)? == recap);
-    let fids = Fids::new(&[7, 22, 25, 30]).ok_or("four fids")?;
+    assert!(rt; image(&mut out) == Some(recap));
+    Ok(())
+}
+
+#[test]
+fn a_question_is_answered_in_the_order_asked(rt: HostRuntime) -> Result<(), Fail> {
+    let base = message(&rt, rt.alloc(), &[(30, 1), (22, 100), (25, 103)])?;
+    let mut publisher = publisher(&rt, rt.alloc(), base);
+    let mut out = Outbox::new(rt.alloc());
+    let fids = Fids::new(&[7, 22, 30]).ok_or("three fids")?;
     let ask = ToPublisher::Ask { inbox: INBOX, fids };
-    assert_eq!(rt; publisher.take(ask, &mut out), Ok(Took::Running));
-    let asked = message(&rt, alloc, &[(22, 101), (25, 103), (30, 1)])?;
-    let replied = match out.take_first() {
-        Some(ToBridge::Reply { inbox, body }) => inbox == INBOX && body == asked,
-        _ => false,
-    };
-    assert!(rt; replied);
-    assert_eq!(rt;
-        publisher.take(ToPublisher::Settle, &mut out),
-        Ok(Took::Running)
-    );
+    let took = publisher.take(ask, &mut out);
+    assert_eq!(rt; took, Ok(Took::Running));
+    let asked = message(&rt, rt.alloc(), &[(22, 100), (30, 1)])?;
+    assert!(rt; reply(&mut out) == Some(asked));
+    Ok(())
+}
+
+#[test]
+fn it_settles_and_ends(rt: HostRuntime) -> Result<(), Fail> {
+    let mut publisher = publisher(&rt, rt.alloc(), Msg::new(rt.alloc()));
+    let mut out: Outbox<ToBridge<ObjectId>> = Outbox::new(rt.alloc());
+    let settled = publisher.take(ToPublisher::Settle, &mut out);
+    assert_eq!(rt; settled, Ok(Took::Running));
     assert!(rt; matches!(out.take_first(), Some(ToBridge::Settled)));
-    assert_eq!(rt; publisher.take(ToPublisher::Fin, &mut out), Ok(Took::Ended));
-    assert!(rt; out.take_first().is_none());
-    assert_eq!(rt; publisher.seq(), 2);
+    let ended = publisher.take(ToPublisher::Fin, &mut out);
+    assert_eq!(rt; ended, Ok(Took::Ended));
+    assert!(rt; out.is_empty());
     Ok(())
 }

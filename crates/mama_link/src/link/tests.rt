@@ -1,5 +1,6 @@
 use super::*;
 use crate::faults::{Fault, FaultRow};
+use std::process::Abort;
 use std::test::Fail;
 
 const LOSE: Fault = Fault::Lose;
@@ -13,19 +14,24 @@ fn row(index: u32, fault: Fault) -> FaultRow {
 }
 
 /// What comes out of a link of these rows into which the numbers from 1 to `count` go before its end.
-fn through(rt: &HostRuntime, rows: &[FaultRow], count: u32) -> Result<Vec<u32>, Fail> {
-    let faults = Faults::new(rt.alloc(), rows.to_vec(rt.alloc())?)?;
-    let mut link = Link::new(rt.alloc(), faults);
-    let mut out = Outbox::new(rt.alloc());
+fn through(
+    rt: &impl Abort,
+    alloc: Global,
+    rows: &[FaultRow],
+    count: u32,
+) -> Result<Vec<u32>, Fail> {
+    let faults = Faults::new(alloc, rows.to_vec(alloc)?)?;
+    let mut link = Link::new(alloc, faults);
+    let mut out = Outbox::new(alloc);
     for number in 1..=count {
         assert!(rt; link.pass(number, &mut out).is_ok());
     }
     assert!(rt; link.finish(&mut out).is_ok());
-    drained(rt, &mut out)
+    drained(rt, alloc, &mut out)
 }
 
-fn drained(rt: &HostRuntime, out: &mut Outbox<u32>) -> Result<Vec<u32>, Fail> {
-    let mut items = Vec::new(rt.alloc());
+fn drained(rt: &impl Abort, alloc: Global, out: &mut Outbox<u32>) -> Result<Vec<u32>, Fail> {
+    let mut items = Vec::new(alloc);
     for _ in 0..out.len() {
         if let Some(item) = out.take_first() {
             items.push(item)?;
@@ -53,7 +59,7 @@ fn passes_in_order_but_for_its_rows(rt: HostRuntime) -> Result<(), Fail> {
         ),
     ];
     for (rows, want) in cases {
-        assert_eq!(rt; through(&rt, rows, 3)?.as_slice(), want);
+        assert_eq!(rt; through(&rt, rt.alloc(), rows, 3)?.as_slice(), want);
     }
     Ok(())
 }
@@ -84,7 +90,7 @@ fn puts_held_messages_after_the_own_output_of_their_place(rt: HostRuntime) -> Re
         ),
     ];
     for (rows, want) in cases {
-        assert_eq!(rt; through(&rt, rows, 3)?.as_slice(), want);
+        assert_eq!(rt; through(&rt, rt.alloc(), rows, 3)?.as_slice(), want);
     }
     Ok(())
 }
@@ -103,7 +109,7 @@ fn passes_what_was_prepared(rt: HostRuntime) -> Result<(), Fail> {
         assert_eq!(rt; link.held(), held);
     }
     assert_eq!(rt;
-        drained(&rt, &mut out)?.as_slice(),
+        drained(&rt, rt.alloc(), &mut out)?.as_slice(),
         [3, 3, 1, 2, 4].as_slice()
     );
     Ok(())
@@ -125,7 +131,7 @@ fn passes_many_messages_by_many_rows(rt: HostRuntime) -> Result<(), Fail> {
         }
     }
     assert!(rt; link.finish(&mut out).is_ok());
-    for item in drained(&rt, &mut out)? {
+    for item in drained(&rt, rt.alloc(), &mut out)? {
         came = came.wrapping_add(u64::from(item));
     }
     assert_eq!(rt; came, 5_000_050_000);

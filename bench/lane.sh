@@ -1,0 +1,250 @@
+#!/bin/sh
+# Events per second over a lane, beside the same program over the plain queue that a lane is built on: one putter and
+# one taker, and two putters and one taker, each in a thread of its own. Both are run three times, in one process.
+#
+# Usage: bench/lane.sh [EVENTS]   (how many events each putter puts; 1000000 if left out)
+#
+# The program is written into a scratch folder, proved there over the crates of this repository, and run.
+set -eu
+events=${1:-1000000}
+top=$(cd "$(dirname "$0")/.." && pwd)
+scratch=$(mktemp -d)
+trap 'rm -rf "$scratch"' EXIT
+cp "$top/HANDLES" "$scratch/"
+mkdir "$scratch/crates"
+: > "$scratch/crates.txt"
+for name in mama_memory mama_journal mama_msg mama_link mama_event mama_lane; do
+    mkdir "$scratch/crates/$name"
+    (cd "$top/crates/$name" && tar cf - --exclude=./out .) | (cd "$scratch/crates/$name" && tar xf -)
+    grep -E "^$name[ :]" "$top/crates.txt" >> "$scratch/crates.txt"
+done
+echo 'lane_bench may_wait=7: mama_event mama_lane crossbeam_queue anyhow' >> "$scratch/crates.txt"
+bench=$scratch/crates/lane_bench
+mkdir -p "$bench/src" "$bench/specs" "$bench/proofs"
+: > "$bench/specs/Lib.antt"
+: > "$bench/proofs/Lib.antt"
+sed "s/EVENTS_OF_EACH_PUTTER/$events/" > "$bench/src/main.rt" <<'PROGRAM'
+//! Events per second over a lane, and over the plain queue below it.
+#![tactic(auto)]
+
+ghost use Rattle.std.specs.Prelude.{◌≡◌};
+ghost use Rattle.mama_lane.specs.Values.{new_port};
+
+use crossbeam_queue::SegQueue;
+use mama_event::{Bounds, OutOfMemory, Stream};
+use mama_lane::{Lane, Port, Taker, open_lane};
+use std::sync::Wait;
+use std::thread;
+use std::thread::Threads;
+use std::time::{Duration, Instant};
+
+const EVENTS: u64 = EVENTS_OF_EACH_PUTTER;
+
+// An event that may stand anywhere.
+#[derive(Clone, Copy)]
+struct Tick(u64);
+
+impl Stream for Tick {
+    ghost use Rattle.std.specs.Prelude.{false, true};
+    ghost use Rattle.std.proofs.lemmas.Bool.{false≢true};
+
+    type Note = u64;
+
+    ghost noted = { λ tick. tick.0 };
+
+    ghost last = { λ _. false };
+
+    ghost lawful = { λ _ _ _. Unit {0} };
+
+    fn note(&self) -> Result<u64, OutOfMemory> {
+        Ok(self.0)
+    }
+
+    fn is_last(&self) -> bool {
+        false
+    }
+
+    ghost lawful_start = { λ _ _. tt };
+
+    ghost lawful_prefix = { λ _ _ _ _ _. tt };
+
+    ghost lawful_end = { λ _ _ _ _ _ _ h. absurd (false≢true h) };
+}
+
+fn put_on_lane<R: Wait + Copy>(rt: R, lane: &Lane<Tick>, mut port: Port<Tick>) -> bool
+    requires { port.lane ≡ lane.now.id }
+{
+    for number in 0..EVENTS {
+        if port.put(rt, lane, Tick(number)).is_err() {
+            return false;
+        }
+    }
+    true
+}
+
+fn take_from_lane<R: Wait + Copy>(
+    rt: R,
+    lane: &Lane<Tick>,
+    mut taker: Taker<Tick>,
+    count: u64,
+) -> u64
+    requires { taker.lane ≡ lane.now.id }
+{
+    let mut sum = 0u64;
+    for _ in 0..count {
+        for _ in rt.forever() {
+            match taker.take(rt, lane) {
+                Some((_, Tick(number))) => {
+                    sum = sum.wrapping_add(number);
+                    break;
+                }
+                None => thread::yield_now(),
+            }
+        }
+    }
+    sum
+}
+
+fn push_on_queue<R: Wait + Copy>(rt: R, queue: &SegQueue<(u32, Tick)>) -> bool {
+    for number in 0..EVENTS {
+        if queue.push(&rt, (0, Tick(number))).is_err() {
+            return false;
+        }
+    }
+    true
+}
+
+fn pop_from_queue<R: Wait + Copy>(rt: R, queue: &SegQueue<(u32, Tick)>, count: u64) -> u64 {
+    let mut sum = 0u64;
+    for _ in 0..count {
+        for _ in rt.forever() {
+            match queue.pop(&rt) {
+                Some((_, Tick(number))) => {
+                    sum = sum.wrapping_add(number);
+                    break;
+                }
+                None => thread::yield_now(),
+            }
+        }
+    }
+    sum
+}
+
+fn one_on_lane<R: Threads + Wait + Copy + Sync + Send>(
+    rt: R,
+    lane: &Lane<Tick>,
+    port: Port<Tick>,
+    taker: Taker<Tick>,
+    count: u64,
+) -> u64
+    requires { (port.lane ≡ lane.now.id) × (taker.lane ≡ lane.now.id) }
+{
+    thread::join(
+        &rt,
+        move || -> bool
+            requires { port.lane ≡ lane.now.id }
+        { put_on_lane(rt, lane, port) },
+        move || -> u64
+            requires { taker.lane ≡ lane.now.id }
+        { take_from_lane(rt, lane, taker, count) },
+    )
+    .1
+}
+
+fn two_on_lane<R: Threads + Wait + Copy + Sync + Send>(
+    rt: R,
+    lane: &Lane<Tick>,
+    port: Port<Tick>,
+    other: Port<Tick>,
+    taker: Taker<Tick>,
+    count: u64,
+) -> u64
+    requires { (port.lane ≡ lane.now.id) × (other.lane ≡ lane.now.id) × (taker.lane ≡ lane.now.id) }
+{
+    thread::join(
+        &rt,
+        move || -> bool
+            requires { other.lane ≡ lane.now.id }
+        { put_on_lane(rt, lane, other) },
+        move || -> u64
+            requires { (port.lane ≡ lane.now.id) × (taker.lane ≡ lane.now.id) }
+        { one_on_lane(rt, lane, port, taker, count) },
+    )
+    .1
+}
+
+fn one_on_queue<R: Threads + Wait + Copy + Sync + Send>(
+    rt: R,
+    queue: &SegQueue<(u32, Tick)>,
+    count: u64,
+) -> u64 {
+    thread::join(
+        &rt,
+        move || push_on_queue(rt, queue),
+        move || pop_from_queue(rt, queue, count),
+    )
+    .1
+}
+
+fn two_on_queue<R: Threads + Wait + Copy + Sync + Send>(
+    rt: R,
+    queue: &SegQueue<(u32, Tick)>,
+    count: u64,
+) -> u64 {
+    thread::join(
+        &rt,
+        move || push_on_queue(rt, queue),
+        move || one_on_queue(rt, queue, count),
+    )
+    .1
+}
+
+// Events per second.
+fn rate(count: u64, took: Duration) -> u128 {
+    count as u128 * 1_000_000 / took.as_micros().max(1)
+}
+
+fn report(
+    rt: &HostRuntime,
+    name: &str,
+    count: u64,
+    lane: Duration,
+    queue: Duration,
+) -> anyhow::Result<()> {
+    println!(rt; "{name}: {} events; lane {} a second, plain queue {} a second", count, rate(count, lane), rate(count, queue))?;
+    Ok(())
+}
+
+fn main(rt: HostRuntime) -> anyhow::Result<()> {
+    let bounds = Bounds {
+        topics: 0,
+        queues: 0,
+    };
+    for _ in 0..3 {
+        let (lane, mut ports, taker) = open_lane::<Tick, HostRuntime>(rt, rt.alloc(), 1, bounds)?;
+        let start = Instant::now(&rt)?;
+        let sum = one_on_lane(rt, &lane, ports.remove(0), taker, EVENTS);
+        let on_lane = start.elapsed(&rt)?;
+        let queue = SegQueue::new(rt.alloc())?;
+        let start = Instant::now(&rt)?;
+        let same = one_on_queue(rt, &queue, EVENTS);
+        let on_queue = start.elapsed(&rt)?;
+        assert_eq!(rt; sum, same);
+        report(&rt, "one putter ", EVENTS, on_lane, on_queue)?;
+        let (lane, mut ports, taker) = open_lane::<Tick, HostRuntime>(rt, rt.alloc(), 2, bounds)?;
+        let other = ports.remove(1);
+        let start = Instant::now(&rt)?;
+        let sum = two_on_lane(rt, &lane, ports.remove(0), other, taker, 2 * EVENTS);
+        let on_lane = start.elapsed(&rt)?;
+        let queue = SegQueue::new(rt.alloc())?;
+        let start = Instant::now(&rt)?;
+        let same = two_on_queue(rt, &queue, 2 * EVENTS);
+        let on_queue = start.elapsed(&rt)?;
+        assert_eq!(rt; sum, same);
+        report(&rt, "two putters", 2 * EVENTS, on_lane, on_queue)?;
+    }
+    Ok(())
+}
+PROGRAM
+cd "$bench"
+rt run
