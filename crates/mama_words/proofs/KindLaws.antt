@@ -7,7 +7,7 @@ use Rattle.mama_event.specs.declared.market.SubKind.TheVariants.{Market, Snapsho
 use Rattle.mama_event.specs.declared.market.MsgKind.{MsgKind}
 use Rattle.mama_event.specs.declared.market.MsgKind.TheVariants.{Initial, Update, Recap}
 use Rattle.mama_event.specs.declared.market.Quality.{Quality}
-use Rattle.mama_event.specs.declared.market.Quality.TheVariants.{Ok as IsOk, Stale}
+use Rattle.mama_event.specs.declared.market.Quality.TheVariants.{Ok as Good, Stale}
 use Rattle.mama_words.specs.declared.value_type.ValueType.{ValueType}
 use Rattle.mama_words.specs.declared.value_type.ValueType.TheVariants as types
 use Rattle.mama_words.specs.declared.order.OrderKind.{OrderKind}
@@ -45,11 +45,11 @@ pub msg_kind_found : (word : List ℕ) (k : MsgKind) → msg_kind_in word ≡ So
 msg_kind_found word k = one_of msg_kind_text word Initial k _ (one_of msg_kind_text word Update k _ (one_of msg_kind_text word Recap k _ (none_of msg_kind_text word k)))
 
 pub quality_again : (q : Quality) → quality_in (quality_text q) ≡ Some q
-quality_again IsOk = refl
+quality_again Good = refl
 quality_again Stale = refl
 
 pub quality_found : (word : List ℕ) (q : Quality) → quality_in word ≡ Some q → word ≡ quality_text q
-quality_found word q = one_of quality_text word IsOk q _ (one_of quality_text word Stale q _ (none_of quality_text word q))
+quality_found word q = one_of quality_text word Good q _ (one_of quality_text word Stale q _ (none_of quality_text word q))
 
 pub order_kind_again : (k : OrderKind) → order_kind_in (order_kind_text k) ≡ Some k
 unfolding order_kind_in

@@ -16,7 +16,7 @@ use Rattle.mama_event.specs.declared.market.SubKind.TheVariants.{Market, Snapsho
 use Rattle.mama_event.specs.declared.market.MsgKind.{MsgKind}
 use Rattle.mama_event.specs.declared.market.MsgKind.TheVariants.{Initial, Update, Recap}
 use Rattle.mama_event.specs.declared.market.Quality.{Quality}
-use Rattle.mama_event.specs.declared.market.Quality.TheVariants.{Ok as IsOk, Stale}
+use Rattle.mama_event.specs.declared.market.Quality.TheVariants.{Ok as Good, Stale}
 use Rattle.mama_event.specs.FidList.{is_fid_list}
 use Rattle.mama_msg.specs.Name.{is_name_byte, IsNameText}
 use Rattle.mama_msg.specs.Field.{FieldData}
@@ -83,7 +83,7 @@ msg_kind_word Update = fixed_word _ _ refl
 msg_kind_word Recap = fixed_word _ _ refl
 
 pub quality_word : (q : Quality) → IsWord (quality_text q)
-quality_word IsOk = fixed_word _ _ refl
+quality_word Good = fixed_word _ _ refl
 quality_word Stale = fixed_word _ _ refl
 
 -- ---- quoted texts

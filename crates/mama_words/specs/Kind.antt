@@ -6,7 +6,7 @@ use Rattle.mama_event.specs.declared.market.SubKind.TheVariants.{Market, Snapsho
 use Rattle.mama_event.specs.declared.market.MsgKind.{MsgKind}
 use Rattle.mama_event.specs.declared.market.MsgKind.TheVariants.{Initial, Update, Recap}
 use Rattle.mama_event.specs.declared.market.Quality.{Quality}
-use Rattle.mama_event.specs.declared.market.Quality.TheVariants.{Ok as IsOk, Stale}
+use Rattle.mama_event.specs.declared.market.Quality.TheVariants.{Ok as Good, Stale}
 
 abbrev pub sub_kind_text : SubKind → List ℕ
 sub_kind_text Market = codes "market"
@@ -31,10 +31,10 @@ msg_kind_in word =
     else (if bytes_eq word (codes "recap") then Some Recap else None))
 
 abbrev pub quality_text : Quality → List ℕ
-quality_text IsOk = codes "ok"
+quality_text Good = codes "ok"
 quality_text Stale = codes "stale"
 
 abbrev pub quality_in : List ℕ → Option Quality
 quality_in word =
-    if bytes_eq word (codes "ok") then Some IsOk
+    if bytes_eq word (codes "ok") then Some Good
     else (if bytes_eq word (codes "stale") then Some Stale else None)
