@@ -1,4 +1,4 @@
-ghost use Rattle.std.specs.Prelude.{◌≡◌, ◌≢◌, ◌+◌, ◌<◌, ◌↔◌, [], Some, None, Bool, true, false, map, take, length, string_bytes, IfOk, IfSome};
+ghost use Rattle.std.specs.Prelude.{List, ℕ, ⊤, ◌≡◌, ◌≢◌, ◌+◌, ◌<◌, ◌↔◌, [], Some, None, Bool, true, false, map, take, length, string_bytes, IfOk, IfSome};
 ghost use Rattle.mama_edge.specs.Count.{Rose};
 ghost use Rattle.mama_edge.specs.Told.{Appended, Lost};
 ghost use Rattle.mama_run.specs.Command.{is_serial};
