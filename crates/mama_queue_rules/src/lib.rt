@@ -1,0 +1,2 @@
+//! The rules of a queue, as functions of its journal.
+#![tactic(auto)]
