@@ -1,5 +1,5 @@
--- A queue's rules, as functions of its journal and of the plans of its listeners: which callbacks are made, what mutes
--- an object, and what each entry puts.
+-- A queue's rules, as functions of its journal and of the orders that listeners give: which callbacks are made, what
+-- mutes an object, and what each entry puts. orders o k is what the listener of o orders in its k-th callback.
 use Rattle.std.specs.Prelude.{ℕ, zero, suc, ◌+◌, Bool, true, false, not, ◌&&◌, ◌||◌, ◌==◌, List, [], ◌∷◌, ◌++◌, length, map, filter, Option, None, Some, if◌then◌else◌}
 use Rattle.std.specs.List.{list_any, flat_map, filter_map}
 use Rattle.mama_msg.specs.Field.{FieldData}
@@ -94,13 +94,13 @@ is_muted o deeds = is_muted_after o false deeds
 abbrev pub planned : List PlanRow → ℕ → List Order
 planned plan call = map (λ r. r.order) (filter (λ r. r.call == call) plan)
 
--- Callbacks of one object made one by one: a muted object gets none but on_destroy. Each is given the orders that the
--- plan has for its number, which counts from 1 with on_create.
-abbrev pub made : (ObjectId → List PlanRow) → ObjectId → List Deed → List Callback → List Deed
-made plans o sofar [] = []
-made plans o sofar (c ∷ cs) =
-    if is_muted o sofar && not (is_destroy c) then made plans o sofar cs
-    else (let deed = called o c (planned (plans o) (length (calls_of o sofar) + 1)) in deed ∷ made plans o (sofar ++ deed ∷ []) cs)
+-- Callbacks of one object made one by one: a muted object gets none but on_destroy. In each the listener gives the
+-- orders for its number, which counts from 1 with on_create.
+abbrev pub made : (ObjectId → ℕ → List Order) → ObjectId → List Deed → List Callback → List Deed
+made orders o sofar [] = []
+made orders o sofar (c ∷ cs) =
+    if is_muted o sofar && not (is_destroy c) then made orders o sofar cs
+    else (let deed = called o c (orders o (length (calls_of o sofar) + 1)) in deed ∷ made orders o (sofar ++ deed ∷ []) cs)
 
 -- how a Create makes an object
 abbrev pub make_in : ObjectId → QueueNote → Option Make
@@ -113,24 +113,24 @@ context_of (Some (make.Sub kind cache)) messages = fold kind cache messages
 context_of _ messages = fold Basic 0 messages
 
 -- what an entry does: its candidates, of which those are made that are not muted
-abbrev pub served : (ObjectId → List PlanRow) → List (ℕ × QueueNote) → List Deed → QueueNote → List Deed
-served plans before sofar (q.Create slot object make tag) = made plans object sofar (on.Create ∷ [])
-served plans before sofar (q.Deliver slot sub msg) =
+abbrev pub served : (ObjectId → ℕ → List Order) → List (ℕ × QueueNote) → List Deed → QueueNote → List Deed
+served orders before sofar (q.Create slot object make tag) = made orders object sofar (on.Create ∷ [])
+served orders before sofar (q.Deliver slot sub msg) =
     if is_muted (Sub sub) sofar then []
-    else handled sub msg ∷ made plans (Sub sub) (sofar ++ handled sub msg ∷ [])
+    else handled sub msg ∷ made orders (Sub sub) (sofar ++ handled sub msg ∷ [])
     (callbacks_of (context_of (first_said (λ e. make_in (Sub sub) e.1) before) (messages_of sub sofar)) msg)
-served plans before sofar (q.Reply slot inbox body) = made plans (Inbox inbox) sofar (on.Reply body ∷ [])
-served plans before sofar (q.Tick slot timer moment) = made plans (Timer timer) sofar (on.Tick moment ∷ [])
-served plans before sofar (q.Gone slot object) = made plans object sofar (on.Destroy ∷ [])
-served plans before sofar q.Fin = []
+served orders before sofar (q.Reply slot inbox body) = made orders (Inbox inbox) sofar (on.Reply body ∷ [])
+served orders before sofar (q.Tick slot timer moment) = made orders (Timer timer) sofar (on.Tick moment ∷ [])
+served orders before sofar (q.Gone slot object) = made orders object sofar (on.Destroy ∷ [])
+served orders before sofar q.Fin = []
 
 -- the deeds of a whole journal
-abbrev pub deeds : (ObjectId → List PlanRow) → List (ℕ × QueueNote) → List Deed
-deeds plans journal = all_puts (λ before sofar e. served plans before sofar e.1) journal
+abbrev pub deeds : (ObjectId → ℕ → List Order) → List (ℕ × QueueNote) → List Deed
+deeds orders journal = all_puts (λ before sofar e. served orders before sofar e.1) journal
 
 -- the deeds of one entry, given the journal before it
-abbrev pub deeds_at : (ObjectId → List PlanRow) → List (ℕ × QueueNote) → ℕ × QueueNote → List Deed
-deeds_at plans before e = served plans before (deeds plans before) e.1
+abbrev pub deeds_at : (ObjectId → ℕ → List Order) → List (ℕ × QueueNote) → ℕ × QueueNote → List Deed
+deeds_at orders before e = served orders before (deeds orders before) e.1
 
 -- WHAT A QUEUE PUTS
 
@@ -166,5 +166,5 @@ abbrev pub bye_put : List (ℕ × QueueNote) → ℕ × QueueNote → List Queue
 bye_put before e = if is_fin e && count_of is_fin before == 1 then to_bridge b.Bye ∷ to_timers t.Bye ∷ [] else []
 
 -- what a queue puts at an entry, given its journal before it
-abbrev pub queue_puts_at : (ObjectId → List PlanRow) → List (ℕ × QueueNote) → ℕ × QueueNote → List QueuePut
-queue_puts_at plans before e = flat_map puts_of (deeds_at plans before e) ++ bye_put before e
+abbrev pub queue_puts_at : (ObjectId → ℕ → List Order) → List (ℕ × QueueNote) → ℕ × QueueNote → List QueuePut
+queue_puts_at orders before e = flat_map puts_of (deeds_at orders before e) ++ bye_put before e

@@ -29,7 +29,7 @@ use Rattle.mama_event.specs.Publisher as send
 use Rattle.mama_rounds.specs.Client.{Planned, client_steps, client_objects}
 use Rattle.mama_script.specs.declared.publisher.PublisherPart.{PublisherPart}
 use Rattle.mama_script.specs.Script.{ScriptData}
-use Rattle.mama_rounds.specs.World.{Setting, World, AreRounds, plan_of}
+use Rattle.mama_rounds.specs.World.{Setting, World, AreRounds, orders_by}
 use Rattle.mama_record.specs.RunData.{RunData, ObjectCalls, LastImage}
 
 -- what a line sends
@@ -124,7 +124,7 @@ noted c = record { call = c.0; orders = c.1 }
 abbrev pub object_calls : Setting → List (List (ℕ × QueueNote)) → Planned → ObjectCalls
 object_calls setting queues p = record {
   object = p.object;
-  calls = map noted (calls_of p.object (deeds (plan_of setting) (slice_index_or queues p.queue [])));
+  calls = map noted (calls_of p.object (deeds (orders_by setting) (slice_index_or queues p.queue [])));
 }
 
 -- the image in a context, if it has one
@@ -145,7 +145,7 @@ abbrev pub last_image : Setting → List (List (ℕ × QueueNote)) → Planned �
 last_image setting queues p = of_object p.object
   where
     of_sub : SubId → List (ℕ × QueueNote) → List LastImage
-    of_sub s journal = image_in s (context_of (first_said (λ e. make_in (Sub s) e.1) journal) (messages_of s (deeds (plan_of setting) journal)))
+    of_sub s journal = image_in s (context_of (first_said (λ e. make_in (Sub s) e.1) journal) (messages_of s (deeds (orders_by setting) journal)))
 
     of_object : ObjectId → List LastImage
     of_object (Sub s) = of_sub s (slice_index_or queues p.queue [])

@@ -16,7 +16,8 @@ use Rattle.mama_rules.specs.Bridge.{BridgePut, to_publisher, to_queue, bridge_pu
 use Rattle.mama_rules.specs.Bridge as bridge
 use Rattle.mama_rules.specs.Timers.{timers_puts_at}
 use Rattle.mama_event.specs.Object.{same_object}
-use Rattle.mama_queue_rules.specs.Queue.{QueuePut, queue_puts_at}
+use Rattle.mama_event.specs.declared.order.Order.{Order}
+use Rattle.mama_queue_rules.specs.Queue.{QueuePut, queue_puts_at, planned}
 use Rattle.mama_event.specs.declared.publisher_entry.PublisherEntry.{PublisherEntry}
 use Rattle.mama_event.specs.declared.publisher_entry.PublisherEntry.TheVariants.{Took}
 use Rattle.mama_event.specs.Publisher.{PublisherScript, publisher_puts_at}
@@ -41,6 +42,10 @@ rows_of (Some rows) = rows
 -- the plan of an object
 abbrev pub plan_of : Setting → ObjectId → List PlanRow
 plan_of setting o = rows_of (first_said (plan_in o) setting.objects)
+
+-- what the listener of an object orders in its callback of this number
+abbrev pub orders_by : Setting → ObjectId → ℕ → List Order
+orders_by setting o call = planned (plan_of setting o) call
 
 -- the steps that each client and publisher has still to make, the journals, and the lanes
 pub record World : Type 0 where
@@ -116,7 +121,7 @@ abbrev pub queue_did : Setting → ℕ → World → ℕ × QueueNote → World
 queue_did setting q w e =
     let journal = slice_index_or w.queues q [] in
     with_puts (bridge_port_of_queue setting.shape q) (timers_port_of_queue setting.shape q)
-    (queue_puts_at (plan_of setting) journal e)
+    (queue_puts_at (orders_by setting) journal e)
     (record w { queues = slice_set w.queues q (journal ++ e ∷ []) })
 
 -- TURNS: an actor takes the first event of its lane, if there is one
