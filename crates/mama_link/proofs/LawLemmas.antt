@@ -1,19 +1,19 @@
 -- What comes out of a link in all, by induction over one message more.
-use Rattle.std.proofs.Common.{◌≡◌, ◌≢◌, ℕ, ◌+◌, ◌*◌, ◌<◌, ◌≤◌, ◌==◌, Bool, true, false, not, cond, List, [], ◌∷◌, ◌++◌, length, map, filter, Option, None, Some, refl, sym, ◌∙◌, ap, arith, append-nil, append_assoc, length-append, subst, suc, zero, add-one, add-zero, option_to_list}
+use Rattle.std.proofs.Common.{◌≡◌, ◌≢◌, ℕ, ◌+◌, ◌*◌, ◌<◌, ◌≤◌, ◌==◌, Bool, false, not, cond, List, [], ◌∷◌, ◌++◌, length, filter, Option, None, Some, refl, sym, ◌∙◌, ap, arith, append-nil, append_assoc, length-append, subst, suc, zero, add-one, add-zero, option_to_list}
 use Rattle.std.specs.Prelude.{count_by}
-use Rattle.std.specs.List.{flat_map, range_with_len, enumerate_from, sum_by}
+use Rattle.std.specs.List.{flat_map, range_with_len, enumerate_from}
 use Rattle.std.specs.List.Sorted.{IsPermutation}
 use Rattle.std.proofs.lemmas.Bool.Decides.{nat_tests}
 use Rattle.std.proofs.lemmas.Grind.{flat_map-append}
 use Rattle.std.proofs.lemmas.List.{map-append}
 use Rattle.std.proofs.lemmas.List.Elements.{filter-append}
 use Rattle.std.proofs.lemmas.List.Sums.{sum_by-cons, sum_by-append}
-use Rattle.std.proofs.lemmas.List.Sorted.{IsPermutation-refl, IsPermutation-trans, IsPermutation-append, IsPermutation-append_left, IsPermutation-append_right, IsPermutation-append_comm, IsPermutation-map, IsPermutation-filter_both, sum_by-IsPermutation}
+use Rattle.std.proofs.lemmas.List.Sorted.{IsPermutation-refl, IsPermutation-trans, IsPermutation-append_left, IsPermutation-append_right, IsPermutation-append_comm, IsPermutation-map, IsPermutation-filter_both, sum_by-IsPermutation}
 use Rattle.mama_link.specs.declared.faults.Fault.{Fault}
 use Rattle.mama_link.specs.declared.faults.Fault.TheVariants.{Lose, Dup, Hold}
 use Rattle.mama_link.specs.declared.faults.FaultRow.{FaultRow}
 use Rattle.mama_link.specs.Faults.{fault_at, first_fault}
-use Rattle.mama_link.specs.Link.{is_held_until, is_due, is_held, own, copies, shares, shared, numbered, messages, emit, held, rest, through, Standing, standing_after, coming, held_back, at_place, standing_next}
+use Rattle.mama_link.specs.Link.{is_held_until, is_due, is_held, copies, shares, shared, numbered, messages, emit, held, through, standing_after, coming, held_back, at_place, standing_next}
 use Rattle.mama_link.specs.Laws.{PassesAll, SharesOut, LosesNone, LosesNothing, AtMostTwice}
 use Rattle.mama_link.proofs.LinkLemmas.{HoldsByMore, numbered-more, emit-next, held-next}
 use Rattle.mama_link.proofs.CursorLemmas.{holds_by_more}

@@ -1,14 +1,13 @@
 -- A link that stands for a list stands for the list with one message more once it passed that message, and puts out what that place emits.
-use Rattle.std.proofs.Common.{◌≡◌, ℕ, ◌+◌, ◌<◌, ◌≤◌, ◌==◌, nat_lt, Bool, true, false, not, ◌&&◌, cond, List, [], ◌∷◌, ◌++◌, length, map, filter, Option, None, Some, refl, sym, ◌∙◌, ap, arith, rules, append-nil, length-append, subst, eq-eqb}
+use Rattle.std.proofs.Common.{◌≡◌, ℕ, ◌+◌, ◌<◌, ◌≤◌, ◌==◌, nat_lt, Bool, true, false, not, ◌&&◌, cond, List, [], ◌∷◌, ◌++◌, length, filter, Option, None, Some, refl, sym, ◌∙◌, ap, arith, append-nil, length-append, subst, eq-eqb}
 use Rattle.std.proofs.lemmas.Bool.Decides.{nat_tests}
 use Rattle.std.proofs.lemmas.List.Elements.{filter-append}
-use Rattle.std.proofs.lemmas.List.{map-append}
 use Rattle.std.specs.List.{enumerate_from, flat_map}
 use Rattle.mama_link.specs.declared.faults.Fault.{Fault}
 use Rattle.mama_link.specs.declared.faults.Fault.TheVariants.{Lose, Dup, Hold}
 use Rattle.mama_link.specs.declared.faults.FaultRow.{FaultRow}
 use Rattle.mama_link.specs.Faults.{fault_at}
-use Rattle.mama_link.specs.Link.{is_held_until, is_held_after, is_due, is_held, own, copies, numbered, messages, emit, held, Standing, standing_after, StandsFor, coming, held_back, at_place, standing_next}
+use Rattle.mama_link.specs.Link.{is_held_until, is_held_after, is_due, is_held, own, copies, numbered, emit, held, Standing, standing_after, StandsFor, coming, held_back, at_place, standing_next}
 
 -- ---- lists
 

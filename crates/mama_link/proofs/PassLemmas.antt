@@ -1,7 +1,7 @@
 -- What a pass puts out and leaves, by the slots.
-use Rattle.std.proofs.Common.{◌≡◌, ℕ, ◌+◌, ◌<◌, ◌≤◌, Bool, true, false, not, List, [], ◌∷◌, ◌++◌, length, map, filter, Option, None, Some, is_some, refl, sym, ◌∙◌, ap, arith, rules, append-nil, length-append, subst, ◌-◌, get_or, if◌then◌else◌}
+use Rattle.std.proofs.Common.{◌≡◌, ℕ, ◌+◌, ◌<◌, ◌≤◌, Bool, not, List, [], ◌∷◌, ◌++◌, length, filter, Option, None, Some, is_some, refl, sym, ◌∙◌, ap, arith, append-nil, length-append, subst, ◌-◌, get_or, if◌then◌else◌}
 use Rattle.std.specs.Prelude.{option_to_list, IsSome, slice_get}
-use Rattle.std.specs.List.{AllByRecursion, flat_map}
+use Rattle.std.specs.List.{flat_map}
 use Rattle.std.proofs.lemmas.List.Elements.{recursion_from_All}
 use Rattle.std.proofs.lemmas.List.Filters.{length-filter_both}
 use Rattle.std.proofs.lemmas.List.{length-map}
@@ -9,9 +9,9 @@ use Rattle.mama_link.specs.declared.faults.Fault.{Fault}
 use Rattle.mama_link.specs.declared.faults.FaultRow.{FaultRow}
 use Rattle.mama_link.specs.Faults.{fault_at}
 use Rattle.mama_link.specs.Table.{IsTable, slots_due, table_of}
-use Rattle.mama_link.specs.Link.{is_due, messages, copies, held_back, at_place, coming, standing_next, Standing, StandsFor, emit, rest, LinkData}
+use Rattle.mama_link.specs.Link.{is_due, messages, copies, held_back, at_place, coming, Standing, StandsFor, emit, LinkData}
 use Rattle.mama_link.specs.Prepared.{Readied, IsPreparedFor}
-use Rattle.mama_link.specs.Slots.{no_entry, fault_here, held_in, due_in, without_due, found_at, taken_at, emptied_at, IsCaughtUp, IsKept}
+use Rattle.mama_link.specs.Slots.{no_entry, fault_here, held_in, without_due, found_at, taken_at, emptied_at, IsCaughtUp, IsKept}
 use Rattle.mama_link.proofs.SlotLemmas.{AreTold, held_in-push, due-held_in, kept-held_in, length-without_due, length-held_in, found_at-due, taken_at-due, emptied_at-due, messages-held_in}
 use Rattle.mama_link.proofs.CursorLemmas.{cursor_tells, is_next, caught_up-fault, caught_up-none, holds_by_more}
 use Rattle.mama_link.proofs.LinkLemmas.{stands-next, coming-is-emit}
@@ -212,9 +212,12 @@ pub length-slots : {T : Type 0} (table : List (ℕ × Fault)) (passed count : �
 length-slots table passed count slots kept =
     ap length (sym (messages-held_in table slots kept.caught_up.within)) ∙ length-map (held_in table slots) (λ (entry : ℕ × _). entry.1) ∙ sym kept.counted
 
--- they are what the link's end puts out
-pub slots-are-rest : {T : Type 0} (rows : List FaultRow) (passed count room : ℕ) (slots : List (Option T)) (link : LinkData T) → seen rows passed room slots ≡ link → IsKept (table_of rows) passed count slots →
-    (x : List T) → StandsFor x link.standing → flat_map option_to_list slots ≡ rest link.standing.rows x
-slots-are-rest {T} rows passed count room slots link is_seen kept x stands =
-    sym (messages-held_in (table_of rows) slots kept.caught_up.within)
-    ∙ ap (λ (l : LinkData T). messages l.standing.held) is_seen ∙ ap (λ (s : Standing T). messages s.held) stands
+-- they are the messages held, in order of number
+pub slots-are-held : {T : Type 0} (rows : List FaultRow) (passed count room : ℕ) (slots : List (Option T)) (link : LinkData T) → seen rows passed room slots ≡ link → IsKept (table_of rows) passed count slots →
+    flat_map option_to_list slots ≡ messages link.standing.held
+slots-are-held {T} rows passed count room slots link is_seen kept =
+    sym (messages-held_in (table_of rows) slots kept.caught_up.within) ∙ ap (λ (l : LinkData T). messages l.standing.held) is_seen
+
+-- as many as are held
+pub length-messages : {T : Type 0} (entries : List (ℕ × T)) → length (messages entries) ≡ length entries
+length-messages entries = length-map entries (λ (entry : ℕ × _). entry.1)

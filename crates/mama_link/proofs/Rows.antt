@@ -1,5 +1,5 @@
 -- Small links, worked out: the definitions compute to what a reader expects.
-use Rattle.std.proofs.Common.{◌≡◌, ℕ, List, [], ◌∷◌, refl}
+use Rattle.std.proofs.Common.{◌≡◌, ℕ, [], ◌∷◌, refl}
 use Rattle.mama_link.specs.declared.faults.Fault.{Fault}
 use Rattle.mama_link.specs.declared.faults.Fault.TheVariants.{Lose, Dup, Hold}
 use Rattle.mama_link.specs.declared.faults.FaultRow.{FaultRow}

@@ -1,5 +1,6 @@
-ghost use Rattle.std.specs.Prelude.{◌≡◌, ◌+◌, ◌<◌, ◌≤◌, ◌++◌, [], ◌∷◌, List, length, IsOk, IfOk, OnOk, IfErr, OnErr};
-ghost use Rattle.mama_link.specs.Link.{emit, rest, standing_after, StandsFor};
+ghost use Rattle.std.specs.Prelude.{◌≡◌, ◌+◌, ◌<◌, ◌≤◌, ◌++◌, [], ◌∷◌, List, length, IsOk, IfOk, OnOk, IfErr, OnErr, option_to_list};
+ghost use Rattle.std.specs.List.{flat_map};
+ghost use Rattle.mama_link.specs.Link.{emit, rest, messages, standing_after, StandsFor};
 ghost use Rattle.mama_link.specs.Prepared.{IsPreparedFor};
 
 use crate::faults::Faults;
@@ -128,6 +129,13 @@ impl<T: Duplicate> Link<T> {
         Ok(())
     }
 
+    /// What the end puts out: the messages still held, in order of number and not of dueness.
+    fn into_held(self) -> Vec<Option<T>>
+        ensures { flat_map option_to_list result.items ≡ messages self.standing.held }
+    {
+        self.slots
+    }
+
     /// Puts out the messages that are still held. Err is want of memory, and gives the link back.
     pub fn finish(self, out: &mut Outbox<T>) -> Result<(), Link<T>>
         ensures out { OnOk result ((x : List T) → StandsFor x self.standing → out.new.items ≡ out.old.items ++ rest self.standing.rows x) }
@@ -139,7 +147,7 @@ impl<T: Duplicate> Link<T> {
         if out.reserve(self.held).is_err() {
             return Err(self);
         }
-        put_all(self.slots, out);
+        put_all(self.into_held(), out);
         Ok(())
     }
 }

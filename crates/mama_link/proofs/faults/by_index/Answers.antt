@@ -1,7 +1,7 @@
-use Rattle.std.proofs.Common.{rules, ◌≡◌, None, Some, ℕ, ◌<◌, ◌∙◌, sym, ap, cond, is_some, take, length, get_or, arith}
+use Rattle.std.proofs.Common.{rules, ◌≡◌, None, Some, ◌<◌, ◌∙◌, sym, ap, cond, is_some, take, length, get_or, arith}
 use Rattle.std.specs.Ordering.{nat_cmp}
 use Rattle.std.specs.BTreeMap.{is_at}
-use Rattle.mama_link.specs.Faults.{fault_at, fault_of_row}
+use Rattle.mama_link.specs.Faults.{fault_of_row}
 use Rattle.mama_link.proofs.FaultLemmas.{no_row, first_fault-good, first_fault-bad, table_from-more, fault_at-more}
 use Rattle.mama_link.proofs.faults.by_index.Goals as goal
 

@@ -1,4 +1,4 @@
-use Rattle.std.proofs.Common.{◌≡◌, ◌∙◌}
+use Rattle.std.proofs.Common.{◌∙◌}
 use Rattle.mama_link.proofs.FaultLemmas.{slots_due-held, slots_due-other}
 use Rattle.mama_link.specs.Table.{slots_at}
 use Rattle.mama_link.proofs.faults.by_place.Goals as goal

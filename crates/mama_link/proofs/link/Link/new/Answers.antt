@@ -1,6 +1,5 @@
-use Rattle.std.proofs.Common.{◌≡◌, ◌∙◌, ℕ, List, Option, sym, ap, length}
+use Rattle.std.proofs.Common.{◌∙◌, sym, ap, length}
 use Rattle.mama_link.specs.Table.{table_of}
-use Rattle.mama_link.specs.Link.{Standing}
 use Rattle.mama_link.specs.Slots.{held_in}
 use Rattle.mama_link.proofs.SlotLemmas.{held_in-none}
 use Rattle.mama_link.proofs.CursorLemmas.{caught_up-start}
