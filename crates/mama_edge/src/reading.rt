@@ -35,7 +35,8 @@ const PIECE: usize = 4096;
 
 /// All bytes of a source, which is read up to the first read that gives none. It takes at most `limit + 1` bytes.
 ///
-/// After an error the bytes that were taken are gone, after want of memory too.
+/// Memory for `limit` bytes is taken before the first read, so after want of memory the source is as before. After any
+/// other error the bytes that were taken are gone.
 pub fn read_all<S: Source>(alloc: Global, source: &mut S, limit: usize) -> Result<Vec<u8>, ReadAll>
     // The bytes are all that were left, and none is left now.
     ensures whole { IfOk result (λ bytes. IfSome (S.left source.old) (λ left.
@@ -48,13 +49,14 @@ pub fn read_all<S: Source>(alloc: Global, source: &mut S, limit: usize) -> Resul
         Lost (S.left source.old) (S.left source.new) (limit + 1) }
     ensures partly { IsErrOf result ReadAll.ReadFault →
         LostAtMost (S.left source.old) (S.left source.new) limit }
-    ensures no_memory { IsErrOf result ReadAll.OutOfMemory →
-        LostAtMost (S.left source.old) (S.left source.new) limit }
+    ensures no_memory { IsErrOf result ReadAll.OutOfMemory → source.new ≡ source.old }
 
     ensures never_falls { S.faults source.old ≤ S.faults source.new }
 {
+    let Ok(mut bytes) = Vec::with_capacity(alloc, limit) else {
+        return Err(ReadAll::OutOfMemory);
+    };
     let mut piece = [0u8; PIECE];
-    let mut bytes = Vec::new(alloc);
     'pieces: loop {
         let room = limit - bytes.len();
         let most = room.min(PIECE - 1) + 1;
@@ -68,6 +70,7 @@ pub fn read_all<S: Source>(alloc: Global, source: &mut S, limit: usize) -> Resul
         if count > room {
             return Err(ReadAll::TooLong);
         }
+        // There is room.
         if bytes.extend_from_slice(&piece[..count]).is_err() {
             return Err(ReadAll::OutOfMemory);
         }

@@ -67,7 +67,15 @@ fn reads_to_the_end_or_to_a_fault(rt: HostRuntime) -> Result<(), Fail> {
     let cases = [
         (1, [].as_slice(), 10_000, None, 0),
         (10_000, [].as_slice(), 10_000, None, 0),
-        (7, [].as_slice(), usize::MAX, None, 0),
+        (7, [].as_slice(), 67_108_864, None, 0),
+        // there is never so much memory, and nothing was read
+        (
+            7,
+            [].as_slice(),
+            usize::MAX,
+            Some(ReadAll::OutOfMemory),
+            10_000,
+        ),
         (100, [].as_slice(), 9_999, Some(ReadAll::TooLong), 0),
         (100, [].as_slice(), 0, Some(ReadAll::TooLong), 9_999),
         (100, [].as_slice(), 250, Some(ReadAll::TooLong), 9_749),
@@ -117,8 +125,9 @@ fn gives_moments_in_turn(rt: HostRuntime) -> Result<(), Fail> {
 fn copied(alloc: Global, bytes: Vec<u8>) -> Result<Vec<u8>, ReadAll>
     ensures { IfOk result (λ copy. copy.items ≡ bytes.items) }
 {
+    let limit = bytes.len();
     let mut source = MemorySource::new(bytes, 1, Vec::new(alloc));
-    read_all(alloc, &mut source, usize::MAX)
+    read_all(alloc, &mut source, limit)
 }
 
 /// A sink over memory with the text, if that has 100 bytes at most.
