@@ -23,6 +23,24 @@ bench=$scratch/crates/lane_bench
 mkdir -p "$bench/src" "$bench/specs" "$bench/proofs"
 : > "$bench/specs/Lib.antt"
 : > "$bench/proofs/Lib.antt"
+mkdir "$bench/proofs/put_on_lane" "$bench/proofs/take_from_lane"
+cat > "$bench/proofs/put_on_lane/Invariants.antt" <<'PROOF'
+use Rattle.std.proofs.Common.{◌≡◌}
+use Rattle.lane_bench.proofs.put_on_lane.Given as goal
+
+abbrev pub invariant-loop-number : goal.invariant-loop-number
+invariant-loop-number g l = l.port.lane ≡ l.initial.port.lane
+PROOF
+cat > "$bench/proofs/take_from_lane/Invariants.antt" <<'PROOF'
+use Rattle.std.proofs.Common.{◌≡◌}
+use Rattle.lane_bench.proofs.take_from_lane.Given as goal
+
+abbrev pub invariant-loop : goal.invariant-loop
+invariant-loop g l = l.taker.lane ≡ l.initial.taker.lane
+
+abbrev pub invariant-loop-2 : goal.invariant-loop-2
+invariant-loop-2 g l = l.taker.lane ≡ l.fn.taker.lane
+PROOF
 sed "s/EVENTS_OF_EACH_PUTTER/$events/" > "$bench/src/main.rt" <<'PROGRAM'
 //! Events per second over a lane, and over the plain queue below it.
 #![tactic(auto)]
@@ -36,7 +54,8 @@ use mama_lane::{Lane, Port, Taker, open_lane};
 use std::sync::Wait;
 use std::thread;
 use std::thread::Threads;
-use std::time::{Duration, Instant};
+use std::alloc::Global;
+use std::time::{Clock, Duration, Instant};
 
 const EVENTS: u64 = EVENTS_OF_EACH_PUTTER;
 
@@ -199,49 +218,94 @@ fn two_on_queue<R: Threads + Wait + Copy + Sync + Send>(
     .1
 }
 
+// What a run took, and the sum of the numbers that it took.
+#[derive(Clone, Copy)]
+struct Run {
+    sum: u64,
+    took: Duration,
+}
+
+const BOUNDS: Bounds = Bounds {
+    topics: 0,
+    queues: 0,
+};
+
+fn one_lane<R: Threads + Wait + Clock + Copy + Sync + Send>(
+    rt: R,
+    alloc: Global,
+) -> anyhow::Result<Run> {
+    let (lane, mut ports, taker) = open_lane::<Tick, R>(rt, alloc, 1, BOUNDS)?;
+    let start = Instant::now(&rt)?;
+    let sum = one_on_lane(rt, &lane, ports.remove(0), taker, EVENTS);
+    let took = start.elapsed(&rt)?;
+    Ok(Run { sum, took })
+}
+
+fn two_lane<R: Threads + Wait + Clock + Copy + Sync + Send>(
+    rt: R,
+    alloc: Global,
+) -> anyhow::Result<Run> {
+    let (lane, mut ports, taker) = open_lane::<Tick, R>(rt, alloc, 2, BOUNDS)?;
+    let other = ports.remove(1);
+    let start = Instant::now(&rt)?;
+    let sum = two_on_lane(rt, &lane, ports.remove(0), other, taker, 2 * EVENTS);
+    let took = start.elapsed(&rt)?;
+    Ok(Run { sum, took })
+}
+
+fn plain_queue<R: Threads + Wait + Clock + Copy + Sync + Send>(
+    rt: R,
+    alloc: Global,
+    two: bool,
+) -> anyhow::Result<Run> {
+    let queue = SegQueue::new(alloc)?;
+    let start = Instant::now(&rt)?;
+    let sum = if two {
+        two_on_queue(rt, &queue, 2 * EVENTS)
+    } else {
+        one_on_queue(rt, &queue, EVENTS)
+    };
+    let took = start.elapsed(&rt)?;
+    Ok(Run { sum, took })
+}
+
 // Events per second.
 fn rate(count: u64, took: Duration) -> u128 {
     count as u128 * 1_000_000 / took.as_micros().max(1)
 }
 
-fn report(
+// Both rates, and the lane's time in hundredths of the queue's.
+fn compare(
     rt: &HostRuntime,
     name: &str,
     count: u64,
-    lane: Duration,
-    queue: Duration,
+    lane: Run,
+    queue: Run,
 ) -> anyhow::Result<()> {
-    println!(rt; "{name}: {} events; lane {} a second, plain queue {} a second", count, rate(count, lane), rate(count, queue))?;
+    if lane.sum != queue.sum {
+        return Err(anyhow::Error::msg("the sums differ"));
+    }
+    let ratio = lane.took.as_micros().saturating_mul(100) / queue.took.as_micros().max(1);
+    println!(rt; "{name}: {} events; lane {} a second, plain queue {} a second, time {} hundredths", count, rate(count, lane.took), rate(count, queue.took), ratio)?;
     Ok(())
 }
 
 fn main(rt: HostRuntime) -> anyhow::Result<()> {
-    let bounds = Bounds {
-        topics: 0,
-        queues: 0,
-    };
     for _ in 0..3 {
-        let (lane, mut ports, taker) = open_lane::<Tick, HostRuntime>(rt, rt.alloc(), 1, bounds)?;
-        let start = Instant::now(&rt)?;
-        let sum = one_on_lane(rt, &lane, ports.remove(0), taker, EVENTS);
-        let on_lane = start.elapsed(&rt)?;
-        let queue = SegQueue::new(rt.alloc())?;
-        let start = Instant::now(&rt)?;
-        let same = one_on_queue(rt, &queue, EVENTS);
-        let on_queue = start.elapsed(&rt)?;
-        assert_eq!(rt; sum, same);
-        report(&rt, "one putter ", EVENTS, on_lane, on_queue)?;
-        let (lane, mut ports, taker) = open_lane::<Tick, HostRuntime>(rt, rt.alloc(), 2, bounds)?;
-        let other = ports.remove(1);
-        let start = Instant::now(&rt)?;
-        let sum = two_on_lane(rt, &lane, ports.remove(0), other, taker, 2 * EVENTS);
-        let on_lane = start.elapsed(&rt)?;
-        let queue = SegQueue::new(rt.alloc())?;
-        let start = Instant::now(&rt)?;
-        let same = two_on_queue(rt, &queue, 2 * EVENTS);
-        let on_queue = start.elapsed(&rt)?;
-        assert_eq!(rt; sum, same);
-        report(&rt, "two putters", 2 * EVENTS, on_lane, on_queue)?;
+        compare(
+            &rt,
+            "one putter ",
+            EVENTS,
+            one_lane(rt, rt.alloc())?,
+            plain_queue(rt, rt.alloc(), false)?,
+        )?;
+        compare(
+            &rt,
+            "two putters",
+            2 * EVENTS,
+            two_lane(rt, rt.alloc())?,
+            plain_queue(rt, rt.alloc(), true)?,
+        )?;
     }
     Ok(())
 }
