@@ -28,8 +28,9 @@ use Rattle.mama_script.specs.Head.{may_end}
 use Rattle.mama_script.specs.Before.{Before, start, after, flaw_if, first_flaw, beside, topic_flaw, queue_flaw, order_flaw, object_flaw, number_at, after_queues, after_publisher, after_client, after_sub, after_timer, after_inbox, after_fault, after_at}
 use Rattle.mama_script.specs.Reading.{FitFrom}
 use Rattle.mama_script.specs.Tree.{queue_name, plan_line, fault_line, object_lines, publisher_line, publisher_lines, step_lines, client_lines, topic_line, IsScript}
-use Rattle.mama_script.specs.Within.{IsQueueWithin, IsOrderWithin, ArePlanned, planned, IsPlanWithin, IsStepWithin, subs_of, objects_of, subs_in, objects_in, all_subs, IsClientWithin, AreSendsWithin, IsPublisherWithin, IsWithin}
+use Rattle.mama_script.specs.Within.{IsQueueWithin, IsOrderWithin, AreOrdersWithin, planned, IsPlanWithin, IsStepWithin, subs_of, objects_of, subs_in, objects_in, all_subs, IsClientWithin, AreSendsWithin, IsPublisherWithin, IsWithin}
 use Rattle.mama_script.proofs.Counts.{number_at-insert}
+use Rattle.mama_script.proofs.Naming.{script_named}
 
 -- ---- tests that found nothing
 
@@ -113,7 +114,7 @@ faults_on b (r ∷ rows) rest h =
 
 record PlanOn (b : Before) (rows : List PlanRow) (rest : List Line) : Type 0 where
   on : On b 0 0 rest
-  orders : ArePlanned b.topics rows
+  orders : AreOrdersWithin b.topics rows
   calls : (call : ℕ) → number_at call b.calls ≤ 8 → number_at call b.calls + planned call rows ≤ 8
 
 plan_more : (call k n : ℕ) (calls : List (ℕ × ℕ)) (rows : List PlanRow) (same : Bool) → eqb k call ≡ same → n ≡ number_at k calls → n < 8
@@ -154,7 +155,7 @@ object_on b faults plan rest none h =
     record {
       on = on_then b 0 0 0 0 (map plan_line plan ++ rest) rest f.on p.on;
       plan_is = record {
-        orders = subst (λ (t : ℕ). ArePlanned t plan) f.on.topics p.orders;
+        orders = subst (λ (t : ℕ). AreOrdersWithin t plan) f.on.topics p.orders;
         calls = λ call.
             let zero_calls : number_at call f.on.next.calls ≡ 0 = ap (number_at call) empty in
             omega (arith, p.calls call (omega (arith, zero_calls)), zero_calls);
@@ -383,4 +384,5 @@ script_within s is =
       subs_few = omega (arith, c.subs_few (omega (arith, zero_subs)), zero_subs);
       publishers = subst (λ (n : ℕ). AllByRecursion (IsPublisherWithin n) s.publishers) topics_are p.publishers;
       clients = subst (λ (n : ℕ). AllByRecursion (IsClientWithin (length s.topics) n) s.clients) (p.queues ∙ t.queues) by_topics;
+      named = script_named s is.accepted.named;
     }

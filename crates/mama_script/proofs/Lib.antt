@@ -9,4 +9,5 @@ pub mod Sections
 pub mod Parsed
 pub mod Firsts
 pub mod Counts
+pub mod Naming
 pub mod Keeping

@@ -1,5 +1,5 @@
 -- What the users of a script may rely on: what its lines name is declared, and its counts are within the limits.
-use Rattle.std.specs.Prelude.{ℕ, ◌+◌, ◌<◌, ◌≤◌, ◌==◌, List, [], ◌∷◌, length, if◌then◌else◌}
+use Rattle.std.specs.Prelude.{◌≡◌, ℕ, ◌+◌, ◌<◌, ◌≤◌, ◌==◌, true, List, [], ◌∷◌, length, map, if◌then◌else◌}
 use Rattle.std.specs.List.{AllByRecursion}
 use Rattle.mama_event.specs.declared.order.Order.{Order}
 use Rattle.mama_event.specs.declared.order.Order.TheVariants as orders
@@ -13,7 +13,10 @@ use Rattle.mama_script.specs.declared.client.QueueWord.{QueueWord}
 use Rattle.mama_script.specs.declared.client.QueueWord.TheVariants.{Number, Any}
 use Rattle.mama_script.specs.declared.client.ClientLine.{ClientLine}
 use Rattle.mama_script.specs.declared.client.ClientLine.TheVariants as steps
+use Rattle.mama_script.specs.declared.names.Made.{Made}
+use Rattle.mama_script.specs.Names.{nothing_made, with_sub, with_timer, with_inbox, is_order_named}
 use Rattle.mama_script.specs.Script.{ScriptData}
+use Rattle.mama_words.specs.Order.{word_of}
 
 -- a queue that is declared, or any
 abbrev pub IsQueueWithin : ℕ → QueueWord → Type 0
@@ -27,9 +30,9 @@ IsOrderWithin topics (orders.Disarm id) = Unit {0}
 IsOrderWithin topics (orders.Close id) = Unit {0}
 IsOrderWithin topics (orders.Ask id topic fids) = topic < topics
 
-abbrev pub ArePlanned : ℕ → List PlanRow → Type 0
-ArePlanned topics [] = Unit {0}
-ArePlanned topics (row ∷ rows) = IsOrderWithin topics row.order × ArePlanned topics rows
+abbrev pub AreOrdersWithin : ℕ → List PlanRow → Type 0
+AreOrdersWithin topics [] = Unit {0}
+AreOrdersWithin topics (row ∷ rows) = IsOrderWithin topics row.order × AreOrdersWithin topics rows
 
 -- how many orders are planned for a call
 abbrev pub planned : ℕ → List PlanRow → ℕ
@@ -37,7 +40,7 @@ planned call [] = 0
 planned call (row ∷ rows) = (if row.call == call then 1 else 0) + planned call rows
 
 pub record IsPlanWithin (topics : ℕ) (plan : List PlanRow) : Type 0 where
-  pub orders : ArePlanned topics plan
+  pub orders : AreOrdersWithin topics plan
   pub calls : (call : ℕ) → planned call plan ≤ 8
 
 abbrev pub IsStepWithin : ℕ → ℕ → ClientLine → Type 0
@@ -84,6 +87,42 @@ pub record IsClientWithin (topics queues : ℕ) (client : List ClientLine) : Typ
   pub steps : AllByRecursion (IsStepWithin topics queues) client
   pub objects : objects_in client ≤ 1024
 
+-- what a client makes, with a step more
+abbrev pub made_with_step : Made → ClientLine → Made
+made_with_step made (steps.Sub topic kind queue cache recaps faults plan) = with_sub made
+made_with_step made (steps.Timer queue interval plan) = with_timer made
+made_with_step made (steps.Inbox queue faults plan) = with_inbox made
+made_with_step made (steps.Order order) = made
+made_with_step made (steps.Now moment) = made
+made_with_step made steps.NowClock = made
+made_with_step made (steps.Pause rounds) = made
+
+abbrev pub made_with_steps : Made → List ClientLine → Made
+made_with_steps made [] = made
+made_with_steps made (s ∷ ss) = made_with_steps (made_with_step made s) ss
+
+-- how many objects of each kind a client makes
+abbrev pub made_of : List ClientLine → Made
+made_of client = made_with_steps nothing_made client
+
+-- each order of a plan names an object that is there, when the clients make these
+abbrev pub ArePlanned : List Made → List PlanRow → Type 0
+ArePlanned made [] = Unit {0}
+ArePlanned made (row ∷ rows) = (is_order_named made (word_of row.order) ≡ true) × ArePlanned made rows
+
+-- so does each order of a step
+abbrev pub IsStepNamed : List Made → ClientLine → Type 0
+IsStepNamed made (steps.Sub topic kind queue cache recaps faults plan) = ArePlanned made plan
+IsStepNamed made (steps.Timer queue interval plan) = ArePlanned made plan
+IsStepNamed made (steps.Inbox queue faults plan) = ArePlanned made plan
+IsStepNamed made (steps.Order order) = is_order_named made (word_of order) ≡ true
+IsStepNamed made (steps.Now moment) = Unit {0}
+IsStepNamed made steps.NowClock = Unit {0}
+IsStepNamed made (steps.Pause rounds) = Unit {0}
+
+abbrev pub AreStepsNamed : List Made → List ClientLine → Type 0
+AreStepsNamed made client = AllByRecursion (IsStepNamed made) client
+
 -- the record behind a line of a publisher
 abbrev pub held_after : List FieldData → PublisherLine → List FieldData
 held_after held (sends.Update update) = apply held update
@@ -115,3 +154,4 @@ pub record IsWithin (s : ScriptData) : Type 0 where
   pub subs_few : all_subs s.clients ≤ 10000
   pub publishers : AllByRecursion (IsPublisherWithin (length s.topics)) s.publishers
   pub clients : AllByRecursion (IsClientWithin (length s.topics) s.shape.bounds.queues) s.clients
+  pub named : AllByRecursion (AreStepsNamed (map made_of s.clients)) s.clients

@@ -10,6 +10,7 @@ const WHOLE: &[u8] =
 fn a_script_is_printed_as_it_was_read(rt: HostRuntime) -> Result<(), Fail> {
     let texts = [
         WHOLE,
+        b"mama script 1\nqueues 1\ntopic \"EQ.ABC\"\npublisher 0 22:bid:u32:100\nupdate 22:bid:u32:101\nupdate 25:ask:u32:103\nupdate 22:bid:u32:102\nclient\nsub 0 market 0 10 1000\n".as_slice(),
         b"mama script 1\nqueues 64\nclient\n".as_slice(),
         b"mama script 1\nqueues 1\nclient\nclient\npause 3\n".as_slice(),
     ];
