@@ -1,1 +1,14 @@
 pub mod Script
+pub mod Head
+pub mod Line
+pub mod Form
+pub mod Before
+pub mod Seen
+pub mod Names
+pub mod Reading
+pub mod Tree
+pub mod Taken
+pub mod Text
+pub mod First
+pub mod Within
+pub mod Rows

@@ -1,9 +1,11 @@
 //! What the lines before a line say about it.
+ghost use Rattle.std.specs.Prelude.{◌≡◌, None, OnOk, IfErr};
+ghost use Rattle.mama_script.specs.Seen.{seen};
+ghost use Rattle.mama_script.specs.Before as before;
 
-use crate::fault::Refused;
+use crate::fault::{Flaw, Refused};
 use crate::head::Place;
 use crate::line::{Line, QueueName};
-use mama_link::FaultRow;
 use mama_msg::Msg;
 use mama_words::OrderWord;
 use std::alloc::Global;
@@ -41,7 +43,7 @@ pub struct Context {
     // The timers and inboxes of the client at hand.
     objects: u64,
     // The record of the publisher at hand, and its topic.
-    record: Msg,
+    held: Msg,
     topic: u64,
     // For each topic, the weight of one subscription.
     weights: BTreeMap<u64, u64>,
@@ -51,9 +53,18 @@ pub struct Context {
     calls: BTreeMap<u32, u8>,
 }
 
+// A flaw where the test holds.
+fn flaw_if(test: bool, flaw: Flaw) -> Result<(), Flaw>
+    ensures { before.Checks (before.flaw_if test flaw None) result }
+{
+    if test { Err(flaw) } else { Ok(()) }
+}
+
 impl Context {
     /// Behind the first line.
-    pub fn new(alloc: Global) -> Context {
+    pub fn new(alloc: Global) -> Context
+        ensures { seen result ≡ before.start }
+    {
         Context {
             place: Place::Start,
             queues: 0,
@@ -62,7 +73,7 @@ impl Context {
             clients: 0,
             subs: 0,
             objects: 0,
-            record: Msg::new(alloc),
+            held: Msg::new(alloc),
             topic: 0,
             weights: BTreeMap::new(alloc),
             weight: 0,
@@ -72,23 +83,26 @@ impl Context {
     }
 
     /// Where the next line stands.
-    pub fn place(&self) -> Place {
+    pub fn place(&self) -> Place
+        ensures { result ≡ self.now.place }
+    {
         self.place
     }
 
     /// Takes a line that has its form, if it fits those before it: the lowest of its faults from 9 on, and then the
     /// lowest limit that it passes, refuse it.
-    pub fn admit(&mut self, line: &Line) -> Result<(), Refused> {
+    pub fn admit(&mut self, line: &Line) -> Result<(), Refused>
+        ensures ok { OnOk result (before.flaw (seen self.old) line.now ≡ None) }
+        ensures after { OnOk result (seen self.new ≡ before.after (seen self.old) line.now) }
+        ensures refused { IfErr result (before.Refuses (before.flaw (seen self.old) line.now)) }
+    {
         match line {
             Line::Queues(queues) => self.admit_queues(*queues),
             Line::Topic(_) => self.admit_topic(),
             Line::Publisher { topic, base } => self.admit_publisher(*topic, base),
             Line::Update(update) => self.admit_update(update),
-            Line::Recap => { self.add_weight(RECAP_WEIGHT) }
-            Line::Pause(_) => {
-                self.leave_object();
-                Ok(())
-            }
+            Line::Recap => self.admit_recap(),
+            Line::Pause(_) | Line::Now(_) | Line::NowClock => self.admit_step(),
             Line::Client => self.admit_client(),
             Line::Sub {
                 topic,
@@ -99,182 +113,271 @@ impl Context {
             } => self.admit_sub(*topic, *queue),
             Line::Timer { queue, interval } => self.admit_timer(*queue, *interval),
             Line::Inbox { queue } => self.admit_inbox(*queue),
-            Line::Fault(row) => self.admit_fault(*row),
+            Line::Fault(row) => self.admit_fault(row.index),
             Line::At { call, order } => self.admit_at(*call, order),
-            Line::Order(order) => {
-                self.check_order(order)?;
-                self.leave_object();
-                Ok(())
-            }
-            Line::Now(_) | Line::NowClock => {
-                self.leave_object();
-                Ok(())
-            }
+            Line::Order(order) => self.admit_order(order),
         }
     }
 
-    fn leave_object(&mut self) {
-        if self.place != Place::Publisher {
-            self.place = Place::Client;
-        }
-    }
-
-    fn admit_queues(&mut self, queues: u64) -> Result<(), Refused> {
-        if queues > MOST_QUEUES {
-            return Err(Refused::Limit(2));
-        }
+    fn admit_queues(&mut self, queues: u64) -> Result<(), Refused>
+        ensures ok { OnOk result (before.queues_flaw queues ≡ None) }
+        ensures after { OnOk result (seen self.new ≡ before.after_queues queues (seen self.old)) }
+        ensures refused { IfErr result (before.Refuses (before.queues_flaw queues)) }
+    {
+        flaw_if(queues > MOST_QUEUES, Flaw::Limit(2))?;
         self.queues = queues;
         self.place = Place::Topics;
         Ok(())
     }
 
-    fn admit_topic(&mut self) -> Result<(), Refused> {
-        if self.topics >= MOST_TOPICS {
-            return Err(Refused::Limit(3));
-        }
+    fn admit_topic(&mut self) -> Result<(), Refused>
+        ensures ok { OnOk result (before.topics_flaw (seen self.old) ≡ None) }
+        ensures after { OnOk result (seen self.new ≡ before.after_topic (seen self.old)) }
+        ensures refused { IfErr result (before.Refuses (before.topics_flaw (seen self.old))) }
+    {
+        flaw_if(self.topics >= MOST_TOPICS, Flaw::Limit(3))?;
         self.topics += 1;
         Ok(())
     }
 
-    fn admit_publisher(&mut self, topic: u64, base: &Msg) -> Result<(), Refused> {
-        if topic >= self.topics {
-            return Err(Refused::Fault(9));
-        }
-        if self.publishers >= MOST_PUBLISHERS {
-            return Err(Refused::Limit(4));
-        }
-        if base.len() > MOST_FIELDS {
-            return Err(Refused::Limit(8));
-        }
-        self.record = base.try_clone()?;
+    fn check_topic(&self, topic: u64) -> Result<(), Flaw>
+        ensures { before.Checks (before.topic_flaw topic (seen self.now)) result }
+    {
+        flaw_if(topic >= self.topics, Flaw::Fault(9))
+    }
+
+    fn check_publisher(&self, topic: u64, base: &Msg) -> Result<(), Flaw>
+        ensures { before.Checks (before.publisher_flaw topic base.now (seen self.now)) result }
+    {
+        self.check_topic(topic)?;
+        flaw_if(self.publishers >= MOST_PUBLISHERS, Flaw::Limit(4))?;
+        flaw_if(base.len() > MOST_FIELDS, Flaw::Limit(8))
+    }
+
+    fn admit_publisher(&mut self, topic: u64, base: &Msg) -> Result<(), Refused>
+        ensures ok { OnOk result (before.publisher_flaw topic base.now (seen self.old) ≡ None) }
+        ensures after { OnOk result (seen self.new ≡ before.after_publisher topic base.now (seen self.old)) }
+        ensures refused { IfErr result (before.Refuses (before.publisher_flaw topic base.now (seen self.old))) }
+    {
+        self.check_publisher(topic, base)?;
+        let held = base.try_clone()?;
+        self.held = held;
         self.topic = topic;
-        self.publishers += 1;
+        self.publishers = self.publishers.saturating_add(1);
         self.place = Place::Publisher;
         Ok(())
     }
 
-    fn admit_update(&mut self, update: &Msg) -> Result<(), Refused> {
-        if update.len() > MOST_FIELDS || self.record.len_after(update) > MOST_FIELDS {
-            return Err(Refused::Limit(8));
-        }
-        self.record.apply(update)?;
-        self.add_weight((update.len() as u64).saturating_add(1))
+    fn check_update(&self, update: &Msg) -> Result<(), Flaw>
+        ensures { before.Checks (before.update_flaw update.now (seen self.now)) result }
+    {
+        flaw_if(update.len() > MOST_FIELDS, Flaw::Limit(8))?;
+        flaw_if(self.held.len_after(update) > MOST_FIELDS, Flaw::Limit(8))
     }
 
-    fn add_weight(&mut self, more: u64) -> Result<(), Refused> {
-        let so_far = self.weights.get(&self.topic).copied().unwrap_or(0);
+    fn admit_update(&mut self, update: &Msg) -> Result<(), Refused>
+        ensures ok { OnOk result (before.update_flaw update.now (seen self.old) ≡ None) }
+        ensures after { OnOk result (seen self.new ≡ before.after_update update.now (seen self.old)) }
+        ensures refused { IfErr result (before.Refuses (before.update_flaw update.now (seen self.old))) }
+    {
+        self.check_update(update)?;
+        self.held.apply(update)?;
+        self.add_send((update.len() as u64).saturating_add(1))
+    }
+
+    fn admit_recap(&mut self) -> Result<(), Refused>
+        ensures after { OnOk result (seen self.new ≡ before.with_send before.recap_weight (seen self.old)) }
+        ensures refused { IfErr result (before.Refuses None) }
+    {
+        self.add_send(RECAP_WEIGHT)
+    }
+
+    fn weight_of(&self, topic: u64) -> u64
+        ensures { result ≡ before.number_at topic self.now.weights.entries }
+    {
+        self.weights.get(&topic).copied().unwrap_or(0)
+    }
+
+    fn add_send(&mut self, more: u64) -> Result<(), Refused>
+        ensures after { OnOk result (seen self.new ≡ before.with_send more (seen self.old)) }
+        ensures refused { IfErr result (before.Refuses None) }
+    {
+        let so_far = self.weight_of(self.topic);
         self.weights
             .insert(self.topic, so_far.saturating_add(more))?;
         Ok(())
     }
 
-    fn admit_client(&mut self) -> Result<(), Refused> {
-        if self.clients >= MOST_CLIENTS {
-            return Err(Refused::Limit(5));
-        }
+    fn admit_client(&mut self) -> Result<(), Refused>
+        ensures ok { OnOk result (before.client_flaw (seen self.old) ≡ None) }
+        ensures after { OnOk result (seen self.new ≡ before.after_client (seen self.old)) }
+        ensures refused { IfErr result (before.Refuses (before.client_flaw (seen self.old))) }
+    {
+        flaw_if(self.clients >= MOST_CLIENTS, Flaw::Limit(5))?;
         self.clients += 1;
         self.objects = 0;
         self.place = Place::Client;
         Ok(())
     }
 
-    fn check_queue(&self, queue: QueueName) -> Result<(), Refused> {
+    fn check_queue(&self, queue: QueueName) -> Result<(), Flaw>
+        ensures { before.Checks (before.queue_flaw queue (seen self.now)) result }
+    {
         match queue {
-            QueueName::Number(queue) => {
-                if queue >= self.queues {
-                    Err(Refused::Fault(9))
-                } else {
-                    Ok(())
-                }
-            }
+            QueueName::Number(queue) => flaw_if(queue >= self.queues, Flaw::Fault(9)),
             QueueName::Any => Ok(()),
         }
     }
 
-    fn check_order(&self, order: &OrderWord) -> Result<(), Refused> {
+    fn check_order(&self, order: &OrderWord) -> Result<(), Flaw>
+        ensures { before.Checks (before.order_flaw order.now (seen self.now)) result }
+    {
         match order {
+            OrderWord::Stop(_) | OrderWord::Disarm(_) | OrderWord::Close(_) => Ok(()),
             OrderWord::Ask {
                 inbox: _,
                 topic,
                 fids: _,
-            } => {
-                if *topic >= self.topics {
-                    Err(Refused::Fault(9))
-                } else {
-                    Ok(())
-                }
-            }
-            _ => Ok(()),
+            } => self.check_topic(*topic),
         }
     }
 
-    fn begin_object(&mut self, place: Place) {
+    fn weight_with(&self, topic: u64) -> u64
+        ensures { result ≡ before.weight_with topic (seen self.now) }
+    {
+        self.weight.saturating_add(self.weight_of(topic))
+    }
+
+    fn check_sub(&self, topic: u64, queue: QueueName) -> Result<(), Flaw>
+        ensures { before.Checks (before.sub_flaw topic queue (seen self.now)) result }
+    {
+        self.check_topic(topic)?;
+        self.check_queue(queue)?;
+        flaw_if(self.subs >= MOST_SUBS, Flaw::Limit(6))?;
+        flaw_if(self.weight_with(topic) > MOST_WEIGHT, Flaw::Limit(9))
+    }
+
+    fn begin_object(&mut self, place: Place)
+        ensures { seen self.new ≡ before.with_object place (seen self.old) }
+    {
         self.indexes.clear();
         self.calls.clear();
         self.place = place;
     }
 
-    fn admit_sub(&mut self, topic: u64, queue: QueueName) -> Result<(), Refused> {
-        if topic >= self.topics {
-            return Err(Refused::Fault(9));
-        }
-        self.check_queue(queue)?;
-        if self.subs >= MOST_SUBS {
-            return Err(Refused::Limit(6));
-        }
-        let weight = self
-            .weight
-            .saturating_add(self.weights.get(&topic).copied().unwrap_or(0));
-        if weight > MOST_WEIGHT {
-            return Err(Refused::Limit(9));
-        }
-        self.weight = weight;
-        self.subs += 1;
+    fn admit_sub(&mut self, topic: u64, queue: QueueName) -> Result<(), Refused>
+        ensures ok { OnOk result (before.sub_flaw topic queue (seen self.old) ≡ None) }
+        ensures after { OnOk result (seen self.new ≡ before.after_sub topic (seen self.old)) }
+        ensures refused { IfErr result (before.Refuses (before.sub_flaw topic queue (seen self.old))) }
+    {
+        self.check_sub(topic, queue)?;
+        self.weight = self.weight_with(topic);
+        self.subs = self.subs.saturating_add(1);
         self.begin_object(Place::Linked);
         Ok(())
     }
 
-    fn admit_timer(&mut self, queue: QueueName, interval: u32) -> Result<(), Refused> {
+    fn check_object(&self) -> Result<(), Flaw>
+        ensures { before.Checks (before.object_flaw (seen self.now)) result }
+    {
+        flaw_if(self.objects >= MOST_OBJECTS, Flaw::Limit(7))
+    }
+
+    fn check_timer(&self, queue: QueueName, interval: u32) -> Result<(), Flaw>
+        ensures { before.Checks (before.timer_flaw queue interval (seen self.now)) result }
+    {
         self.check_queue(queue)?;
-        if interval == 0 {
-            return Err(Refused::Fault(12));
-        }
-        self.add_object()?;
+        flaw_if(interval == 0, Flaw::Fault(12))?;
+        self.check_object()
+    }
+
+    fn admit_timer(&mut self, queue: QueueName, interval: u32) -> Result<(), Refused>
+        ensures ok { OnOk result (before.timer_flaw queue interval (seen self.old) ≡ None) }
+        ensures after { OnOk result (seen self.new ≡ before.after_timer (seen self.old)) }
+        ensures refused { IfErr result (before.Refuses (before.timer_flaw queue interval (seen self.old))) }
+    {
+        self.check_timer(queue, interval)?;
+        self.objects = self.objects.saturating_add(1);
         self.begin_object(Place::Planned);
         Ok(())
     }
 
-    fn admit_inbox(&mut self, queue: QueueName) -> Result<(), Refused> {
+    fn check_inbox(&self, queue: QueueName) -> Result<(), Flaw>
+        ensures { before.Checks (before.inbox_flaw queue (seen self.now)) result }
+    {
         self.check_queue(queue)?;
-        self.add_object()?;
+        self.check_object()
+    }
+
+    fn admit_inbox(&mut self, queue: QueueName) -> Result<(), Refused>
+        ensures ok { OnOk result (before.inbox_flaw queue (seen self.old) ≡ None) }
+        ensures after { OnOk result (seen self.new ≡ before.after_inbox (seen self.old)) }
+        ensures refused { IfErr result (before.Refuses (before.inbox_flaw queue (seen self.old))) }
+    {
+        self.check_inbox(queue)?;
+        self.objects = self.objects.saturating_add(1);
         self.begin_object(Place::Linked);
         Ok(())
     }
 
-    fn add_object(&mut self) -> Result<(), Refused> {
-        if self.objects >= MOST_OBJECTS {
-            return Err(Refused::Limit(7));
-        }
-        self.objects += 1;
+    fn admit_fault(&mut self, index: u32) -> Result<(), Refused>
+        ensures ok { OnOk result (before.fault_flaw index (seen self.old) ≡ None) }
+        ensures after { OnOk result (seen self.new ≡ before.after_fault index (seen self.old)) }
+        ensures refused { IfErr result (before.Refuses (before.fault_flaw index (seen self.old))) }
+    {
+        flaw_if(self.indexes.contains(&index), Flaw::Fault(11))?;
+        self.indexes.insert(index)?;
         Ok(())
     }
 
-    fn admit_fault(&mut self, row: FaultRow) -> Result<(), Refused> {
-        if self.indexes.contains(&row.index) {
-            return Err(Refused::Fault(11));
-        }
-        self.indexes.insert(row.index)?;
-        Ok(())
+    fn planned(&self, call: u32) -> u8
+        ensures { result ≡ before.number_at call self.now.calls.entries }
+    {
+        self.calls.get(&call).copied().unwrap_or(0)
     }
 
-    fn admit_at(&mut self, call: u32, order: &OrderWord) -> Result<(), Refused> {
+    fn check_at(&self, call: u32, order: &OrderWord) -> Result<(), Flaw>
+        ensures { before.Checks (before.at_flaw call order.now (seen self.now)) result }
+    {
         self.check_order(order)?;
-        let planned = self.calls.get(&call).copied().unwrap_or(0);
-        if planned >= MOST_ORDERS {
-            return Err(Refused::Fault(11));
-        }
-        self.calls.insert(call, planned + 1)?;
+        flaw_if(self.planned(call) >= MOST_ORDERS, Flaw::Fault(11))
+    }
+
+    fn admit_at(&mut self, call: u32, order: &OrderWord) -> Result<(), Refused>
+        ensures ok { OnOk result (before.at_flaw call order.now (seen self.old) ≡ None) }
+        ensures after { OnOk result (seen self.new ≡ before.after_at call (seen self.old)) }
+        ensures refused { IfErr result (before.Refuses (before.at_flaw call order.now (seen self.old))) }
+    {
+        self.check_at(call, order)?;
+        let planned = self.planned(call);
+        self.calls.insert(call, planned.saturating_add(1))?;
         self.place = Place::Planned;
         Ok(())
+    }
+
+    fn beside(&self) -> Place
+        ensures { result ≡ before.beside self.now.place }
+    {
+        match self.place {
+            Place::Publisher => Place::Publisher,
+            _ => Place::Client,
+        }
+    }
+
+    fn admit_step(&mut self) -> Result<(), Refused>
+        ensures after { OnOk result (seen self.new ≡ before.after_step (seen self.old)) }
+        ensures refused { IfErr result (before.Refuses None) }
+    {
+        self.place = self.beside();
+        Ok(())
+    }
+
+    fn admit_order(&mut self, order: &OrderWord) -> Result<(), Refused>
+        ensures ok { OnOk result (before.order_flaw order.now (seen self.old) ≡ None) }
+        ensures after { OnOk result (seen self.new ≡ before.after_step (seen self.old)) }
+        ensures refused { IfErr result (before.Refuses (before.order_flaw order.now (seen self.old))) }
+    {
+        self.check_order(order)?;
+        self.admit_step()
     }
 }

@@ -1,6 +1,7 @@
 ghost use Rattle.std.specs.Prelude.{◌≡◌};
 ghost use Rattle.mama_script.specs.declared.fault.ScriptFault.TheVariants as script;
 ghost use Rattle.mama_script.specs.declared.fault.Refused.TheVariants as refused;
+ghost use Rattle.mama_script.specs.Reading.{at_line};
 
 use mama_memory::OutOfMemory;
 use std::alloc::{AllocError, AllocFailed};
@@ -54,39 +55,55 @@ impl<T: Drop> From<AllocFailed<T>> for ScriptFault {
     }
 }
 
-/// Why a line that has its form does not fit those before it.
+/// What is wrong with a line, beside its number.
 #[derive(Clone, Copy, Debug, PartialEq, Eq)]
-pub enum Refused {
-    /// No memory was found.
-    Memory,
+pub enum Flaw {
     /// The line has this fault.
     Fault(u8),
     /// The line passes this limit.
     Limit(u8),
 }
 
-impl Refused {
-    /// The refusal, at its line.
-    pub fn at(self, line: u64) -> ScriptFault {
+impl Flaw {
+    /// The flaw, at its line.
+    pub fn at(self, line: u64) -> ScriptFault
+        ensures { result ≡ at_line line self }
+    {
         match self {
-            Refused::Memory => ScriptFault::OutOfMemory,
-            Refused::Fault(fault) => ScriptFault::Bad { line, fault },
-            Refused::Limit(limit) => ScriptFault::OverLimit { line, limit },
+            Flaw::Fault(fault) => ScriptFault::Bad { line, fault },
+            Flaw::Limit(limit) => ScriptFault::OverLimit { line, limit },
         }
     }
+}
+
+/// Why a line that has its form was not taken.
+#[derive(Clone, Copy, Debug, PartialEq, Eq)]
+pub enum Refused {
+    /// No memory was found.
+    Memory,
+    /// The line does not fit those before it.
+    Flawed(Flaw),
 }
 
 impl fmt::Display for Refused {
     fn fmt<W: fmt::Write>(&self, f: &mut fmt::Formatter<W>) -> fmt::Result {
         match self {
             Refused::Memory => write!(f, "out of memory"),
-            Refused::Fault(fault) => write!(f, "fault {fault}"),
-            Refused::Limit(limit) => write!(f, "limit {limit}"),
+            Refused::Flawed(Flaw::Fault(fault)) => write!(f, "fault {fault}"),
+            Refused::Flawed(Flaw::Limit(limit)) => write!(f, "limit {limit}"),
         }
     }
 }
 
 impl Error for Refused {}
+
+impl From<Flaw> for Refused {
+    ghost from_gives = { λ flaw e. e ≡ refused.Flawed flaw };
+
+    fn from(flaw: Flaw) -> Refused {
+        Refused::Flawed(flaw)
+    }
+}
 
 impl From<OutOfMemory> for Refused {
     ghost from_gives = { λ _ e. e ≡ refused.Memory };

@@ -1,142 +1,193 @@
 //! Lines by their own form.
+ghost use Rattle.std.specs.Prelude.{◌≡◌, ◌<◌, ◌^◌, map, Some};
+ghost use Rattle.mama_words.specs.Reading.{Gives};
+ghost use Rattle.mama_words.specs.Number.{between_in};
+ghost use Rattle.mama_script.specs.Head.{head_in};
+ghost use Rattle.mama_script.specs.Form as forms;
 
 use crate::head::{Head, Place, read_head};
 use crate::line::{Line, QueueName};
 use mama_link::{Fault, FaultRow};
-use mama_msg::TextValue;
 use mama_words::{
-    ReadError, parted, read_between, read_message, read_number, read_order, read_quoted_word,
-    read_sub_kind,
+    ReadError, parted, read_between, read_message, read_number, read_order, read_sub_kind,
+    read_text,
 };
 use std::alloc::Global;
 
-const MOST_PAUSE: u64 = 1_000_000;
-
-const MOST_CACHE: u64 = 4_096;
-
-const MOST_RECAPS: u64 = 1_000_000;
-
 const MOST_U32: u64 = 4_294_967_295;
 
-const MOST_MOMENT: u64 = 9_223_372_036_854_775_807;
-
 /// The line that a text spells at this place, or the lowest of its faults from 2 to 8.
-pub fn read_form(alloc: Global, place: Place, text: &[u8]) -> Result<Line, ReadError> {
+#[tactic(auto, unfolding(crate::specs::Form::form_in))]
+pub fn read_form(alloc: Global, place: Place, text: &[u8]) -> Result<Line, ReadError>
+    ensures { Gives (λ l. l) result (forms.form_in place text.now) }
+{
     let words = parted(alloc, text)?;
-    match words.as_slice() {
-        [] => Err(ReadError::Fault(2)),
-        [first, rest @ ..] => {
-            let head = read_head(first).ok_or(ReadError::Fault(3))?;
-            if !place.allows(head) {
-                return Err(ReadError::Fault(3));
-            }
-            if head == Head::Order {
-                return Ok(Line::Order(read_order(words.as_slice())?));
-            }
-            read_body(alloc, head, rest)
-        }
+    let head = head_at(place, &words).ok_or(ReadError::Fault(3))?;
+    read_body(alloc, head, &words)
+}
+
+// What the first word begins, if it may stand here.
+fn head_at(place: Place, words: &[&[u8]]) -> Option<Head>
+    ensures { result ≡ forms.head_at place (map (λ w. w.now) words.now) }
+{
+    match words {
+        [] => None,
+        [first, ..] => if_allowed(place, read_head(first)),
     }
 }
 
-fn read_body(alloc: Global, head: Head, words: &[&[u8]]) -> Result<Line, ReadError> {
+fn if_allowed(place: Place, head: Option<Head>) -> Option<Head>
+    ensures { result ≡ forms.if_allowed place head }
+{
+    match head {
+        None => None,
+        Some(head) => { if place.allows(head) { Some(head) } else { None } }
+    }
+}
+
+// The line that the words spell, the first of which is its head.
+fn read_body(alloc: Global, head: Head, words: &[&[u8]]) -> Result<Line, ReadError>
+    ensures { Gives (λ l. l) result (forms.body_in head (map (λ w. w.now) words.now)) }
+{
     match head {
         Head::Queues => read_queues(words),
         Head::Topic => read_topic(alloc, words),
         Head::Publisher => read_publisher(alloc, words),
-        Head::Update => Ok(Line::Update(read_message(alloc, words)?)),
-        Head::Recap => read_alone(words, Line::Recap),
+        Head::Update => read_update(alloc, words),
+        Head::Recap => read_recap(words),
         Head::Pause => read_pause(words),
-        Head::Client => read_alone(words, Line::Client),
+        Head::Client => read_client(words),
         Head::Sub => read_sub(words),
         Head::Timer => read_timer(words),
         Head::Inbox => read_inbox(words),
         Head::Fault => read_fault(words),
         Head::At => read_at(words),
-        Head::Order => Ok(Line::Order(read_order(words)?)),
+        Head::Stop | Head::Disarm | Head::Close | Head::Ask => read_order_line(words),
         Head::Now => read_now(words),
     }
 }
 
-fn read_alone(words: &[&[u8]], line: Line) -> Result<Line, ReadError> {
-    if words.is_empty() {
-        Ok(line)
-    } else {
-        Err(ReadError::Fault(4))
-    }
-}
-
-fn number_between(low: u64, high: u64, word: &[u8]) -> Result<u32, ReadError> {
-    let number = read_between(low, high, word).ok_or(ReadError::Fault(5))?;
-    if number > MOST_U32 {
-        Err(ReadError::Fault(5))
-    } else {
-        Ok(number as u32)
-    }
-}
-
-fn queue_name(word: &[u8]) -> Result<QueueName, ReadError> {
-    if word == b"any".as_slice() {
-        return Ok(QueueName::Any);
-    }
-    Ok(QueueName::Number(read_number(word).ok_or(ReadError::Fault(5))?))
-}
-
-fn read_queues(words: &[&[u8]]) -> Result<Line, ReadError> {
+#[tactic(auto, unfolding(crate::specs::Form::alone_in))]
+fn read_recap(words: &[&[u8]]) -> Result<Line, ReadError>
+    ensures { Gives (λ l. l) result (forms.alone_in Line.Recap (map (λ w. w.now) words.now)) }
+{
     match words {
-        [queues] => {
-            let queues = read_number(queues).ok_or(ReadError::Fault(5))?;
-            if queues == 0 {
-                Err(ReadError::Fault(5))
-            } else {
-                Ok(Line::Queues(queues))
-            }
+        [_] => Ok(Line::Recap),
+        _ => Err(ReadError::Fault(4)),
+    }
+}
+
+#[tactic(auto, unfolding(crate::specs::Form::alone_in))]
+fn read_client(words: &[&[u8]]) -> Result<Line, ReadError>
+    ensures { Gives (λ l. l) result (forms.alone_in Line.Client (map (λ w. w.now) words.now)) }
+{
+    match words {
+        [_] => Ok(Line::Client),
+        _ => Err(ReadError::Fault(4)),
+    }
+}
+
+// The number that a word spells, from low to high.
+fn read_u32(low: u64, high: u64, word: &[u8]) -> Option<u32>
+    requires { high < 2 ^ 32 }
+    ensures { result ≡ between_in low high word.now }
+{
+    let number = read_between(low, high, word)?;
+    Some(number as u32)
+}
+
+#[tactic(auto, unfolding(crate::specs::Form::queue_in))]
+fn read_queue(word: &[u8]) -> Option<QueueName>
+    ensures { result ≡ forms.queue_in word.now }
+{
+    if word == b"any".as_slice() {
+        Some(QueueName::Any)
+    } else {
+        let number = read_number(word)?;
+        Some(QueueName::Number(number))
+    }
+}
+
+#[tactic(auto, unfolding(crate::specs::Form::queues_in))]
+fn read_queues(words: &[&[u8]]) -> Result<Line, ReadError>
+    ensures { Gives (λ l. l) result (forms.queues_in (map (λ w. w.now) words.now)) }
+{
+    match words {
+        [_, word] => {
+            let queues = read_between(1, u64::MAX, word).ok_or(ReadError::Fault(5))?;
+            Ok(Line::Queues(queues))
         }
         _ => Err(ReadError::Fault(4)),
     }
 }
 
-fn read_topic(alloc: Global, words: &[&[u8]]) -> Result<Line, ReadError> {
+#[tactic(auto, unfolding(crate::specs::Form::topic_in))]
+fn read_topic(alloc: Global, words: &[&[u8]]) -> Result<Line, ReadError>
+    ensures { Gives (λ l. l) result (forms.topic_in (map (λ w. w.now) words.now)) }
+{
     match words {
-        [word] => {
-            let name = read_quoted_word(alloc, word)?.ok_or(ReadError::Fault(6))?;
-            if name.is_empty() {
+        [_, word] => {
+            let name = read_text(alloc, 6, word)?;
+            if name.bytes().is_empty() {
                 return Err(ReadError::Fault(6));
             }
-            let name = TextValue::new(alloc, name.as_slice())?.ok_or(ReadError::Fault(6))?;
             Ok(Line::Topic(name))
         }
         _ => Err(ReadError::Fault(4)),
     }
 }
 
-fn read_publisher(alloc: Global, words: &[&[u8]]) -> Result<Line, ReadError> {
+#[tactic(auto, unfolding(crate::specs::Form::publisher_in))]
+fn read_publisher(alloc: Global, words: &[&[u8]]) -> Result<Line, ReadError>
+    ensures { Gives (λ l. l) result (forms.publisher_in (map (λ w. w.now) words.now)) }
+{
     match words {
-        [topic, fields @ ..] => {
+        [_, topic, fields @ ..] => {
             let topic = read_number(topic).ok_or(ReadError::Fault(5))?;
-            Ok(Line::Publisher {
-                topic,
-                base: read_message(alloc, fields)?,
-            })
+            let base = read_message(alloc, fields)?;
+            Ok(Line::Publisher { topic, base })
         }
-        [] => Err(ReadError::Fault(4)),
-    }
-}
-
-fn read_pause(words: &[&[u8]]) -> Result<Line, ReadError> {
-    match words {
-        [rounds] => Ok(Line::Pause(number_between(1, MOST_PAUSE, rounds)?)),
         _ => Err(ReadError::Fault(4)),
     }
 }
 
-fn read_sub(words: &[&[u8]]) -> Result<Line, ReadError> {
+#[tactic(auto, unfolding(crate::specs::Form::update_in))]
+fn read_update(alloc: Global, words: &[&[u8]]) -> Result<Line, ReadError>
+    ensures { Gives (λ l. l) result (forms.update_in (map (λ w. w.now) words.now)) }
+{
     match words {
-        [topic, kind, queue, cache, recaps] => {
+        [_, fields @ ..] => {
+            let update = read_message(alloc, fields)?;
+            Ok(Line::Update(update))
+        }
+        _ => Err(ReadError::Fault(4)),
+    }
+}
+
+#[tactic(auto, unfolding(crate::specs::Form::pause_in))]
+fn read_pause(words: &[&[u8]]) -> Result<Line, ReadError>
+    ensures { Gives (λ l. l) result (forms.pause_in (map (λ w. w.now) words.now)) }
+{
+    match words {
+        [_, rounds] => {
+            let rounds = read_u32(1, 1_000_000, rounds).ok_or(ReadError::Fault(5))?;
+            Ok(Line::Pause(rounds))
+        }
+        _ => Err(ReadError::Fault(4)),
+    }
+}
+
+#[tactic(auto, unfolding(crate::specs::Form::sub_in))]
+fn read_sub(words: &[&[u8]]) -> Result<Line, ReadError>
+    ensures { Gives (λ l. l) result (forms.sub_in (map (λ w. w.now) words.now)) }
+{
+    match words {
+        [_, topic, kind, queue, cache, recaps] => {
             let kind = read_sub_kind(kind).ok_or(ReadError::Fault(4))?;
             let topic = read_number(topic).ok_or(ReadError::Fault(5))?;
-            let queue = queue_name(queue)?;
-            let cache = number_between(0, MOST_CACHE, cache)?;
-            let recaps = number_between(0, MOST_RECAPS, recaps)?;
+            let queue = read_queue(queue).ok_or(ReadError::Fault(5))?;
+            let cache = read_u32(0, 4_096, cache).ok_or(ReadError::Fault(5))?;
+            let recaps = read_u32(0, 1_000_000, recaps).ok_or(ReadError::Fault(5))?;
             Ok(Line::Sub {
                 topic,
                 kind,
@@ -149,74 +200,119 @@ fn read_sub(words: &[&[u8]]) -> Result<Line, ReadError> {
     }
 }
 
-fn read_timer(words: &[&[u8]]) -> Result<Line, ReadError> {
+#[tactic(auto, unfolding(crate::specs::Form::timer_in))]
+fn read_timer(words: &[&[u8]]) -> Result<Line, ReadError>
+    ensures { Gives (λ l. l) result (forms.timer_in (map (λ w. w.now) words.now)) }
+{
     match words {
-        [queue, interval] => {
-            let queue = queue_name(queue)?;
-            Ok(Line::Timer {
-                queue,
-                interval: number_between(0, MOST_U32, interval)?,
-            })
+        [_, queue, interval] => {
+            let queue = read_queue(queue).ok_or(ReadError::Fault(5))?;
+            let interval = read_u32(0, MOST_U32, interval).ok_or(ReadError::Fault(5))?;
+            Ok(Line::Timer { queue, interval })
         }
         _ => Err(ReadError::Fault(4)),
     }
 }
 
-fn read_inbox(words: &[&[u8]]) -> Result<Line, ReadError> {
+#[tactic(auto, unfolding(crate::specs::Form::inbox_in))]
+fn read_inbox(words: &[&[u8]]) -> Result<Line, ReadError>
+    ensures { Gives (λ l. l) result (forms.inbox_in (map (λ w. w.now) words.now)) }
+{
     match words {
-        [queue] => Ok(Line::Inbox {
-            queue: queue_name(queue)?,
-        }),
-        _ => Err(ReadError::Fault(4)),
-    }
-}
-
-fn read_fault(words: &[&[u8]]) -> Result<Line, ReadError> {
-    match words {
-        [b"lose", index] => {
-            Ok(Line::Fault(FaultRow {
-                index: number_between(1, MOST_U32, index)?,
-                fault: Fault::Lose,
-            }))
-        }
-        [b"dup", index] => {
-            Ok(Line::Fault(FaultRow {
-                index: number_between(1, MOST_U32, index)?,
-                fault: Fault::Dup,
-            }))
-        }
-        [b"hold", index, by] => {
-            let index = number_between(1, MOST_U32, index)?;
-            Ok(Line::Fault(FaultRow {
-                index,
-                fault: Fault::Hold(number_between(1, MOST_U32, by)?),
-            }))
+        [_, queue] => {
+            let queue = read_queue(queue).ok_or(ReadError::Fault(5))?;
+            Ok(Line::Inbox { queue })
         }
         _ => Err(ReadError::Fault(4)),
     }
 }
 
-fn read_at(words: &[&[u8]]) -> Result<Line, ReadError> {
+#[tactic(auto, unfolding(crate::specs::Form::short_fault_in))]
+fn read_short_fault(word: &[u8]) -> Option<Fault>
+    ensures { result ≡ forms.short_fault_in word.now }
+{
+    if word == b"lose".as_slice() {
+        Some(Fault::Lose)
+    } else if word == b"dup".as_slice() {
+        Some(Fault::Dup)
+    } else {
+        None
+    }
+}
+
+#[tactic(auto, unfolding(crate::specs::Form::hold_in))]
+fn read_hold(index: &[u8], by: &[u8]) -> Result<Line, ReadError>
+    ensures { Gives (λ l. l) result (forms.hold_in index.now by.now) }
+{
+    let index = read_u32(1, MOST_U32, index).ok_or(ReadError::Fault(5))?;
+    let by = read_u32(1, MOST_U32, by).ok_or(ReadError::Fault(5))?;
+    Ok(Line::Fault(FaultRow {
+        index,
+        fault: Fault::Hold(by),
+    }))
+}
+
+#[tactic(auto, unfolding(crate::specs::Form::fault_in))]
+fn read_fault(words: &[&[u8]]) -> Result<Line, ReadError>
+    ensures { Gives (λ l. l) result (forms.fault_in (map (λ w. w.now) words.now)) }
+{
     match words {
-        [call, order @ ..] => {
-            let order = read_order(order);
-            if let Err(ReadError::Fault(4)) = &order {
-                return Err(ReadError::Fault(4));
+        [_, kind, index] => {
+            let fault = read_short_fault(kind).ok_or(ReadError::Fault(4))?;
+            let index = read_u32(1, MOST_U32, index).ok_or(ReadError::Fault(5))?;
+            Ok(Line::Fault(FaultRow { index, fault }))
+        }
+        [_, kind, index, by] => {
+            if *kind == b"hold".as_slice() {
+                read_hold(index, by)
+            } else {
+                Err(ReadError::Fault(4))
             }
-            let call = number_between(1, MOST_U32, call)?;
-            Ok(Line::At {
-                call,
-                order: order?,
-            })
         }
-        [] => Err(ReadError::Fault(4)),
+        _ => Err(ReadError::Fault(4)),
     }
 }
 
-fn read_now(words: &[&[u8]]) -> Result<Line, ReadError> {
+#[tactic(auto, unfolding(crate::specs::Form::at_in))]
+fn read_at(words: &[&[u8]]) -> Result<Line, ReadError>
+    ensures { Gives (λ l. l) result (forms.at_in (map (λ w. w.now) words.now)) }
+{
     match words {
-        [b"clock"] => Ok(Line::NowClock),
-        [moment] => Ok(Line::Now(read_between(0, MOST_MOMENT, moment).ok_or(ReadError::Fault(5))?)),
+        [_, call, order @ ..] => {
+            let call = read_u32(1, MOST_U32, call);
+            match (call, read_order(order)) {
+                (Some(call), Ok(order)) => Ok(Line::At { call, order }),
+                (None, Ok(_)) => Err(ReadError::Fault(5)),
+                (Some(_), Err(error)) => Err(error),
+                (None, Err(ReadError::Memory)) => Err(ReadError::Memory),
+                (None, Err(ReadError::Fault(fault))) => Err(ReadError::Fault(fault.min(5))),
+            }
+        }
+        _ => Err(ReadError::Fault(4)),
+    }
+}
+
+fn read_order_line(words: &[&[u8]]) -> Result<Line, ReadError>
+    ensures { Gives (λ l. l) result (forms.order_line_in (map (λ w. w.now) words.now)) }
+{
+    let order = read_order(words)?;
+    Ok(Line::Order(order))
+}
+
+#[tactic(auto, unfolding(crate::specs::Form::now_in))]
+fn read_now(words: &[&[u8]]) -> Result<Line, ReadError>
+    ensures { Gives (λ l. l) result (forms.now_in (map (λ w. w.now) words.now)) }
+{
+    match words {
+        [_, word] => {
+            if *word == b"clock".as_slice() {
+                return Ok(Line::NowClock);
+            }
+            let moment = read_between(0, 9_223_372_036_854_775_807, word).ok_or(ReadError::Fault(
+                5,
+            ))?;
+            Ok(Line::Now(moment))
+        }
         _ => Err(ReadError::Fault(4)),
     }
 }

@@ -1,3 +1,6 @@
+ghost use Rattle.std.specs.Prelude.{◌≡◌};
+ghost use Rattle.mama_script.specs.Head as words;
+
 /// The first word of a line.
 #[derive(Clone, Copy, Debug, PartialEq, Eq)]
 pub enum Head {
@@ -13,7 +16,10 @@ pub enum Head {
     Inbox,
     Fault,
     At,
-    Order,
+    Stop,
+    Disarm,
+    Close,
+    Ask,
     Now,
 }
 
@@ -35,53 +41,126 @@ pub enum Place {
 }
 
 /// What a first word begins.
-pub fn read_head(word: &[u8]) -> Option<Head> {
-    match word {
-        b"queues" => Some(Head::Queues),
-        b"topic" => Some(Head::Topic),
-        b"publisher" => Some(Head::Publisher),
-        b"update" => Some(Head::Update),
-        b"recap" => Some(Head::Recap),
-        b"pause" => Some(Head::Pause),
-        b"client" => Some(Head::Client),
-        b"sub" => Some(Head::Sub),
-        b"timer" => Some(Head::Timer),
-        b"inbox" => Some(Head::Inbox),
-        b"fault" => Some(Head::Fault),
-        b"at" => Some(Head::At),
-        b"stop" | b"disarm" | b"close" | b"ask" => Some(Head::Order),
-        b"now" => Some(Head::Now),
-        _ => None,
+#[tactic(auto, unfolding(crate::specs::Head::head_in))]
+pub fn read_head(word: &[u8]) -> Option<Head>
+    ensures { result ≡ words.head_in word.now }
+{
+    if word == b"queues".as_slice() {
+        Some(Head::Queues)
+    } else if word == b"topic".as_slice() {
+        Some(Head::Topic)
+    } else if word == b"publisher".as_slice() {
+        Some(Head::Publisher)
+    } else if word == b"update".as_slice() {
+        Some(Head::Update)
+    } else if word == b"recap".as_slice() {
+        Some(Head::Recap)
+    } else if word == b"pause".as_slice() {
+        Some(Head::Pause)
+    } else if word == b"client".as_slice() {
+        Some(Head::Client)
+    } else if word == b"sub".as_slice() {
+        Some(Head::Sub)
+    } else if word == b"timer".as_slice() {
+        Some(Head::Timer)
+    } else if word == b"inbox".as_slice() {
+        Some(Head::Inbox)
+    } else if word == b"fault".as_slice() {
+        Some(Head::Fault)
+    } else if word == b"at".as_slice() {
+        Some(Head::At)
+    } else if word == b"stop".as_slice() {
+        Some(Head::Stop)
+    } else if word == b"disarm".as_slice() {
+        Some(Head::Disarm)
+    } else if word == b"close".as_slice() {
+        Some(Head::Close)
+    } else if word == b"ask".as_slice() {
+        Some(Head::Ask)
+    } else if word == b"now".as_slice() {
+        Some(Head::Now)
+    } else {
+        None
+    }
+}
+
+fn is_opening(head: Head) -> bool
+    ensures { result ≡ words.is_opening head }
+{
+    match head {
+        Head::Queues => true,
+        _ => false,
+    }
+}
+
+fn follows_topic(head: Head) -> bool
+    ensures { result ≡ words.follows_topic head }
+{
+    match head {
+        Head::Topic | Head::Publisher | Head::Client => true,
+        _ => false,
+    }
+}
+
+fn follows_publisher(head: Head) -> bool
+    ensures { result ≡ words.follows_publisher head }
+{
+    match head {
+        Head::Update | Head::Recap | Head::Pause | Head::Publisher | Head::Client => true,
+        _ => false,
+    }
+}
+
+fn follows_client(head: Head) -> bool
+    ensures { result ≡ words.follows_client head }
+{
+    match head {
+        Head::Sub | Head::Timer | Head::Inbox | Head::Stop | Head::Disarm | Head::Close => true,
+        Head::Ask | Head::Now | Head::Pause | Head::Client => true,
+        _ => false,
+    }
+}
+
+fn follows_plan(head: Head) -> bool
+    ensures { result ≡ words.follows_plan head }
+{
+    match head {
+        Head::At => true,
+        _ => follows_client(head),
+    }
+}
+
+fn follows_link(head: Head) -> bool
+    ensures { result ≡ words.follows_link head }
+{
+    match head {
+        Head::Fault => true,
+        _ => follows_plan(head),
     }
 }
 
 impl Place {
     /// Whether a line that begins so may stand here.
-    pub fn allows(self, head: Head) -> bool {
+    pub fn allows(self, head: Head) -> bool
+        ensures { result ≡ words.allows self head }
+    {
         match self {
-            Place::Start => head == Head::Queues,
-            Place::Topics => matches!(&head, Head::Topic | Head::Publisher | Head::Client),
-            Place::Publisher => {
-                matches!(
-                    &head,
-                    Head::Update | Head::Recap | Head::Pause | Head::Publisher | Head::Client
-                )
-            }
-            Place::Client => is_of_client(head),
-            Place::Linked => is_of_client(head) || head == Head::Fault || head == Head::At,
-            Place::Planned => is_of_client(head) || head == Head::At,
+            Place::Start => is_opening(head),
+            Place::Topics => follows_topic(head),
+            Place::Publisher => follows_publisher(head),
+            Place::Client => follows_client(head),
+            Place::Linked => follows_link(head),
+            Place::Planned => follows_plan(head),
         }
     }
 
     /// Whether a script may end here.
-    pub fn may_end(self) -> bool {
-        matches!(&self, Place::Client | Place::Linked | Place::Planned)
+    pub fn may_end(self) -> bool
+        ensures { result ≡ words.may_end self }
+    {
+        match self {
+            Place::Start | Place::Topics | Place::Publisher => false,
+            Place::Client | Place::Linked | Place::Planned => true,
+        }
     }
-}
-
-fn is_of_client(head: Head) -> bool {
-    matches!(
-        &head,
-        Head::Sub | Head::Timer | Head::Inbox | Head::Order | Head::Now | Head::Pause | Head::Client
-    )
 }

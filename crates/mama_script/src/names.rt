@@ -1,4 +1,6 @@
 //! The second look: whether the objects that lines name are in the script.
+ghost use Rattle.std.specs.Prelude.{◌≡◌, ◌<◌, ◌+◌, ◌^◌, length, IfOk, OnOk, OnErr, slice_get};
+ghost use Rattle.mama_script.specs.Names as names;
 
 use crate::line::Line;
 use mama_memory::OutOfMemory;
@@ -7,71 +9,130 @@ use std::alloc::Global;
 
 /// How many objects of each kind one client makes.
 #[derive(Clone, Copy, Debug, PartialEq, Eq)]
-struct Made {
-    subs: u64,
-    timers: u64,
-    inboxes: u64,
+pub struct Made {
+    pub subs: u64,
+    pub timers: u64,
+    pub inboxes: u64,
 }
 
 /// The number of the first line that names an object that is not in the script, if there is one. The first of the
 /// lines has the number 2.
-pub fn first_unnamed(alloc: Global, lines: &[Line]) -> Result<Option<u64>, OutOfMemory> {
+pub fn first_unnamed(alloc: Global, lines: &[Line]) -> Result<Option<u64>, OutOfMemory>
+    requires { length lines.now + 2 < 2 ^ 64 }
+    ensures { IfOk result (λ found. found ≡ names.unnamed_from (names.made_by lines.now) 2 lines.now) }
+{
     let made = made_by(alloc, lines)?;
-    let mut number = 2u64;
-    for line in lines {
-        let named = match line {
-            Line::At { call: _, order } => names(made.as_slice(), order),
-            Line::Order(order) => names(made.as_slice(), order),
-            _ => true,
-        };
-        if !named {
-            return Ok(Some(number));
-        }
-        number = number.saturating_add(1);
-    }
-    Ok(None)
+    Ok(unnamed(&made, lines))
 }
 
-fn made_by(alloc: Global, lines: &[Line]) -> Result<Vec<Made>, OutOfMemory> {
-    let mut all = Vec::new(alloc);
-    for line in lines {
-        match line {
-            Line::Client => all.push(Made {
-                subs: 0,
-                timers: 0,
-                inboxes: 0,
-            })?,
-            Line::Sub {
-                topic: _,
-                kind: _,
-                queue: _,
-                cache: _,
-                recaps: _,
-            } => {
-                if let Some(made) = all.last_mut() {
-                    made.subs = made.subs.saturating_add(1);
-                }
-            }
-            Line::Timer {
-                queue: _,
-                interval: _,
-            } => {
-                if let Some(made) = all.last_mut() {
-                    made.timers = made.timers.saturating_add(1);
-                }
-            }
-            Line::Inbox { queue: _ } => {
-                if let Some(made) = all.last_mut() {
-                    made.inboxes = made.inboxes.saturating_add(1);
-                }
-            }
-            _ => {}
+fn unnamed(made: &[Made], lines: &[Line]) -> Option<u64>
+    requires { length lines.now + 2 < 2 ^ 64 }
+    ensures { result ≡ names.unnamed_from made.now 2 lines.now }
+{
+    for (i, line) in lines.iter().enumerate() {
+        if !is_named(made, line) {
+            return Some(i as u64 + 2);
         }
     }
-    Ok(all)
+    None
 }
 
-fn names(made: &[Made], order: &OrderWord) -> bool {
+fn made_by(alloc: Global, lines: &[Line]) -> Result<Vec<Made>, OutOfMemory>
+    requires { length lines.now + 2 < 2 ^ 64 }
+    ensures { IfOk result (λ made. made.items ≡ names.made_by lines.now) }
+{
+    let mut made = Vec::new(alloc);
+    for line in lines {
+        make(&mut made, line)?;
+    }
+    Ok(made)
+}
+
+// What each client makes, with one line more.
+fn make(made: &mut Vec<Made>, line: &Line) -> Result<(), OutOfMemory>
+    ensures { OnOk result (made.new.items ≡ names.made_with made.old.items line.now) }
+{
+    match line {
+        Line::Client => Ok(made.push(Made {
+            subs: 0,
+            timers: 0,
+            inboxes: 0,
+        })?),
+        Line::Sub {
+            topic: _,
+            kind: _,
+            queue: _,
+            cache: _,
+            recaps: _,
+        } => add_sub(made),
+        Line::Timer {
+            queue: _,
+            interval: _,
+        } => add_timer(made),
+        Line::Inbox { queue: _ } => add_inbox(made),
+        _ => Ok(()),
+    }
+}
+
+#[tactic(auto, using(crate::proofs::Made::at_last_push))]
+fn add_sub(made: &mut Vec<Made>) -> Result<(), OutOfMemory>
+    ensures { OnOk result (made.new.items ≡ names.at_last names.with_sub made.old.items) }
+{
+    if let Some(last) = made.pop() {
+        let subs = last.subs.checked_add(1).ok_or(OutOfMemory)?;
+        made.push(Made {
+            subs,
+            timers: last.timers,
+            inboxes: last.inboxes,
+        })?;
+    }
+    Ok(())
+}
+
+#[tactic(auto, using(crate::proofs::Made::at_last_push))]
+fn add_timer(made: &mut Vec<Made>) -> Result<(), OutOfMemory>
+    ensures { OnOk result (made.new.items ≡ names.at_last names.with_timer made.old.items) }
+{
+    if let Some(last) = made.pop() {
+        let timers = last.timers.checked_add(1).ok_or(OutOfMemory)?;
+        made.push(Made {
+            subs: last.subs,
+            timers,
+            inboxes: last.inboxes,
+        })?;
+    }
+    Ok(())
+}
+
+#[tactic(auto, using(crate::proofs::Made::at_last_push))]
+fn add_inbox(made: &mut Vec<Made>) -> Result<(), OutOfMemory>
+    ensures { OnOk result (made.new.items ≡ names.at_last names.with_inbox made.old.items) }
+{
+    if let Some(last) = made.pop() {
+        let inboxes = last.inboxes.checked_add(1).ok_or(OutOfMemory)?;
+        made.push(Made {
+            subs: last.subs,
+            timers: last.timers,
+            inboxes,
+        })?;
+    }
+    Ok(())
+}
+
+// Whether the object that a line names, if it names one, is in the script.
+fn is_named(made: &[Made], line: &Line) -> bool
+    ensures { result ≡ names.is_named made.now line.now }
+{
+    match line {
+        Line::At { call: _, order } => is_order_named(made, order),
+        Line::Order(order) => is_order_named(made, order),
+        _ => true,
+    }
+}
+
+fn is_order_named(made: &[Made], order: &OrderWord) -> bool
+    ensures { result ≡ names.is_order_named made.now order.now }
+{
     match order {
         OrderWord::Stop(id) => match made_of(made, *id) {
             Some(made) => id.number < made.subs,
@@ -96,9 +157,11 @@ fn names(made: &[Made], order: &OrderWord) -> bool {
     }
 }
 
-fn made_of(made: &[Made], id: IdWord) -> Option<Made> {
+fn made_of(made: &[Made], id: IdWord) -> Option<Made>
+    ensures { result ≡ slice_get made.now id.client }
+{
     if id.client < made.len() as u64 {
-        made.get(id.client as usize).copied()
+        Some(made[id.client as usize])
     } else {
         None
     }

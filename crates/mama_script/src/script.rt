@@ -1,10 +1,11 @@
 use crate::client::ClientLines;
 use crate::publisher::PublisherPart;
+use crate::tree::Parts;
 use mama_event::Shape;
 use mama_msg::TextValue;
 use std::marker::Model;
 
-/// A script: how many actors there are, and what each does.
+/// A script: how many actors there are, and what each does. It always is the value of a text that is accepted.
 #[derive(Drop)]
 pub struct Script {
     shape: Shape,
@@ -18,21 +19,30 @@ impl Model for Script {
 
     ghost Value = { ScriptData };
 
+    ghost use Rattle.mama_script.specs.Tree.{IsScript};
+
     ghost view = { λ s. record { shape = s.shape; topics = s.topics.items; publishers = s.publishers.items; clients = s.clients.items } };
+
+    ghost invariant = { λ s. IsScript (record { shape = s.shape; topics = s.topics.items; publishers = s.publishers.items; clients = s.clients.items }) };
 }
 
 impl Script {
     ghost use Rattle.std.specs.Prelude.{◌≡◌};
+    ghost use Rattle.mama_script.specs.Taken.{script_of_parts};
+    ghost use Rattle.mama_script.specs.Tree.{IsScript};
+    ghost use Rattle.mama_script.specs.Within.{IsWithin};
 
     // The script of these parts, which an accepted text says.
-    pub(crate) fn new(
-        shape: Shape,
-        topics: Vec<TextValue>,
-        publishers: Vec<PublisherPart>,
-        clients: Vec<ClientLines>,
-    ) -> Script
-        ensures { result ≡ record { shape = shape; topics = topics.items; publishers = publishers.items; clients = clients.items } }
+    pub(crate) fn new(parts: Parts) -> Script
+        requires { IsScript (script_of_parts parts) }
+        ensures { result ≡ script_of_parts parts }
     {
+        let Parts {
+            shape,
+            topics,
+            publishers,
+            clients,
+        } = parts;
         Script {
             shape,
             topics,
@@ -41,9 +51,12 @@ impl Script {
         }
     }
 
-    /// How many actors of each kind there are, and the topic of each publisher.
+    /// How many actors of each kind there are, and the topic of each publisher. A script is one that a text spells: the
+    /// topics, queues and objects that its lines name are there, and its counts are within the limits.
     pub fn shape(&self) -> &Shape
-        ensures { result.now ≡ self.now.shape }
+        ensures value { result.now ≡ self.now.shape }
+        ensures script { IsScript self.now }
+        ensures within { IsWithin self.now }
     {
         &self.shape
     }

@@ -1,0 +1,304 @@
+-- What is read as a line is so spelled.
+use Rattle.std.proofs.Common.{◌≡◌, ℕ, ◌≤◌, true, cond, List, [], ◌∷◌, length, Option, Some, None, Ok, refl, sym, ap, subst, ◌∙◌, inl, inr}
+use Rattle.std.specs.Prelude.{◌==◌, option_map, codes}
+use Rattle.std.specs.Str.{bytes_eq}
+use Rattle.mama_edge.specs.Decimal.{decimal}
+use Rattle.mama_link.specs.declared.faults.Fault.{Fault}
+use Rattle.mama_link.specs.declared.faults.Fault.TheVariants.{Lose, Dup, Hold}
+use Rattle.mama_words.specs.declared.order.OrderWord.{OrderWord}
+use Rattle.mama_words.specs.declared.order.OrderWord.TheVariants as orders
+use Rattle.mama_words.specs.Reading.{◌>>=◌, or_fault, both}
+use Rattle.mama_words.specs.Parting.{parted_in}
+use Rattle.mama_words.specs.Number.{number_in, between_in}
+use Rattle.mama_words.specs.Kind.{sub_kind_in, sub_kind_text}
+use Rattle.mama_words.specs.Value.{text_in}
+use Rattle.mama_words.specs.Field.{message_in}
+use Rattle.mama_words.specs.Order.{order_in, order_words}
+use Rattle.mama_words.specs.Sentence.{sentence}
+use Rattle.mama_words.proofs.Choices.{some_is, ok_is, chosen, chosen_some, guard_bad, guard_step, bind_ok, or_fault_ok, step_ok, both_ok, map_some, same_text}
+use Rattle.mama_words.proofs.Numbers.{number_in_found}
+use Rattle.mama_words.proofs.KindLaws.{sub_kind_found}
+use Rattle.mama_words.proofs.ValueLaws.{text_found}
+use Rattle.mama_words.proofs.FieldLaws.{message_found}
+use Rattle.mama_words.proofs.OrderLaws.{order_found}
+use Rattle.mama_words.proofs.Sentences.{parted_found}
+use Rattle.mama_script.specs.declared.head.Head.{Head}
+use Rattle.mama_script.specs.declared.head.Head.TheVariants as heads
+use Rattle.mama_script.specs.declared.head.Place.{Place}
+use Rattle.mama_script.specs.declared.line.QueueName.{QueueName}
+use Rattle.mama_script.specs.declared.line.QueueName.TheVariants.{Number, Any}
+use Rattle.mama_script.specs.declared.line.Line.{Line}
+use Rattle.mama_script.specs.declared.line.Line.TheVariants as lines
+use Rattle.mama_script.specs.Head.{head_text, head_in, allows}
+use Rattle.mama_script.specs.Line.{queue_text, line_words, line_text, head_of, head_of_order, IsQueueName, IsLine}
+use Rattle.mama_script.specs.Form.{queue_in, count_in, queues_in, topic_or_fault, topic_in, publisher_in, update_in, alone_in, pause_in, sub_in, timer_in, inbox_in, short_fault_in, hold_in, fault_in, at_in, order_line_in, now_in, body_in, head_at, form_in}
+use Rattle.mama_script.proofs.Heads.{head_again, head_at_found, between_found}
+
+-- a line with this head, whose other words are these
+pub record Spelled (head : Head) (rest : List (List ℕ)) (l : Line) : Type 0 where
+  pub fits : IsLine l
+  pub head_is : head_of l ≡ head
+  pub words_are : head_text head ∷ rest ≡ line_words l
+
+abbrev option_number : Option ℕ → Option QueueName
+option_number o = option_map (λ (n : ℕ). Number n) o
+
+queue_found : (word : List ℕ) (q : QueueName) → queue_in word ≡ Some q → IsQueueName q × (word ≡ queue_text q)
+unfolding queue_in
+queue_found word q e =
+    elim (chosen (bytes_eq word (codes "any")) (Some Any) (option_number (number_in word)) (Some q) e) [
+      | inl p ↦ subst (λ (x : QueueName). IsQueueName x × (word ≡ queue_text x)) (some_is Any q p.1) (tt, same_text word (codes "any") p.0)
+      | inr p ↦
+          let m = map_some (λ (n : ℕ). Number n) (number_in word) q p.1 in
+          let n = number_in_found word m.0 m.1 in
+          subst (λ (x : QueueName). IsQueueName x × (word ≡ queue_text x)) m.2 (n.0, n.1)
+    ]
+
+queues_found : (rest : List (List ℕ)) (l : Line) → queues_in (head_text heads.Queues ∷ rest) ≡ Ok l → Spelled heads.Queues rest l
+unfolding queues_in
+queues_found [] l e = absurd cc
+queues_found (w ∷ []) l e =
+    let p = step_ok 5 (between_in 1 18446744073709551615 w) _ l e in
+    let f = between_found 1 18446744073709551615 w p.0 p.1 in
+    subst (λ (x : Line). Spelled heads.Queues (w ∷ []) x) (ok_is (lines.Queues p.0) l p.2)
+    (record { fits = (f.low, f.small); head_is = refl; words_are = ap (λ (x : List ℕ). codes "queues" ∷ x ∷ []) f.text_is })
+queues_found (a ∷ b ∷ ws) l e = absurd cc
+
+topic_found : (rest : List (List ℕ)) (l : Line) → topic_in (head_text heads.Topic ∷ rest) ≡ Ok l → Spelled heads.Topic rest l
+unfolding topic_in
+topic_found [] l e = absurd cc
+topic_found (w ∷ []) l e =
+    let p = step_ok 6 (text_in w) topic_or_fault l e in
+    let q = guard_bad (length p.0 == 0) 6 (lines.Topic p.0) l p.2 in
+    let f = text_found w p.0 p.1 in
+    subst (λ (x : Line). Spelled heads.Topic (w ∷ []) x) q.1
+    (record { fits = (f.0, q.0); head_is = refl; words_are = ap (λ (x : List ℕ). codes "topic" ∷ x ∷ []) f.1 })
+topic_found (a ∷ b ∷ ws) l e = absurd cc
+
+publisher_found : (rest : List (List ℕ)) (l : Line) → publisher_in (head_text heads.Publisher ∷ rest) ≡ Ok l → Spelled heads.Publisher rest l
+unfolding publisher_in
+publisher_found [] l e = absurd cc
+publisher_found (t ∷ fields) l e =
+    let p = step_ok 5 (number_in t) _ l e in
+    let q = bind_ok (message_in fields) _ l p.2 in
+    let n = number_in_found t p.0 p.1 in
+    let m = message_found fields q.0 q.1 in
+    subst (λ (x : Line). Spelled heads.Publisher (t ∷ fields) x) (ok_is (lines.Publisher p.0 q.0) l q.2)
+    (record { fits = (n.0, m.0); head_is = refl; words_are = ap (λ (x : List ℕ). codes "publisher" ∷ x ∷ fields) n.1 ∙ ap (λ (x : List (List ℕ)). codes "publisher" ∷ decimal p.0 ∷ x) m.1 })
+
+update_found : (rest : List (List ℕ)) (l : Line) → update_in (head_text heads.Update ∷ rest) ≡ Ok l → Spelled heads.Update rest l
+unfolding update_in
+update_found fields l e =
+    let q = bind_ok (message_in fields) _ l e in
+    let m = message_found fields q.0 q.1 in
+    subst (λ (x : Line). Spelled heads.Update fields x) (ok_is (lines.Update q.0) l q.2)
+    (record { fits = m.0; head_is = refl; words_are = ap (λ (x : List (List ℕ)). codes "update" ∷ x) m.1 })
+
+recap_found : (rest : List (List ℕ)) (l : Line) → alone_in lines.Recap (head_text heads.Recap ∷ rest) ≡ Ok l → Spelled heads.Recap rest l
+unfolding alone_in
+recap_found [] l e = subst (λ (x : Line). Spelled heads.Recap [] x) (ok_is lines.Recap l e) (record { fits = tt; head_is = refl; words_are = refl })
+recap_found (a ∷ ws) l e = absurd cc
+
+client_found : (rest : List (List ℕ)) (l : Line) → alone_in lines.Client (head_text heads.Client ∷ rest) ≡ Ok l → Spelled heads.Client rest l
+unfolding alone_in
+client_found [] l e = subst (λ (x : Line). Spelled heads.Client [] x) (ok_is lines.Client l e) (record { fits = tt; head_is = refl; words_are = refl })
+client_found (a ∷ ws) l e = absurd cc
+
+pause_found : (rest : List (List ℕ)) (l : Line) → pause_in (head_text heads.Pause ∷ rest) ≡ Ok l → Spelled heads.Pause rest l
+unfolding pause_in
+pause_found [] l e = absurd cc
+pause_found (w ∷ []) l e =
+    let p = step_ok 5 (between_in 1 1000000 w) _ l e in
+    let f = between_found 1 1000000 w p.0 p.1 in
+    subst (λ (x : Line). Spelled heads.Pause (w ∷ []) x) (ok_is (lines.Pause p.0) l p.2)
+    (record { fits = (f.low, f.high); head_is = refl; words_are = ap (λ (x : List ℕ). codes "pause" ∷ x ∷ []) f.text_is })
+pause_found (a ∷ b ∷ ws) l e = absurd cc
+
+same_five : (h a b c d e f g i j k : List ℕ) → a ≡ b → c ≡ d → e ≡ f → g ≡ i → j ≡ k → h ∷ a ∷ c ∷ e ∷ g ∷ j ∷ [] ≡ h ∷ b ∷ d ∷ f ∷ i ∷ k ∷ []
+same_five h a b c d e f g i j k p q r s t = cc
+
+sub_found : (rest : List (List ℕ)) (l : Line) → sub_in (head_text heads.Sub ∷ rest) ≡ Ok l → Spelled heads.Sub rest l
+unfolding sub_in
+sub_found [] l e = absurd cc
+sub_found (a ∷ []) l e = absurd cc
+sub_found (a ∷ b ∷ []) l e = absurd cc
+sub_found (a ∷ b ∷ c ∷ []) l e = absurd cc
+sub_found (a ∷ b ∷ c ∷ d ∷ []) l e = absurd cc
+sub_found (topic ∷ kind ∷ queue ∷ cache ∷ recaps ∷ []) l e =
+    let k = step_ok 4 (sub_kind_in kind) _ l e in
+    let t = step_ok 5 (number_in topic) _ l k.2 in
+    let q = step_ok 5 (queue_in queue) _ l t.2 in
+    let c = step_ok 5 (between_in 0 4096 cache) _ l q.2 in
+    let r = step_ok 5 (between_in 0 1000000 recaps) _ l c.2 in
+    let kind_is = sub_kind_found kind k.0 k.1 in
+    let topic_is = number_in_found topic t.0 t.1 in
+    let queue_is = queue_found queue q.0 q.1 in
+    let cache_is = between_found 0 4096 cache c.0 c.1 in
+    let recaps_is = between_found 0 1000000 recaps r.0 r.1 in
+    let made : Line = lines.Sub t.0 k.0 q.0 c.0 r.0 in
+    let same : head_text heads.Sub ∷ topic ∷ kind ∷ queue ∷ cache ∷ recaps ∷ [] ≡ line_words made = same_five (codes "sub") topic (decimal t.0) kind (sub_kind_text k.0) queue (queue_text q.0) cache (decimal c.0) recaps (decimal r.0) topic_is.1 kind_is queue_is.1 cache_is.text_is recaps_is.text_is in
+    subst (λ (x : Line). Spelled heads.Sub (topic ∷ kind ∷ queue ∷ cache ∷ recaps ∷ []) x) (ok_is made l r.2)
+    (record { fits = (topic_is.0, queue_is.0, cache_is.high, recaps_is.high); head_is = refl; words_are = same })
+sub_found (a ∷ b ∷ c ∷ d ∷ f ∷ g ∷ ws) l e = absurd cc
+
+same_two : (h a b c d : List ℕ) → a ≡ b → c ≡ d → h ∷ a ∷ c ∷ [] ≡ h ∷ b ∷ d ∷ []
+same_two h a b c d p q = cc
+
+timer_found : (rest : List (List ℕ)) (l : Line) → timer_in (head_text heads.Timer ∷ rest) ≡ Ok l → Spelled heads.Timer rest l
+unfolding timer_in
+timer_found [] l e = absurd cc
+timer_found (a ∷ []) l e = absurd cc
+timer_found (queue ∷ interval ∷ []) l e =
+    let q = step_ok 5 (queue_in queue) _ l e in
+    let i = step_ok 5 (between_in 0 4294967295 interval) _ l q.2 in
+    let queue_is = queue_found queue q.0 q.1 in
+    let interval_is = between_found 0 4294967295 interval i.0 i.1 in
+    subst (λ (x : Line). Spelled heads.Timer (queue ∷ interval ∷ []) x) (ok_is (lines.Timer q.0 i.0) l i.2)
+    (record { fits = (queue_is.0, interval_is.high); head_is = refl; words_are = same_two (codes "timer") queue (queue_text q.0) interval (decimal i.0) queue_is.1 interval_is.text_is })
+timer_found (a ∷ b ∷ c ∷ ws) l e = absurd cc
+
+inbox_found : (rest : List (List ℕ)) (l : Line) → inbox_in (head_text heads.Inbox ∷ rest) ≡ Ok l → Spelled heads.Inbox rest l
+unfolding inbox_in
+inbox_found [] l e = absurd cc
+inbox_found (queue ∷ []) l e =
+    let q = step_ok 5 (queue_in queue) _ l e in
+    let queue_is = queue_found queue q.0 q.1 in
+    subst (λ (x : Line). Spelled heads.Inbox (queue ∷ []) x) (ok_is (lines.Inbox q.0) l q.2)
+    (record { fits = queue_is.0; head_is = refl; words_are = ap (λ (x : List ℕ). codes "inbox" ∷ x ∷ []) queue_is.1 })
+inbox_found (a ∷ b ∷ ws) l e = absurd cc
+
+-- the word of a fault of two words
+abbrev short_text : Fault → List ℕ
+short_text Lose = codes "lose"
+short_text Dup = codes "dup"
+short_text (Hold by) = []
+
+-- such a fault
+abbrev IsShort : Fault → Type 0
+IsShort Lose = Unit {0}
+IsShort Dup = Unit {0}
+IsShort (Hold by) = ⊥
+
+short_found : (word : List ℕ) (fault : Fault) → short_fault_in word ≡ Some fault → IsShort fault × (word ≡ short_text fault)
+unfolding short_fault_in
+short_found word fault e =
+    elim (chosen (bytes_eq word (codes "lose")) (Some Lose) (cond (bytes_eq word (codes "dup")) (Some Dup) None) (Some fault) e) [
+      | inl p ↦ subst (λ (x : Fault). IsShort x × (word ≡ short_text x)) (some_is Lose fault p.1) (tt, same_text word (codes "lose") p.0)
+      | inr p ↦
+          let q = chosen_some (bytes_eq word (codes "dup")) Dup fault p.1 in
+          subst (λ (x : Fault). IsShort x × (word ≡ short_text x)) q.1 (tt, same_text word (codes "dup") q.0)
+    ]
+
+short_row : (word index : List ℕ) (fault : Fault) (i : ℕ) → IsShort fault → word ≡ short_text fault → index ≡ decimal i → 1 ≤ i → i ≤ 4294967295 → Spelled heads.Fault (word ∷ index ∷ []) (lines.Fault (record { index = i; fault = fault }))
+short_row word index Lose i short w n low high = record { fits = (low, high, tt); head_is = refl; words_are = same_two (codes "fault") word (codes "lose") index (decimal i) w n }
+short_row word index Dup i short w n low high = record { fits = (low, high, tt); head_is = refl; words_are = same_two (codes "fault") word (codes "dup") index (decimal i) w n }
+short_row word index (Hold by) i short w n low high = absurd short
+
+same_three : (h a b c d e f : List ℕ) → a ≡ b → c ≡ d → e ≡ f → h ∷ a ∷ c ∷ e ∷ [] ≡ h ∷ b ∷ d ∷ f ∷ []
+same_three h a b c d e f p q r = cc
+
+hold_found : (word index by : List ℕ) (l : Line) → word ≡ codes "hold" → hold_in index by ≡ Ok l → Spelled heads.Fault (word ∷ index ∷ by ∷ []) l
+unfolding hold_in
+hold_found word index by l w e =
+    let i = step_ok 5 (count_in index) _ l e in
+    let b = step_ok 5 (count_in by) _ l i.2 in
+    let index_is = between_found 1 4294967295 index i.0 i.1 in
+    let by_is = between_found 1 4294967295 by b.0 b.1 in
+    subst (λ (x : Line). Spelled heads.Fault (word ∷ index ∷ by ∷ []) x) (ok_is (lines.Fault (record { index = i.0; fault = Hold b.0 })) l b.2)
+    (record { fits = (index_is.low, index_is.high, (by_is.low, by_is.high)); head_is = refl; words_are = same_three (codes "fault") word (codes "hold") index (decimal i.0) by (decimal b.0) w index_is.text_is by_is.text_is })
+
+fault_found : (rest : List (List ℕ)) (l : Line) → fault_in (head_text heads.Fault ∷ rest) ≡ Ok l → Spelled heads.Fault rest l
+unfolding fault_in
+fault_found [] l e = absurd cc
+fault_found (a ∷ []) l e = absurd cc
+fault_found (word ∷ index ∷ []) l e =
+    let f = step_ok 4 (short_fault_in word) _ l e in
+    let i = step_ok 5 (count_in index) _ l f.2 in
+    let fault_is = short_found word f.0 f.1 in
+    let index_is = between_found 1 4294967295 index i.0 i.1 in
+    subst (λ (x : Line). Spelled heads.Fault (word ∷ index ∷ []) x) (ok_is (lines.Fault (record { index = i.0; fault = f.0 })) l i.2)
+    (short_row word index f.0 i.0 fault_is.0 fault_is.1 index_is.text_is index_is.low index_is.high)
+fault_found (word ∷ index ∷ by ∷ []) l e =
+    let p = guard_step (bytes_eq word (codes "hold")) 4 (hold_in index by) l e in
+    hold_found word index by l (same_text word (codes "hold") p.0) p.1
+fault_found (a ∷ b ∷ c ∷ d ∷ ws) l e = absurd cc
+
+at_found : (rest : List (List ℕ)) (l : Line) → at_in (head_text heads.At ∷ rest) ≡ Ok l → Spelled heads.At rest l
+unfolding at_in
+at_found [] l e = absurd cc
+at_found (call ∷ order) l e =
+    let p = bind_ok (both (or_fault 5 (count_in call)) (order_in order)) _ l e in
+    let q = both_ok (or_fault 5 (count_in call)) (order_in order) p.0 p.1 in
+    let call_is = between_found 1 4294967295 call p.0.0 (or_fault_ok 5 (count_in call) p.0.0 q.0) in
+    let order_is = order_found order p.0.1 q.1 in
+    subst (λ (x : Line). Spelled heads.At (call ∷ order) x) (ok_is (lines.At p.0.0 p.0.1) l p.2)
+    (record { fits = (call_is.low, call_is.high, order_is.0); head_is = refl; words_are = ap (λ (x : List ℕ). codes "at" ∷ x ∷ order) call_is.text_is ∙ ap (λ (x : List (List ℕ)). codes "at" ∷ decimal p.0.0 ∷ x) order_is.1 })
+
+now_found : (rest : List (List ℕ)) (l : Line) → now_in (head_text heads.Now ∷ rest) ≡ Ok l → Spelled heads.Now rest l
+unfolding now_in
+now_found [] l e = absurd cc
+now_found (w ∷ []) l e =
+    elim (chosen (bytes_eq w (codes "clock")) (Ok lines.NowClock) (or_fault 5 (between_in 0 9223372036854775807 w) >>= λ moment. Ok (lines.Now moment)) (Ok l) e) [
+      | inl p ↦ subst (λ (x : Line). Spelled heads.Now (w ∷ []) x) (ok_is lines.NowClock l p.1) (record { fits = tt; head_is = refl; words_are = ap (λ (x : List ℕ). codes "now" ∷ x ∷ []) (same_text w (codes "clock") p.0) })
+      | inr p ↦
+          let q = step_ok 5 (between_in 0 9223372036854775807 w) _ l p.1 in
+          let f = between_found 0 9223372036854775807 w q.0 q.1 in
+          subst (λ (x : Line). Spelled heads.Now (w ∷ []) x) (ok_is (lines.Now q.0) l q.2) (record { fits = f.high; head_is = refl; words_are = ap (λ (x : List ℕ). codes "now" ∷ x ∷ []) f.text_is })
+    ]
+now_found (a ∷ b ∷ ws) l e = absurd cc
+
+-- an order whose words begin with the word of a head has that head
+order_head : (o : OrderWord) (head : Head) (rest : List (List ℕ)) → head_text head ∷ rest ≡ order_words o → head_text head ≡ head_text (head_of_order o)
+order_head (orders.Stop id) head rest e = cc
+order_head (orders.Disarm id) head rest e = cc
+order_head (orders.Close id) head rest e = cc
+order_head (orders.Ask id topic fids) head rest e = cc
+
+same_head : (a b : Head) → head_text a ≡ head_text b → a ≡ b
+same_head a b e = some_is a b (sym (head_again a) ∙ ap head_in e ∙ head_again b)
+
+order_line_found : (head : Head) (rest : List (List ℕ)) (l : Line) → order_line_in (head_text head ∷ rest) ≡ Ok l → Spelled head rest l
+order_line_found head rest l e =
+    let p = bind_ok (order_in (head_text head ∷ rest)) _ l e in
+    let f = order_found (head_text head ∷ rest) p.0 p.1 in
+    let same : head_of_order p.0 ≡ head = sym (same_head head (head_of_order p.0) (order_head p.0 head rest f.1)) in
+    subst (λ (x : Line). Spelled head rest x) (ok_is (lines.Order p.0) l p.2) (record { fits = f.0; head_is = same; words_are = f.1 })
+
+body_found : (head : Head) (rest : List (List ℕ)) (l : Line) → body_in head (head_text head ∷ rest) ≡ Ok l → Spelled head rest l
+body_found heads.Queues rest l e = queues_found rest l e
+body_found heads.Topic rest l e = topic_found rest l e
+body_found heads.Publisher rest l e = publisher_found rest l e
+body_found heads.Update rest l e = update_found rest l e
+body_found heads.Recap rest l e = recap_found rest l e
+body_found heads.Pause rest l e = pause_found rest l e
+body_found heads.Client rest l e = client_found rest l e
+body_found heads.Sub rest l e = sub_found rest l e
+body_found heads.Timer rest l e = timer_found rest l e
+body_found heads.Inbox rest l e = inbox_found rest l e
+body_found heads.Fault rest l e = fault_found rest l e
+body_found heads.At rest l e = at_found rest l e
+body_found heads.Stop rest l e = order_line_found heads.Stop rest l e
+body_found heads.Disarm rest l e = order_line_found heads.Disarm rest l e
+body_found heads.Close rest l e = order_line_found heads.Close rest l e
+body_found heads.Ask rest l e = order_line_found heads.Ask rest l e
+body_found heads.Now rest l e = now_found rest l e
+
+-- a line that is read at a place
+pub record IsRead (place : Place) (text : List ℕ) (l : Line) : Type 0 where
+  pub fits : IsLine l
+  pub stands : allows place (head_of l) ≡ true
+  pub text_is : text ≡ line_text l
+
+pub form_found : (place : Place) (text : List ℕ) (l : Line) → form_in place text ≡ Ok l → IsRead place text l
+unfolding form_in
+form_found place text l e =
+    let w = step_ok 2 (parted_in text) _ l e in
+    let h = step_ok 3 (head_at place w.0) _ l w.2 in
+    let b = head_at_found place w.0 h.0 h.1 in
+    let body : body_in h.0 (head_text h.0 ∷ b.rest) ≡ Ok l = sym (ap (body_in h.0) b.words_are) ∙ h.2 in
+    let s = body_found h.0 b.rest l body in
+    record {
+      fits = s.fits;
+      stands = ap (allows place) s.head_is ∙ b.stands;
+      text_is = parted_found text w.0 w.1 ∙ ap sentence (b.words_are ∙ s.words_are);
+    }

@@ -1,0 +1,113 @@
+-- First words: what is read begins so, and numbers between two bounds.
+use Rattle.std.proofs.Common.{◌≡◌, ℕ, ◌<◌, ◌≤◌, ◌^◌, Bool, true, false, cond, ltb, List, [], ◌∷◌, Option, Some, None, refl, sym, ap, subst, ◌∙◌, inl, inr, arith}
+use Rattle.std.specs.Str.{bytes_eq}
+use Rattle.std.proofs.lemmas.Bool.{ltb-false, le-ltb}
+use Rattle.mama_edge.specs.Decimal.{decimal}
+use Rattle.mama_words.specs.Number.{number_in, between_in, if_between}
+use Rattle.mama_words.proofs.Choices.{some_is, chosen, chosen_some, chosen_other, same_text}
+use Rattle.mama_words.proofs.Cutting.{lacks}
+use Rattle.mama_words.proofs.Numbers.{number_in_again, number_in_found}
+use Rattle.mama_script.specs.declared.head.Head.{Head}
+use Rattle.mama_script.specs.declared.head.Head.TheVariants as heads
+use Rattle.mama_script.specs.declared.head.Place.{Place}
+use Rattle.mama_script.specs.Head.{head_text, head_in, allows}
+use Rattle.mama_script.specs.Form.{if_allowed, head_at}
+
+-- one word of a list of words: the word is this one, or the rest decides
+pub one_of : {K : Type 0} (text : K → List ℕ) (word : List ℕ) (k x : K) (rest : Option K) → (rest ≡ Some x → word ≡ text x) → cond (bytes_eq word (text k)) (Some k) rest ≡ Some x → word ≡ text x
+one_of {K} text word k x rest more e =
+    elim (chosen (bytes_eq word (text k)) (Some k) rest (Some x) e) [
+      | inl p ↦ subst (λ (y : K). word ≡ text y) (some_is k x p.1) (same_text word (text k) p.0)
+      | inr p ↦ more p.1
+    ]
+
+pub none_of : {K : Type 0} (text : K → List ℕ) (word : List ℕ) (x : K) → None ≡ Some x → word ≡ text x
+none_of text word x e = absurd cc
+
+pub head_again : (h : Head) → head_in (head_text h) ≡ Some h
+unfolding head_in
+head_again heads.Queues = refl
+head_again heads.Topic = refl
+head_again heads.Publisher = refl
+head_again heads.Update = refl
+head_again heads.Recap = refl
+head_again heads.Pause = refl
+head_again heads.Client = refl
+head_again heads.Sub = refl
+head_again heads.Timer = refl
+head_again heads.Inbox = refl
+head_again heads.Fault = refl
+head_again heads.At = refl
+head_again heads.Stop = refl
+head_again heads.Disarm = refl
+head_again heads.Close = refl
+head_again heads.Ask = refl
+head_again heads.Now = refl
+
+pub head_found : (word : List ℕ) (h : Head) → head_in word ≡ Some h → word ≡ head_text h
+unfolding head_in
+head_found word h =
+    one_of head_text word heads.Queues h _ (one_of head_text word heads.Topic h _ (one_of head_text word heads.Publisher h _ (one_of head_text word heads.Update h _
+    (one_of head_text word heads.Recap h _ (one_of head_text word heads.Pause h _ (one_of head_text word heads.Client h _ (one_of head_text word heads.Sub h _
+    (one_of head_text word heads.Timer h _ (one_of head_text word heads.Inbox h _ (one_of head_text word heads.Fault h _ (one_of head_text word heads.At h _
+    (one_of head_text word heads.Stop h _ (one_of head_text word heads.Disarm h _ (one_of head_text word heads.Close h _ (one_of head_text word heads.Ask h _
+    (one_of head_text word heads.Now h _ (none_of head_text word h)))))))))))))))))
+
+-- a head that may stand at a place begins the words
+pub record Begins (place : Place) (words : List (List ℕ)) (h : Head) : Type 0 where
+  pub rest : List (List ℕ)
+  pub words_are : words ≡ head_text h ∷ rest
+  pub stands : allows place h ≡ true
+
+allowed_found : (place : Place) (word : List ℕ) (rest : List (List ℕ)) (o : Option Head) (h : Head) → head_in word ≡ o → if_allowed place o ≡ Some h → Begins place (word ∷ rest) h
+allowed_found place word rest None h read e = absurd cc
+allowed_found place word rest (Some k) h read e =
+    let p = chosen_some (allows place k) k h e in
+    let same : head_in word ≡ Some h = read ∙ ap (λ (x : Head). Some x) p.1 in
+    record {
+      rest = rest;
+      words_are = ap (λ (w : List ℕ). w ∷ rest) (head_found word h same);
+      stands = subst (λ (x : Head). allows place x ≡ true) p.1 p.0;
+    }
+
+pub head_at_found : (place : Place) (words : List (List ℕ)) (h : Head) → head_at place words ≡ Some h → Begins place words h
+head_at_found place [] h e = absurd cc
+head_at_found place (word ∷ rest) h e = allowed_found place word rest (head_in word) h refl e
+
+pub head_at_again : (place : Place) (h : Head) (rest : List (List ℕ)) → allows place h ≡ true → head_at place (head_text h ∷ rest) ≡ Some h
+head_at_again place h rest stands = ap (if_allowed place) (head_again h) ∙ rw stands refl
+
+between_some : (low high : ℕ) (o : Option ℕ) (n : ℕ) → if_between low high o ≡ Some n → (low ≤ n) × (n ≤ high) × (o ≡ Some n)
+between_some low high None n e = absurd cc
+between_some low high (Some k) n e =
+    let p = chosen_other (ltb k low) (cond (ltb high k) None (Some k)) n e in
+    let q = chosen_other (ltb high k) (Some k) n p.1 in
+    let same : k ≡ n = some_is k n q.1 in
+    let a = ltb-false k low p.0 in
+    let b = ltb-false high k q.0 in
+    (omega arith, omega arith, q.1)
+
+-- what a number between two bounds is
+pub record IsBetween (least most : ℕ) (text : List ℕ) (n : ℕ) : Type 0 where
+  pub low : least ≤ n
+  pub high : n ≤ most
+  pub small : n < 2 ^ 64
+  pub text_is : text ≡ decimal n
+
+pub between_found : (low high : ℕ) (text : List ℕ) (n : ℕ) → between_in low high text ≡ Some n → IsBetween low high text n
+between_found low high text n e =
+    let p = between_some low high (number_in text) n e in
+    let q = number_in_found text n p.2 in
+    record { low = p.0; high = p.1; small = q.0; text_is = q.1 }
+
+pub between_again : (low high n : ℕ) → low ≤ n → n ≤ high → n < 2 ^ 64 → between_in low high (decimal n) ≡ Some n
+between_again low high n a b small = rw (number_in_again n small, le-ltb n low a, le-ltb high n b) refl
+
+never_true : (b : Bool) → (b ≡ true → ⊥) → b ≡ false
+never_true true h = absurd (h refl)
+never_true false h = refl
+
+-- a number is spelled as no word that has a byte which no number has
+pub decimal_is_no_word : (c n : ℕ) (word : List ℕ) → lacks c (decimal n) ≡ false → lacks c word ≡ true → bytes_eq (decimal n) word ≡ false
+decimal_is_no_word c n word lacking there = never_true (bytes_eq (decimal n) word) (λ same.
+    let e : false ≡ true = sym lacking ∙ ap (lacks c) (same_text (decimal n) word same) ∙ there in cc)

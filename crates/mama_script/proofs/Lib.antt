@@ -1,0 +1,13 @@
+pub mod Heads
+pub mod FormFound
+pub mod FormAgain
+pub mod Whole
+pub mod Loop
+pub mod Made
+pub mod Texts
+pub mod Sections
+pub mod Parsed
+pub mod Firsts
+pub mod Counts
+pub mod Naming
+pub mod Keeping

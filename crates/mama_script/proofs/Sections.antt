@@ -1,0 +1,237 @@
+-- A script is told by its lines: the sections are found again from the last line to the first.
+use Rattle.std.proofs.Common.{◌≡◌, ℕ, List, [], ◌∷◌, ◌++◌, length, map, refl, sym, ap, ◌∙◌, append-nil}
+use Rattle.std.specs.List.{flat_map}
+use Rattle.mama_event.specs.declared.order.Order.{Order}
+use Rattle.mama_event.specs.declared.order.Order.TheVariants as orders
+use Rattle.mama_event.specs.declared.order.PlanRow.{PlanRow}
+use Rattle.mama_event.specs.declared.shape.Shape.{Shape}
+use Rattle.mama_link.specs.declared.faults.FaultRow.{FaultRow}
+use Rattle.mama_words.specs.declared.order.OrderWord.{OrderWord}
+use Rattle.mama_words.specs.declared.order.OrderWord.TheVariants as order_words
+use Rattle.mama_words.specs.Order.{word_of}
+use Rattle.mama_script.specs.declared.line.QueueName.{QueueName}
+use Rattle.mama_script.specs.declared.line.QueueName.TheVariants as names
+use Rattle.mama_script.specs.declared.line.Line.{Line}
+use Rattle.mama_script.specs.declared.line.Line.TheVariants as lines
+use Rattle.mama_script.specs.declared.publisher.PublisherLine.{PublisherLine}
+use Rattle.mama_script.specs.declared.publisher.PublisherLine.TheVariants as sends
+use Rattle.mama_script.specs.declared.publisher.PublisherPart.{PublisherPart}
+use Rattle.mama_script.specs.declared.client.QueueWord.{QueueWord}
+use Rattle.mama_script.specs.declared.client.QueueWord.TheVariants as words
+use Rattle.mama_script.specs.declared.client.ClientLine.{ClientLine}
+use Rattle.mama_script.specs.declared.client.ClientLine.TheVariants as steps
+use Rattle.mama_script.specs.Script.{ScriptData}
+use Rattle.mama_script.specs.Tree.{queue_name, plan_line, fault_line, object_lines, publisher_line, publisher_lines, step_lines, client_lines, topic_line, lines_of, topic_of_part, IsShaped}
+
+-- what the lines from some line on have
+record Found : Type 0 where
+  faults : List FaultRow
+  plan : List PlanRow
+  sent : List PublisherLine
+  stepped : List ClientLine
+  publishers : List PublisherPart
+  clients : List (List ClientLine)
+  topics : List (List ℕ)
+  queues : ℕ
+
+abbrev found : List FaultRow → List PlanRow → List PublisherLine → List ClientLine → List PublisherPart → List (List ClientLine) → List (List ℕ) → ℕ → Found
+found f p a b ps cs ts q = record { faults = f; plan = p; sent = a; stepped = b; publishers = ps; clients = cs; topics = ts; queues = q }
+
+abbrev order_from : OrderWord → Order
+order_from (order_words.Stop id) = orders.Stop (record { client = id.client; number = id.number })
+order_from (order_words.Disarm id) = orders.Disarm (record { client = id.client; number = id.number })
+order_from (order_words.Close id) = orders.Close (record { client = id.client; number = id.number })
+order_from (order_words.Ask id topic fids) = orders.Ask (record { client = id.client; number = id.number }) topic fids
+
+abbrev queue_from : QueueName → QueueWord
+queue_from (names.Number n) = words.Number n
+queue_from names.Any = words.Any
+
+-- one line more in front
+abbrev onto : Line → Found → Found
+onto (lines.Queues n) s = record s { queues = n }
+onto (lines.Topic name) s = record s { topics = name ∷ s.topics }
+onto (lines.Publisher topic base) s = record s { publishers = record { topic = topic; base = base; lines = s.sent } ∷ s.publishers; sent = []; stepped = [] }
+onto (lines.Update update) s = record s { sent = sends.Update update ∷ s.sent }
+onto lines.Recap s = record s { sent = sends.Recap ∷ s.sent }
+onto (lines.Pause rounds) s = record s { sent = sends.Pause rounds ∷ s.sent; stepped = steps.Pause rounds ∷ s.stepped }
+onto lines.Client s = record s { clients = s.stepped ∷ s.clients; sent = []; stepped = [] }
+onto (lines.Sub topic kind queue cache recaps) s = record s { stepped = steps.Sub topic kind (queue_from queue) cache recaps s.faults s.plan ∷ s.stepped; faults = []; plan = [] }
+onto (lines.Timer queue interval) s = record s { stepped = steps.Timer (queue_from queue) interval s.plan ∷ s.stepped; faults = []; plan = [] }
+onto (lines.Inbox queue) s = record s { stepped = steps.Inbox (queue_from queue) s.faults s.plan ∷ s.stepped; faults = []; plan = [] }
+onto (lines.Fault row) s = record s { faults = row ∷ s.faults }
+onto (lines.At call order) s = record s { plan = record { call = call; order = order_from order } ∷ s.plan }
+onto (lines.Order order) s = record s { stepped = steps.Order (order_from order) ∷ s.stepped }
+onto (lines.Now moment) s = record s { stepped = steps.Now moment ∷ s.stepped }
+onto lines.NowClock s = record s { stepped = steps.NowClock ∷ s.stepped }
+
+abbrev build : List Line → Found → Found
+build [] s = s
+build (l ∷ ls) s = onto l (build ls s)
+
+build-append : (xs ys : List Line) (s : Found) → build (xs ++ ys) s ≡ build xs (build ys s)
+build-append [] ys s = refl
+build-append (x ∷ xs) ys s = ap (onto x) (build-append xs ys s)
+
+order_back : (o : Order) → order_from (word_of o) ≡ o
+order_back (orders.Stop id) = refl
+order_back (orders.Disarm id) = refl
+order_back (orders.Close id) = refl
+order_back (orders.Ask id topic fids) = refl
+
+queue_back : (q : QueueWord) → queue_from (queue_name q) ≡ q
+queue_back (words.Number n) = refl
+queue_back words.Any = refl
+
+build_plan : (rows : List PlanRow) (f : List FaultRow) (p : List PlanRow) (a : List PublisherLine) (b : List ClientLine) (ps : List PublisherPart) (cs : List (List ClientLine)) (ts : List (List ℕ)) (q : ℕ)
+    → build (map plan_line rows) (found f p a b ps cs ts q) ≡ found f (rows ++ p) a b ps cs ts q
+build_plan [] f p a b ps cs ts q = refl
+build_plan (r ∷ rows) f p a b ps cs ts q =
+    ap (onto (plan_line r)) (build_plan rows f p a b ps cs ts q) ∙ ap (λ (o : Order). found f (record { call = r.call; order = o } ∷ (rows ++ p)) a b ps cs ts q) (order_back r.order)
+
+build_faults : (rows : List FaultRow) (f : List FaultRow) (p : List PlanRow) (a : List PublisherLine) (b : List ClientLine) (ps : List PublisherPart) (cs : List (List ClientLine)) (ts : List (List ℕ)) (q : ℕ)
+    → build (map fault_line rows) (found f p a b ps cs ts q) ≡ found (rows ++ f) p a b ps cs ts q
+build_faults [] f p a b ps cs ts q = refl
+build_faults (r ∷ rows) f p a b ps cs ts q = ap (onto (fault_line r)) (build_faults rows f p a b ps cs ts q)
+
+build_object : (f : List FaultRow) (p : List PlanRow) (a : List PublisherLine) (b : List ClientLine) (ps : List PublisherPart) (cs : List (List ClientLine)) (ts : List (List ℕ)) (q : ℕ)
+    → build (object_lines f p) (found [] [] a b ps cs ts q) ≡ found f p a b ps cs ts q
+build_object f p a b ps cs ts q =
+    build-append (map fault_line f) (map plan_line p) (found [] [] a b ps cs ts q)
+    ∙ ap (build (map fault_line f)) (build_plan p [] [] a b ps cs ts q)
+    ∙ build_faults f [] (p ++ []) a b ps cs ts q
+    ∙ ap (λ (x : List FaultRow). found x (p ++ []) a b ps cs ts q) (append-nil f)
+    ∙ ap (λ (x : List PlanRow). found f x a b ps cs ts q) (append-nil p)
+
+-- a pause of a client would be one of a publisher too
+abbrev as_sent : ClientLine → List PublisherLine
+as_sent (steps.Sub topic kind queue cache recaps faults plan) = []
+as_sent (steps.Timer queue interval plan) = []
+as_sent (steps.Inbox queue faults plan) = []
+as_sent (steps.Order order) = []
+as_sent (steps.Now moment) = []
+as_sent steps.NowClock = []
+as_sent (steps.Pause rounds) = sends.Pause rounds ∷ []
+
+abbrev as_stepped : PublisherLine → List ClientLine
+as_stepped (sends.Update update) = []
+as_stepped sends.Recap = []
+as_stepped (sends.Pause rounds) = steps.Pause rounds ∷ []
+
+build_step : (s : ClientLine) (a : List PublisherLine) (b : List ClientLine) (ps : List PublisherPart) (cs : List (List ClientLine)) (ts : List (List ℕ)) (q : ℕ)
+    → build (step_lines s) (found [] [] a b ps cs ts q) ≡ found [] [] (as_sent s ++ a) (s ∷ b) ps cs ts q
+build_step (steps.Sub topic kind queue cache recaps faults plan) a b ps cs ts q =
+    ap (onto (lines.Sub topic kind (queue_name queue) cache recaps)) (build_object faults plan a b ps cs ts q)
+    ∙ ap (λ (w : QueueWord). found [] [] a (steps.Sub topic kind w cache recaps faults plan ∷ b) ps cs ts q) (queue_back queue)
+build_step (steps.Timer queue interval plan) a b ps cs ts q =
+    ap (onto (lines.Timer (queue_name queue) interval)) (build_object [] plan a b ps cs ts q)
+    ∙ ap (λ (w : QueueWord). found [] [] a (steps.Timer w interval plan ∷ b) ps cs ts q) (queue_back queue)
+build_step (steps.Inbox queue faults plan) a b ps cs ts q =
+    ap (onto (lines.Inbox (queue_name queue))) (build_object faults plan a b ps cs ts q)
+    ∙ ap (λ (w : QueueWord). found [] [] a (steps.Inbox w faults plan ∷ b) ps cs ts q) (queue_back queue)
+build_step (steps.Order order) a b ps cs ts q = ap (λ (o : Order). found [] [] a (steps.Order o ∷ b) ps cs ts q) (order_back order)
+build_step (steps.Now moment) a b ps cs ts q = refl
+build_step steps.NowClock a b ps cs ts q = refl
+build_step (steps.Pause rounds) a b ps cs ts q = refl
+
+-- the steps of a client in front of the rest of its lines, of which the publishers' part does not matter
+record Stepped (ss b : List ClientLine) (ps : List PublisherPart) (cs : List (List ClientLine)) (ts : List (List ℕ)) (q : ℕ) (s : Found) : Type 0 where
+  sent : List PublisherLine
+  is : s ≡ found [] [] sent (ss ++ b) ps cs ts q
+
+build_steps : (ss : List ClientLine) (a : List PublisherLine) (b : List ClientLine) (ps : List PublisherPart) (cs : List (List ClientLine)) (ts : List (List ℕ)) (q : ℕ)
+    → Stepped ss b ps cs ts q (build (flat_map step_lines ss) (found [] [] a b ps cs ts q))
+build_steps [] a b ps cs ts q = record { sent = a; is = refl }
+build_steps (s ∷ ss) a b ps cs ts q =
+    let more = build_steps ss a b ps cs ts q in
+    record {
+      sent = as_sent s ++ more.sent;
+      is = build-append (step_lines s) (flat_map step_lines ss) (found [] [] a b ps cs ts q) ∙ ap (build (step_lines s)) more.is ∙ build_step s more.sent (ss ++ b) ps cs ts q;
+    }
+
+build_client : (c : List ClientLine) (ps : List PublisherPart) (cs : List (List ClientLine)) (ts : List (List ℕ)) (q : ℕ)
+    → build (client_lines c) (found [] [] [] [] ps cs ts q) ≡ found [] [] [] [] ps (c ∷ cs) ts q
+build_client c ps cs ts q =
+    let more = build_steps c [] [] ps cs ts q in
+    ap (onto lines.Client) more.is ∙ ap (λ (x : List ClientLine). found [] [] [] [] ps (x ∷ cs) ts q) (append-nil c)
+
+build_clients : (xs : List (List ClientLine)) (ps : List PublisherPart) (cs : List (List ClientLine)) (ts : List (List ℕ)) (q : ℕ)
+    → build (flat_map client_lines xs) (found [] [] [] [] ps cs ts q) ≡ found [] [] [] [] ps (xs ++ cs) ts q
+build_clients [] ps cs ts q = refl
+build_clients (x ∷ xs) ps cs ts q =
+    build-append (client_lines x) (flat_map client_lines xs) (found [] [] [] [] ps cs ts q) ∙ ap (build (client_lines x)) (build_clients xs ps cs ts q) ∙ build_client x ps (xs ++ cs) ts q
+
+record Sent (ss a : List PublisherLine) (ps : List PublisherPart) (cs : List (List ClientLine)) (ts : List (List ℕ)) (q : ℕ) (s : Found) : Type 0 where
+  stepped : List ClientLine
+  is : s ≡ found [] [] (ss ++ a) stepped ps cs ts q
+
+build_send : (s : PublisherLine) (a : List PublisherLine) (b : List ClientLine) (ps : List PublisherPart) (cs : List (List ClientLine)) (ts : List (List ℕ)) (q : ℕ)
+    → onto (publisher_line s) (found [] [] a b ps cs ts q) ≡ found [] [] (s ∷ a) (as_stepped s ++ b) ps cs ts q
+build_send (sends.Update update) a b ps cs ts q = refl
+build_send sends.Recap a b ps cs ts q = refl
+build_send (sends.Pause rounds) a b ps cs ts q = refl
+
+build_sends : (ss a : List PublisherLine) (b : List ClientLine) (ps : List PublisherPart) (cs : List (List ClientLine)) (ts : List (List ℕ)) (q : ℕ)
+    → Sent ss a ps cs ts q (build (map publisher_line ss) (found [] [] a b ps cs ts q))
+build_sends [] a b ps cs ts q = record { stepped = b; is = refl }
+build_sends (s ∷ ss) a b ps cs ts q =
+    let more = build_sends ss a b ps cs ts q in
+    record { stepped = as_stepped s ++ more.stepped; is = ap (onto (publisher_line s)) more.is ∙ build_send s (ss ++ a) more.stepped ps cs ts q }
+
+build_publisher : (p : PublisherPart) (ps : List PublisherPart) (cs : List (List ClientLine)) (ts : List (List ℕ)) (q : ℕ)
+    → build (publisher_lines p) (found [] [] [] [] ps cs ts q) ≡ found [] [] [] [] (p ∷ ps) cs ts q
+build_publisher p ps cs ts q =
+    let more = build_sends p.lines [] [] ps cs ts q in
+    ap (onto (lines.Publisher p.topic p.base)) more.is ∙ ap (λ (x : List PublisherLine). found [] [] [] [] (record { topic = p.topic; base = p.base; lines = x } ∷ ps) cs ts q) (append-nil p.lines)
+
+build_publishers : (xs ps : List PublisherPart) (cs : List (List ClientLine)) (ts : List (List ℕ)) (q : ℕ)
+    → build (flat_map publisher_lines xs) (found [] [] [] [] ps cs ts q) ≡ found [] [] [] [] (xs ++ ps) cs ts q
+build_publishers [] ps cs ts q = refl
+build_publishers (x ∷ xs) ps cs ts q =
+    build-append (publisher_lines x) (flat_map publisher_lines xs) (found [] [] [] [] ps cs ts q) ∙ ap (build (publisher_lines x)) (build_publishers xs ps cs ts q) ∙ build_publisher x (xs ++ ps) cs ts q
+
+build_topics : (xs : List (List ℕ)) (ps : List PublisherPart) (cs : List (List ClientLine)) (ts : List (List ℕ)) (q : ℕ)
+    → build (map topic_line xs) (found [] [] [] [] ps cs ts q) ≡ found [] [] [] [] ps cs (xs ++ ts) q
+build_topics [] ps cs ts q = refl
+build_topics (x ∷ xs) ps cs ts q = ap (onto (topic_line x)) (build_topics xs ps cs ts q)
+
+abbrev nothing : Found
+nothing = found [] [] [] [] [] [] [] 0
+
+build_lines : (s : ScriptData) → build (lines_of s) nothing ≡ found [] [] [] [] s.publishers s.clients s.topics s.shape.bounds.queues
+build_lines s =
+    let ps = s.publishers in
+    let cs = s.clients in
+    let ts = s.topics in
+    ap (onto (lines.Queues s.shape.bounds.queues))
+    (build-append (map topic_line ts) (flat_map publisher_lines ps ++ flat_map client_lines cs) nothing
+    ∙ ap (build (map topic_line ts))
+    (build-append (flat_map publisher_lines ps) (flat_map client_lines cs) nothing
+    ∙ ap (build (flat_map publisher_lines ps)) (build_clients cs [] [] [] 0 ∙ ap (λ (x : List (List ClientLine)). found [] [] [] [] [] x [] 0) (append-nil cs))
+    ∙ build_publishers ps [] cs [] 0 ∙ ap (λ (x : List PublisherPart). found [] [] [] [] x cs [] 0) (append-nil ps))
+    ∙ build_topics ts ps cs [] 0 ∙ ap (λ (x : List (List ℕ)). found [] [] [] [] ps cs x 0) (append-nil ts))
+
+abbrev shape_from : Found → Shape
+shape_from f = record { clients = length f.clients; publisher_topics = map topic_of_part f.publishers; bounds = record { topics = length f.topics; queues = f.queues } }
+
+abbrev script_from : Found → ScriptData
+script_from f = record { shape = shape_from f; topics = f.topics; publishers = f.publishers; clients = f.clients }
+
+abbrev shape_with : ℕ → List ℕ → ℕ → ℕ → Shape
+shape_with c ps t q = record { clients = c; publisher_topics = ps; bounds = record { topics = t; queues = q } }
+
+abbrev script_with : Shape → List (List ℕ) → List PublisherPart → List (List ClientLine) → ScriptData
+script_with shape topics publishers clients = record { shape = shape; topics = topics; publishers = publishers; clients = clients }
+
+same_shape : (a b : ℕ) (x y : List ℕ) (t u q : ℕ) → a ≡ b → x ≡ y → t ≡ u → shape_with a x t q ≡ shape_with b y u q
+same_shape a b x y t u q e f g = cc
+
+script_back : (s : ScriptData) → IsShaped s → script_from (build (lines_of s) nothing) ≡ s
+script_back s h =
+    let shape : shape_from (found [] [] [] [] s.publishers s.clients s.topics s.shape.bounds.queues) ≡ s.shape =
+    same_shape (length s.clients) s.shape.clients (map topic_of_part s.publishers) s.shape.publisher_topics (length s.topics) s.shape.bounds.topics s.shape.bounds.queues (sym h.clients) (sym h.publishers) (sym h.topics) in
+    ap script_from (build_lines s) ∙ ap (λ (x : Shape). script_with x s.topics s.publishers s.clients) shape
+
+-- scripts that have the same lines are one
+pub same_script : (s t : ScriptData) → IsShaped s → IsShaped t → lines_of s ≡ lines_of t → s ≡ t
+same_script s t h k e = sym (script_back s h) ∙ ap (λ (ls : List Line). script_from (build ls nothing)) e ∙ script_back t k

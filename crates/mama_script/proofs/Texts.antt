@@ -1,0 +1,99 @@
+-- The text of a script is the texts of its parts, one behind the other.
+use Rattle.std.proofs.Common.{◌≡◌, ℕ, List, [], ◌∷◌, ◌++◌, map, refl, sym, ap, ◌∙◌, append_assoc, append-nil}
+use Rattle.std.specs.List.{flat_map}
+use Rattle.std.proofs.lemmas.List.Concat.{flat_map-append}
+use Rattle.std.proofs.lemmas.List.Folds.{flat_map-map}
+use Rattle.std.specs.Prelude.{codes}
+use Rattle.mama_edge.specs.Decimal.{decimal}
+use Rattle.mama_event.specs.declared.order.PlanRow.{PlanRow}
+use Rattle.mama_link.specs.declared.faults.Fault.TheVariants.{Hold}
+use Rattle.mama_msg.specs.Field.{FieldData}
+use Rattle.mama_words.specs.declared.order.OrderWord.{OrderWord}
+use Rattle.mama_words.specs.declared.order.OrderWord.TheVariants as orders
+use Rattle.mama_event.specs.declared.market.SubKind.{SubKind}
+use Rattle.mama_words.specs.Kind.{sub_kind_text}
+use Rattle.mama_words.specs.Field.{fields_text}
+use Rattle.mama_words.specs.Order.{order_words, order_text}
+use Rattle.mama_words.specs.Sentence.{spaced}
+use Rattle.mama_words.proofs.Spellings.{order_sentence, fields_row}
+use Rattle.mama_link.specs.declared.faults.FaultRow.{FaultRow}
+use Rattle.mama_script.specs.declared.line.Line.{Line}
+use Rattle.mama_script.specs.declared.line.Line.TheVariants as lines
+use Rattle.mama_script.specs.declared.publisher.PublisherPart.{PublisherPart}
+use Rattle.mama_script.specs.declared.client.ClientLine.{ClientLine}
+use Rattle.mama_script.specs.declared.line.QueueName.{QueueName}
+use Rattle.mama_script.specs.Line.{ended, queue_text}
+use Rattle.mama_script.specs.Reading.{first_line}
+use Rattle.mama_script.specs.Script.{ScriptData}
+use Rattle.mama_script.specs.Tree.{plan_line, fault_line, publisher_line, publisher_lines, step_lines, client_lines, topic_line, script_text}
+use Rattle.mama_script.specs.Text.{topic_text, send_text, publisher_text, fault_text, plan_text, object_text, step_text, client_text}
+
+flat_map-flat_map : {X : Type 0} (g : X → List Line) (xs : List X) → flat_map ended (flat_map g xs) ≡ flat_map (λ x. flat_map ended (g x)) xs
+flat_map-flat_map g [] = refl
+flat_map-flat_map g (x ∷ xs) = flat_map-append ended (g x) (flat_map g xs) ∙ ap (λ (t : List ℕ). flat_map ended (g x) ++ t) (flat_map-flat_map g xs)
+
+pub publisher_text_is : (p : PublisherPart) → publisher_text p ≡ ended (lines.Publisher p.topic p.base) ++ flat_map send_text p.lines
+publisher_text_is p = ap (λ (t : List ℕ). ended (lines.Publisher p.topic p.base) ++ t) (flat_map-map ended publisher_line p.lines)
+
+pub client_text_is : (c : List ClientLine) → client_text c ≡ ended lines.Client ++ flat_map step_text c
+client_text_is c = ap (λ (t : List ℕ). ended lines.Client ++ t) (flat_map-flat_map step_lines c)
+
+pub object_text_is : (f : List FaultRow) (p : List PlanRow) → object_text f p ≡ flat_map fault_text f ++ flat_map plan_text p
+object_text_is f p =
+    flat_map-append ended (map fault_line f) (map plan_line p) ∙ ap (λ (t : List ℕ). t ++ flat_map ended (map plan_line p)) (flat_map-map ended fault_line f)
+    ∙ ap (λ (t : List ℕ). flat_map fault_text f ++ t) (flat_map-map ended plan_line p)
+
+abbrev joined_text : ℕ → List ℕ → List ℕ → List ℕ → List ℕ
+joined_text queues a b c = (first_line ++ 10 ∷ []) ++ (ended (lines.Queues queues) ++ (a ++ (b ++ c)))
+
+pub script_text_is : (s : ScriptData)
+    → script_text s ≡ (first_line ++ 10 ∷ []) ++ (ended (lines.Queues s.shape.bounds.queues) ++ (flat_map topic_text s.topics ++ (flat_map publisher_text s.publishers ++ flat_map client_text s.clients)))
+script_text_is s =
+    let q = s.shape.bounds.queues in
+    let topics = map topic_line s.topics in
+    let publishers = flat_map publisher_lines s.publishers in
+    let clients = flat_map client_lines s.clients in
+    ap (λ (t : List ℕ). (first_line ++ 10 ∷ []) ++ (ended (lines.Queues q) ++ t)) (flat_map-append ended topics (publishers ++ clients) ∙ ap (λ (t : List ℕ). flat_map ended topics ++ t) (flat_map-append ended publishers clients))
+    ∙ ap (λ (t : List ℕ). joined_text q t (flat_map ended publishers) (flat_map ended clients)) (flat_map-map ended topic_line s.topics)
+    ∙ ap (λ (t : List ℕ). joined_text q (flat_map topic_text s.topics) t (flat_map ended clients)) (flat_map-flat_map publisher_lines s.publishers)
+    ∙ ap (λ (t : List ℕ). joined_text q (flat_map topic_text s.topics) (flat_map publisher_text s.publishers) t) (flat_map-flat_map client_lines s.clients)
+
+order_row : (o : OrderWord) → flat_map spaced (order_words o) ≡ 32 ∷ order_text o
+order_row (orders.Stop id) = ap (λ (t : List ℕ). 32 ∷ t) (sym (order_sentence (orders.Stop id)))
+order_row (orders.Disarm id) = ap (λ (t : List ℕ). 32 ∷ t) (sym (order_sentence (orders.Disarm id)))
+order_row (orders.Close id) = ap (λ (t : List ℕ). 32 ∷ t) (sym (order_sentence (orders.Close id)))
+order_row (orders.Ask id topic fids) = ap (λ (t : List ℕ). 32 ∷ t) (sym (order_sentence (orders.Ask id topic fids)))
+
+at_shape : (out a b c : List ℕ) → ((((out ++ a) ++ b) ++ 32 ∷ []) ++ c) ++ 10 ∷ [] ≡ out ++ ((a ++ (b ++ (32 ∷ c))) ++ 10 ∷ [])
+at_shape out a b c = simp append_assoc
+
+pub at_text : (out : List ℕ) (call : ℕ) (o : OrderWord) → ((((out ++ codes "at") ++ spaced (decimal call)) ++ 32 ∷ []) ++ order_text o) ++ 10 ∷ [] ≡ out ++ ended (lines.At call o)
+at_text out call o = at_shape out (codes "at") (spaced (decimal call)) (order_text o) ∙ ap (λ (t : List ℕ). out ++ ((codes "at" ++ (spaced (decimal call) ++ t)) ++ 10 ∷ [])) (sym (order_row o))
+
+pub order_line_text : (out : List ℕ) (o : OrderWord) → (out ++ order_text o) ++ 10 ∷ [] ≡ out ++ ended (lines.Order o)
+order_line_text out o = append_assoc out (order_text o) (10 ∷ []) ∙ ap (λ (t : List ℕ). out ++ (t ++ 10 ∷ [])) (order_sentence o)
+
+pub base_text : (out : List ℕ) (topic : ℕ) (fs : List FieldData) → (((out ++ codes "publisher") ++ spaced (decimal topic)) ++ fields_text fs) ++ 10 ∷ [] ≡ out ++ ended (lines.Publisher topic fs)
+base_text out topic fs = ap (λ (t : List ℕ). (((out ++ codes "publisher") ++ spaced (decimal topic)) ++ t) ++ 10 ∷ []) (fields_row fs) ∙ simp append_assoc
+
+pub update_text : (out : List ℕ) (fs : List FieldData) → ((out ++ codes "update") ++ fields_text fs) ++ 10 ∷ [] ≡ out ++ ended (lines.Update fs)
+update_text out fs = ap (λ (t : List ℕ). ((out ++ codes "update") ++ t) ++ 10 ∷ []) (fields_row fs) ∙ simp append_assoc
+
+hold_shape : (out a b c : List ℕ) → (((out ++ a) ++ b) ++ c) ++ 10 ∷ [] ≡ out ++ ((a ++ (b ++ (c ++ []))) ++ 10 ∷ [])
+hold_shape out a b c = simp (append_assoc, append-nil)
+
+pub hold_text : (out : List ℕ) (index by : ℕ) → (((out ++ codes "fault hold") ++ spaced (decimal index)) ++ spaced (decimal by)) ++ 10 ∷ [] ≡ out ++ fault_text (record { index = index; fault = Hold by })
+hold_text out index by = hold_shape out (codes "fault hold") (spaced (decimal index)) (spaced (decimal by))
+
+sub_parts : (out a b c d e f : List ℕ) → ((((((out ++ a) ++ b) ++ c) ++ d) ++ e) ++ f) ++ 10 ∷ [] ≡ out ++ ((a ++ (b ++ (c ++ (d ++ (e ++ (f ++ [])))))) ++ 10 ∷ [])
+sub_parts out a b c d e f = simp (append_assoc, append-nil)
+
+sub_shape : (out a b c d e f : List ℕ) → (((((((out ++ a) ++ b) ++ 32 ∷ []) ++ c) ++ d) ++ e) ++ f) ++ 10 ∷ [] ≡ out ++ ((a ++ (b ++ ((32 ∷ c) ++ (d ++ (e ++ (f ++ [])))))) ++ 10 ∷ [])
+sub_shape out a b c d e f = ap (λ (t : List ℕ). (((t ++ d) ++ e) ++ f) ++ 10 ∷ []) (append_assoc ((out ++ a) ++ b) (32 ∷ []) c) ∙ sub_parts out a b (32 ∷ c) d e f
+
+pub sub_text : (out : List ℕ) (topic : ℕ) (kind : SubKind) (queue : QueueName) (cache recaps : ℕ)
+    → (((((((out ++ codes "sub") ++ spaced (decimal topic)) ++ 32 ∷ []) ++ sub_kind_text kind) ++ spaced (queue_text queue)) ++ spaced (decimal cache)) ++ spaced (decimal recaps)) ++ 10 ∷ [] ≡ out ++ ended (lines.Sub topic kind queue cache recaps)
+sub_text out topic kind queue cache recaps = sub_shape out (codes "sub") (spaced (decimal topic)) (sub_kind_text kind) (spaced (queue_text queue)) (spaced (decimal cache)) (spaced (decimal recaps))
+
+pub print_shape : (f q t p c : List ℕ) → (((f ++ q) ++ t) ++ p) ++ c ≡ f ++ (q ++ (t ++ (p ++ c)))
+print_shape f q t p c = simp append_assoc

@@ -1,0 +1,180 @@
+-- What is read as a script is so spelled, and what is so spelled is read.
+use Rattle.std.proofs.Common.{◌≡◌, ℕ, suc, ◌<◌, Bool, true, false, cond, eqb, List, [], ◌∷◌, ◌++◌, length, Option, Some, None, Result, Ok, Err, refl, sym, ap, subst, ◌∙◌, append_assoc, arith}
+use Rattle.std.specs.Prelude.{◌==◌, ◌&&◌, not}
+use Rattle.std.specs.List.{flat_map, list_all, list_any}
+use Rattle.std.specs.Str.{bytes_eq}
+use Rattle.std.proofs.lemmas.Bool.{and_parts, eqb-true}
+use Rattle.std.proofs.lemmas.List.{nil_from_length}
+use Rattle.mama_words.specs.Parting.{onto_first, pieces, is_plain, is_parted, is_outside, place_after, is_empty_word, words}
+use Rattle.mama_words.specs.declared.parting.Place.TheVariants.{Outside}
+use Rattle.mama_words.proofs.Choices.{chosen_some, same_text}
+use Rattle.mama_words.proofs.Cuts.{pieces_at_some}
+use Rattle.mama_words.proofs.Cutting.{lacks, all_lack, cut_at_again}
+use Rattle.mama_script.specs.declared.fault.Flaw.{Flaw}
+use Rattle.mama_script.specs.declared.fault.ScriptFault.{ScriptFault}
+use Rattle.mama_script.specs.declared.fault.ScriptFault.TheVariants.{Bad}
+use Rattle.mama_script.specs.declared.line.Line.{Line}
+use Rattle.mama_script.specs.Head.{may_end}
+use Rattle.mama_script.specs.Line.{IsLine, line_text, line_words, ended}
+use Rattle.mama_script.specs.Form.{form_in}
+use Rattle.mama_script.specs.Before.{Before, start, after, flaw}
+use Rattle.mama_script.specs.Names.{made_by, unnamed_from}
+use Rattle.mama_script.specs.Reading.{and_then, unless_flawed, judged, line_in, end_fault, unless_faulty, end_in, line_first, read_from, first_line, lines_in, unless_unnamed, named_or_fault, script_in, spelling, Fits, FitFrom, AreAccepted}
+use Rattle.mama_script.proofs.FormFound.{form_found}
+use Rattle.mama_script.proofs.FormAgain.{form_again, line_parted}
+
+-- ---- pieces of a text
+
+-- the text that the pieces make
+abbrev pub joined : List (List ℕ) → List ℕ
+joined [] = []
+joined (p ∷ []) = p
+joined (p ∷ q ∷ ps) = p ++ 10 ∷ joined (q ∷ ps)
+
+onto_first_some : (b : ℕ) (ws : List (List ℕ)) → 0 < length (onto_first b ws)
+onto_first_some b [] = omega arith
+onto_first_some b (w ∷ ws) = omega arith
+
+pieces_some_step : (c b : ℕ) (bs : List ℕ) (here : Bool) → eqb b c ≡ here → 0 < length (pieces c (b ∷ bs))
+pieces_some_step c b bs true e = rw e (omega arith)
+pieces_some_step c b bs false e = rw e (onto_first_some b (pieces c bs))
+
+pub pieces_some : (c : ℕ) (bs : List ℕ) → 0 < length (pieces c bs)
+pieces_some c [] = omega arith
+pieces_some c (b ∷ bs) = pieces_some_step c b bs (eqb b c) refl
+
+joined_onto_first : (b : ℕ) (ws : List (List ℕ)) → joined (onto_first b ws) ≡ b ∷ joined ws
+joined_onto_first b [] = refl
+joined_onto_first b (w ∷ []) = refl
+joined_onto_first b (w ∷ v ∷ ws) = refl
+
+joined_behind : (p : List ℕ) (ws : List (List ℕ)) → 0 < length ws → joined (p ∷ ws) ≡ p ++ 10 ∷ joined ws
+joined_behind p [] h = absurd (omega arith)
+joined_behind p (w ∷ ws) h = refl
+
+joined_step : (b : ℕ) (bs : List ℕ) (here : Bool) → eqb b 10 ≡ here → joined (pieces 10 bs) ≡ bs → joined (pieces 10 (b ∷ bs)) ≡ b ∷ bs
+joined_step b bs true e more = rw e (joined_behind [] (pieces 10 bs) (pieces_some 10 bs) ∙ ap (λ (t : List ℕ). 10 ∷ t) more ∙ ap (λ (x : ℕ). x ∷ bs) (sym (eqb-true b 10 e)))
+joined_step b bs false e more = rw e (joined_onto_first b (pieces 10 bs) ∙ ap (λ (t : List ℕ). b ∷ t) more)
+
+pub pieces_joined : (bs : List ℕ) → joined (pieces 10 bs) ≡ bs
+pieces_joined [] = refl
+pieces_joined (b ∷ bs) = joined_step b bs (eqb b 10) refl (pieces_joined bs)
+
+-- ---- steps of reading
+
+abbrev done : {A : Type 0} → A → Result A ScriptFault
+done x = Ok x
+
+pub done_is : {A : Type 0} (x y : A) → done x ≡ done y → x ≡ y
+done_is x y e = cc
+
+pub and_then_ok : {A B : Type 0} (r : Result A ScriptFault) (f : A → Result B ScriptFault) (y : B) → and_then r f ≡ Ok y → (x : A) × (r ≡ Ok x) × (f x ≡ Ok y)
+and_then_ok (Ok x) f y e = (x, refl, e)
+and_then_ok (Err n) f y e = absurd cc
+
+pub read_from_line : (b : Before) (k : ℕ) (text : List ℕ) (ps : List (List ℕ)) → 0 < length ps
+    → read_from b k (text ∷ ps) ≡ and_then (line_in b k text) (λ line. and_then (read_from (after b line) (suc k) ps) (line_first line))
+read_from_line b k text [] h = absurd (omega arith)
+read_from_line b k text (p ∷ ps) h = refl
+
+unless_ok : (b : Before) (k : ℕ) (m l : Line) (o : Option Flaw) → flaw b m ≡ o → unless_flawed k m o ≡ Ok l → (m ≡ l) × (flaw b l ≡ None)
+unless_ok b k m l None h e = let same = done_is m l e in (same, subst (λ (x : Line). flaw b x ≡ None) same h)
+unless_ok b k m l (Some f) h e = absurd cc
+
+judged_ok : (b : Before) (k : ℕ) (r : Result Line ℕ) (l : Line) → judged b k r ≡ Ok l → (r ≡ Ok l) × (flaw b l ≡ None)
+judged_ok b k (Err n) l e = absurd cc
+judged_ok b k (Ok m) l e = let p = unless_ok b k m l (flaw b m) refl e in (ap (λ (x : Line). Ok x) p.0, p.1)
+
+pub line_found : (b : Before) (k : ℕ) (text : List ℕ) (l : Line) → line_in b k text ≡ Ok l → Fits b l × (text ≡ line_text l)
+line_found b k text l e =
+    let p = judged_ok b k (form_in b.place text) l e in
+    let f = form_found b.place text l p.0 in
+    (record { form = f.fits; place = f.stands; sound = p.1 }, f.text_is)
+
+line_again : (b : Before) (k : ℕ) (l : Line) → Fits b l → line_in b k (line_text l) ≡ Ok l
+line_again b k l fits = ap (judged b k) (form_again b.place l fits.form fits.place) ∙ ap (unless_flawed k l) fits.sound
+
+end_tests : (empty may : Bool) (k : ℕ) → cond empty (cond may None (Some (Bad k 3))) (Some (Bad k 2)) ≡ None → (empty ≡ true) × (may ≡ true)
+end_tests true true k e = (refl, refl)
+end_tests true false k e = absurd cc
+end_tests false may k e = absurd cc
+
+unless_faulty_ok : (o : Option ScriptFault) (ls : List Line) → unless_faulty o ≡ Ok ls → (o ≡ None) × ([] ≡ ls)
+unless_faulty_ok None ls e = (refl, done_is [] ls e)
+unless_faulty_ok (Some f) ls e = absurd cc
+
+end_found : (b : Before) (k : ℕ) (rest : List ℕ) (ls : List Line) → end_in b k rest ≡ Ok ls → FitFrom b ls × (rest ≡ flat_map ended ls)
+end_found b k rest ls e =
+    let p = unless_faulty_ok (end_fault b.place k rest) ls e in
+    let q = end_tests (length rest == 0) (may_end b.place) k p.0 in
+    subst (λ (x : List Line). FitFrom b x × (rest ≡ flat_map ended x)) p.1 (q.1, nil_from_length rest (eqb-true (length rest) 0 q.0))
+
+-- the text of a line, its end and what follows
+ended_then : (l : Line) (rest : List ℕ) → ended l ++ rest ≡ line_text l ++ 10 ∷ rest
+ended_then l rest = append_assoc (line_text l) (10 ∷ []) rest
+
+whole_found : (b : Before) (k : ℕ) (ps : List (List ℕ)) (ls : List Line) → read_from b k ps ≡ Ok ls → FitFrom b ls × (joined ps ≡ flat_map ended ls)
+whole_found b k [] ls e = absurd cc
+whole_found b k (rest ∷ []) ls e = end_found b k rest ls e
+whole_found b k (text ∷ next ∷ more) ls e =
+    let l = and_then_ok (line_in b k text) _ ls e in
+    let r = and_then_ok (read_from (after b l.0) (suc k) (next ∷ more)) (line_first l.0) ls l.2 in
+    let f = line_found b k text l.0 l.1 in
+    let w = whole_found (after b l.0) (suc k) (next ∷ more) r.0 r.1 in
+    let same : text ++ 10 ∷ joined (next ∷ more) ≡ flat_map ended (l.0 ∷ r.0) =
+    ap (λ (t : List ℕ). t ++ 10 ∷ joined (next ∷ more)) f.1 ∙ ap (λ (t : List ℕ). line_text l.0 ++ 10 ∷ t) w.1 ∙ sym (ended_then l.0 (flat_map ended r.0)) in
+    subst (λ (x : List Line). FitFrom b x × (text ++ 10 ∷ joined (next ∷ more) ≡ flat_map ended x)) (done_is (l.0 ∷ r.0) ls r.2) ((f.0, w.0), same)
+
+-- no line has an end in it
+line_lacks : (l : Line) → IsLine l → lacks 10 (line_text l) ≡ false
+line_lacks l h =
+    let p = chosen_some (is_parted (line_text l)) (words (line_text l)) (line_words l) (line_parted l h) in
+    let q = and_parts (list_all is_plain (line_text l) && is_outside (place_after Outside (line_text l))) (not (list_any is_empty_word (words (line_text l)))) p.0 in
+    let r = and_parts (list_all is_plain (line_text l)) (is_outside (place_after Outside (line_text l))) q.0 in
+    all_lack is_plain 10 (line_text l) refl r.0
+
+line_cut : (l : Line) (rest : List ℕ) → IsLine l → pieces 10 (ended l ++ rest) ≡ line_text l ∷ pieces 10 rest
+line_cut l rest h = ap (pieces 10) (ended_then l rest) ∙ pieces_at_some 10 (line_text l ++ 10 ∷ rest) (line_text l) rest (cut_at_again 10 (line_text l) rest (line_lacks l h))
+
+whole_again : (b : Before) (k : ℕ) (ls : List Line) → FitFrom b ls → read_from b k (pieces 10 (flat_map ended ls)) ≡ Ok ls
+whole_again b k [] h = rw h refl
+whole_again b k (l ∷ ls) h =
+    let rest = flat_map ended ls in
+    ap (read_from b k) (line_cut l rest h.0.form) ∙ read_from_line b k (line_text l) (pieces 10 rest) (pieces_some 10 rest)
+    ∙ ap (λ (r : Result Line ScriptFault). and_then r (λ line. and_then (read_from (after b line) (suc k) (pieces 10 rest)) (line_first line))) (line_again b k l h.0)
+    ∙ ap (λ (r : Result (List Line) ScriptFault). and_then r (line_first l)) (whole_again (after b l) (suc k) ls h.1)
+
+-- ---- the whole text
+
+first_ok : (b : Bool) (r : Result (List Line) ScriptFault) (ls : List Line) → cond b r (Err (Bad 1 1)) ≡ Ok ls → (b ≡ true) × (r ≡ Ok ls)
+first_ok true r ls e = (refl, e)
+first_ok false r ls e = absurd cc
+
+pub lines_found : (ps : List (List ℕ)) (ls : List Line) → lines_in ps ≡ Ok ls → FitFrom start ls × (joined ps ≡ spelling ls)
+lines_found [] ls e = absurd cc
+lines_found (rest ∷ []) ls e = absurd cc
+lines_found (first ∷ next ∷ more) ls e =
+    let p = first_ok (bytes_eq first first_line) (read_from start 2 (next ∷ more)) ls e in
+    let w = whole_found start 2 (next ∷ more) ls p.1 in
+    (w.0, ap (λ (t : List ℕ). t ++ 10 ∷ joined (next ∷ more)) (same_text first first_line p.0) ∙ ap (λ (t : List ℕ). first_line ++ 10 ∷ t) w.1)
+
+unless_unnamed_ok : (ms ls : List Line) (o : Option ℕ) → unnamed_from (made_by ms) 2 ms ≡ o → unless_unnamed ms o ≡ Ok ls → (ms ≡ ls) × (unnamed_from (made_by ls) 2 ls ≡ None)
+unless_unnamed_ok ms ls None h e = let same = done_is ms ls e in (same, subst (λ (x : List Line). unnamed_from (made_by x) 2 x ≡ None) same h)
+unless_unnamed_ok ms ls (Some k) h e = absurd cc
+
+pub script_found : (text : List ℕ) (ls : List Line) → script_in text ≡ Ok ls → AreAccepted ls × (text ≡ spelling ls)
+script_found text ls e =
+    let a = and_then_ok (lines_in (pieces 10 text)) named_or_fault ls e in
+    let n = unless_unnamed_ok a.0 ls (unnamed_from (made_by a.0) 2 a.0) refl a.2 in
+    let f = lines_found (pieces 10 text) a.0 a.1 in
+    let fits = subst (λ (x : List Line). FitFrom start x) n.0 f.0 in
+    (record { fit = fits; named = n.1 }, sym (pieces_joined text) ∙ f.1 ∙ ap spelling n.0)
+
+lines_again : (ps : List (List ℕ)) (ls : List Line) → read_from start 2 ps ≡ Ok ls → lines_in (first_line ∷ ps) ≡ Ok ls
+lines_again [] ls e = absurd cc
+lines_again (p ∷ ps) ls e = e
+
+pub script_again : (ls : List Line) → AreAccepted ls → script_in (spelling ls) ≡ Ok ls
+script_again ls h =
+    let read : lines_in (pieces 10 (spelling ls)) ≡ Ok ls = lines_again (pieces 10 (flat_map ended ls)) ls (whole_again start 2 ls h.fit) in
+    ap (λ (r : Result (List Line) ScriptFault). and_then r named_or_fault) read ∙ ap (unless_unnamed ls) h.named

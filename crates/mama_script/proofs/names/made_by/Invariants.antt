@@ -1,0 +1,6 @@
+use Rattle.std.proofs.Common.{◌≡◌, [], drop}
+use Rattle.mama_script.specs.Names.{made_after}
+use Rattle.mama_script.proofs.names.made_by.Given as goal
+
+abbrev pub invariant-loop-line : goal.invariant-loop-line
+invariant-loop-line l = made_after l.made.items (drop l.line-index l.lines) ≡ made_after [] l.lines

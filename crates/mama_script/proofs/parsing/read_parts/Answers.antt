@@ -1,0 +1,6 @@
+use Rattle.mama_script.specs.Taken.{script_of_parts}
+use Rattle.mama_script.proofs.Parsed.{lines_are_script}
+use Rattle.mama_script.proofs.parsing.read_parts.Goals as goal
+
+pub returns-clause-script : goal.returns-clause-script
+returns-clause-script c = lines_are_script c.args.text.now c.in_ok-lines.lines.items (script_of_parts c.in_ok-parts.parts) c.in_ok-lines.ensures c.in_ok-parts.ensures.lines c.in_ok-parts.ensures.shaped

@@ -1,0 +1,14 @@
+use Rattle.std.proofs.Common.{◌∷◌, [], ◌++◌, sym, ◌∙◌}
+use Rattle.std.specs.List.{flat_map}
+use Rattle.mama_script.specs.declared.line.Line.TheVariants as lines
+use Rattle.mama_script.specs.Line.{ended}
+use Rattle.mama_script.specs.Reading.{first_line}
+use Rattle.mama_script.specs.Text.{topic_text, publisher_text, client_text}
+use Rattle.mama_script.proofs.Texts.{script_text_is, print_shape}
+use Rattle.mama_script.proofs.printing.print.Goals as goal
+
+pub returns : goal.returns
+returns c =
+    let s = c.args.script.now in
+    rw (c.in_ok-put_clients.ensures, c.in_ok-put_publishers.ensures, c.in_ok-put_topics.ensures, c.in_ok-put_queues.ensures, c.in_ok-extend_from_slice.ensures.items, c.new-out.ensures.items, c.clients.ensures, c.publishers.ensures, c.topics.ensures, c.shape.ensures.value)
+    (print_shape (first_line ++ 10 ∷ []) (ended (lines.Queues s.shape.bounds.queues)) (flat_map topic_text s.topics) (flat_map publisher_text s.publishers) (flat_map client_text s.clients) ∙ sym (script_text_is s))

@@ -1,0 +1,111 @@
+-- First words of lines, and where each may stand.
+use Rattle.std.specs.Prelude.{ℕ, codes, Bool, true, false, List, Option, Some, None, if◌then◌else◌}
+use Rattle.std.specs.Str.{bytes_eq}
+use Rattle.mama_script.specs.declared.head.Head.{Head}
+use Rattle.mama_script.specs.declared.head.Head.TheVariants.{Queues, Topic, Publisher, Update, Recap, Pause, Client, Sub, Timer, Inbox, Fault, At, Stop, Disarm, Close, Ask, Now}
+use Rattle.mama_script.specs.declared.head.Place.{Place}
+use Rattle.mama_script.specs.declared.head.Place.TheVariants as places
+
+-- the word
+abbrev pub head_text : Head → List ℕ
+head_text Queues = codes "queues"
+head_text Topic = codes "topic"
+head_text Publisher = codes "publisher"
+head_text Update = codes "update"
+head_text Recap = codes "recap"
+head_text Pause = codes "pause"
+head_text Client = codes "client"
+head_text Sub = codes "sub"
+head_text Timer = codes "timer"
+head_text Inbox = codes "inbox"
+head_text Fault = codes "fault"
+head_text At = codes "at"
+head_text Stop = codes "stop"
+head_text Disarm = codes "disarm"
+head_text Close = codes "close"
+head_text Ask = codes "ask"
+head_text Now = codes "now"
+
+-- what a word begins
+unfoldable pub head_in : List ℕ → Option Head
+head_in word =
+    if bytes_eq word (codes "queues") then Some Queues
+    else (if bytes_eq word (codes "topic") then Some Topic
+    else (if bytes_eq word (codes "publisher") then Some Publisher
+    else (if bytes_eq word (codes "update") then Some Update
+    else (if bytes_eq word (codes "recap") then Some Recap
+    else (if bytes_eq word (codes "pause") then Some Pause
+    else (if bytes_eq word (codes "client") then Some Client
+    else (if bytes_eq word (codes "sub") then Some Sub
+    else (if bytes_eq word (codes "timer") then Some Timer
+    else (if bytes_eq word (codes "inbox") then Some Inbox
+    else (if bytes_eq word (codes "fault") then Some Fault
+    else (if bytes_eq word (codes "at") then Some At
+    else (if bytes_eq word (codes "stop") then Some Stop
+    else (if bytes_eq word (codes "disarm") then Some Disarm
+    else (if bytes_eq word (codes "close") then Some Close
+    else (if bytes_eq word (codes "ask") then Some Ask
+    else (if bytes_eq word (codes "now") then Some Now else None))))))))))))))))
+
+-- the line of the queues
+abbrev pub is_opening : Head → Bool
+is_opening Queues = true
+is_opening head = false
+
+-- behind the queues come topics, and then the first section
+abbrev pub follows_topic : Head → Bool
+follows_topic Topic = true
+follows_topic Publisher = true
+follows_topic Client = true
+follows_topic head = false
+
+-- the lines of a publisher, and the beginnings of the next section
+abbrev pub follows_publisher : Head → Bool
+follows_publisher Update = true
+follows_publisher Recap = true
+follows_publisher Pause = true
+follows_publisher Publisher = true
+follows_publisher Client = true
+follows_publisher head = false
+
+-- the steps of a client, and the beginning of the next client
+abbrev pub follows_client : Head → Bool
+follows_client Sub = true
+follows_client Timer = true
+follows_client Inbox = true
+follows_client Stop = true
+follows_client Disarm = true
+follows_client Close = true
+follows_client Ask = true
+follows_client Now = true
+follows_client Pause = true
+follows_client Client = true
+follows_client head = false
+
+-- behind an order of an object's plan there may be one more
+abbrev pub follows_plan : Head → Bool
+follows_plan At = true
+follows_plan head = follows_client head
+
+-- behind a subscription or an inbox there may be its faults and its plan
+abbrev pub follows_link : Head → Bool
+follows_link Fault = true
+follows_link head = follows_plan head
+
+-- what a line at this place may begin with
+abbrev pub allows : Place → Head → Bool
+allows places.Start head = is_opening head
+allows places.Topics head = follows_topic head
+allows places.Publisher head = follows_publisher head
+allows places.Client head = follows_client head
+allows places.Linked head = follows_link head
+allows places.Planned head = follows_plan head
+
+-- a script may end in a client's section
+abbrev pub may_end : Place → Bool
+may_end places.Start = false
+may_end places.Topics = false
+may_end places.Publisher = false
+may_end places.Client = true
+may_end places.Linked = true
+may_end places.Planned = true

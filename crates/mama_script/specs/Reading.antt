@@ -1,0 +1,111 @@
+-- How the lines of a text are read: the lines, or the first line that has a fault or passes a limit.
+use Rattle.std.specs.Prelude.{◌≡◌, ℕ, suc, codes, true, ◌==◌, List, [], ◌∷◌, ◌++◌, length, Option, Some, None, Result, Ok, Err, if◌then◌else◌}
+use Rattle.std.specs.List.{flat_map}
+use Rattle.std.specs.Str.{bytes_eq}
+use Rattle.mama_words.specs.Parting.{pieces}
+use Rattle.mama_script.specs.declared.head.Place.{Place}
+use Rattle.mama_script.specs.declared.fault.Flaw.{Flaw}
+use Rattle.mama_script.specs.declared.fault.Flaw.TheVariants.{Fault, Limit}
+use Rattle.mama_script.specs.declared.fault.ScriptFault.{ScriptFault}
+use Rattle.mama_script.specs.declared.fault.ScriptFault.TheVariants.{Bad, OverLimit, OutOfMemory}
+use Rattle.mama_script.specs.declared.line.Line.{Line}
+use Rattle.mama_script.specs.Head.{allows, may_end}
+use Rattle.mama_script.specs.Line.{head_of, IsLine, ended}
+use Rattle.mama_script.specs.Form.{form_in}
+use Rattle.mama_script.specs.Before.{Before, start, after, flaw}
+use Rattle.mama_script.specs.Names.{made_by, unnamed_from}
+
+-- first the one, then the other; what is wrong with the one if something is
+abbrev pub and_then : {A B : Type 0} → Result A ScriptFault → (A → Result B ScriptFault) → Result B ScriptFault
+and_then (Ok x) f = f x
+and_then (Err e) f = Err e
+
+-- a flaw of the line of this number
+abbrev pub at_line : ℕ → Flaw → ScriptFault
+at_line k (Fault n) = Bad k n
+at_line k (Limit n) = OverLimit k n
+
+-- a line that has its form, unless the lines before it tell a flaw
+abbrev pub unless_flawed : ℕ → Line → Option Flaw → Result Line ScriptFault
+unless_flawed k line None = Ok line
+unless_flawed k line (Some found) = Err (at_line k found)
+
+abbrev pub judged : Before → ℕ → Result Line ℕ → Result Line ScriptFault
+judged b k (Err fault) = Err (Bad k fault)
+judged b k (Ok line) = unless_flawed k line (flaw b line)
+
+-- the line of this number that a text spells behind the lines before it
+abbrev pub line_in : Before → ℕ → List ℕ → Result Line ScriptFault
+line_in b k text = judged b k (form_in b.place text)
+
+-- what is wrong with what stands behind the last line's end: it is to be nothing, at a place where a script may end
+abbrev pub end_fault : Place → ℕ → List ℕ → Option ScriptFault
+end_fault place k rest = if length rest == 0 then (if may_end place then None else Some (Bad k 3)) else Some (Bad k 2)
+
+abbrev pub unless_faulty : Option ScriptFault → Result (List Line) ScriptFault
+unless_faulty None = Ok []
+unless_faulty (Some fault) = Err fault
+
+abbrev pub end_in : Before → ℕ → List ℕ → Result (List Line) ScriptFault
+end_in b k rest = unless_faulty (end_fault b.place k rest)
+
+abbrev pub line_first : Line → List Line → Result (List Line) ScriptFault
+line_first line ls = Ok (line ∷ ls)
+
+-- the lines that the pieces between the line ends spell, of which the first has the number k
+abbrev pub read_from : Before → ℕ → List (List ℕ) → Result (List Line) ScriptFault
+read_from b k [] = Err (Bad k 3)
+read_from b k (rest ∷ []) = end_in b k rest
+read_from b k (text ∷ next ∷ more) = and_then (line_in b k text) (λ line. and_then (read_from (after b line) (suc k) (next ∷ more)) (line_first line))
+
+abbrev pub first_line : List ℕ
+first_line = codes "mama script 1"
+
+-- the lines behind the first, which is always the same
+abbrev pub lines_in : List (List ℕ) → Result (List Line) ScriptFault
+lines_in [] = Err (Bad 1 1)
+lines_in (rest ∷ []) = Err (Bad 1 1)
+lines_in (first ∷ next ∷ more) = if bytes_eq first first_line then read_from start 2 (next ∷ more) else Err (Bad 1 1)
+
+abbrev pub unless_unnamed : List Line → Option ℕ → Result (List Line) ScriptFault
+unless_unnamed ls None = Ok ls
+unless_unnamed ls (Some k) = Err (Bad k 10)
+
+-- the second look, where nothing else is wrong
+abbrev pub named_or_fault : List Line → Result (List Line) ScriptFault
+named_or_fault ls = unless_unnamed ls (unnamed_from (made_by ls) 2 ls)
+
+-- the lines of a script, or what is wrong with the text
+abbrev pub script_in : List ℕ → Result (List Line) ScriptFault
+script_in text = and_then (lines_in (pieces 10 text)) named_or_fault
+
+-- the text that lines spell
+abbrev pub spelling : List Line → List ℕ
+spelling ls = (first_line ++ 10 ∷ []) ++ flat_map ended ls
+
+-- a line fits those before it
+pub record Fits (b : Before) (l : Line) : Type 0 where
+  pub form : IsLine l
+  pub place : allows b.place (head_of l) ≡ true
+  pub sound : flaw b l ≡ None
+
+-- each line fits those before it, and the script may end behind the last
+abbrev pub FitFrom : Before → List Line → Type 0
+FitFrom b [] = may_end b.place ≡ true
+FitFrom b (l ∷ ls) = Fits b l × FitFrom (after b l) ls
+
+-- lines that are accepted
+pub record AreAccepted (ls : List Line) : Type 0 where
+  pub fit : FitFrom start ls
+  pub named : unnamed_from (made_by ls) 2 ls ≡ None
+
+-- an answer that is not Ok is what is wrong with the text, or want of memory, which says nothing
+abbrev pub Fails : {A : Type 0} → ScriptFault → Result A ScriptFault → Type 0
+Fails OutOfMemory read = Unit {0}
+Fails (Bad line fault) read = read ≡ Err (Bad line fault)
+Fails (OverLimit line limit) read = read ≡ Err (OverLimit line limit)
+
+-- an answer, seen by view, is what reading gives, unless it is want of memory
+abbrev pub Gives : {X A : Type 0} → (X → A) → Result X ScriptFault → Result A ScriptFault → Type 0
+Gives view (Ok x) read = read ≡ Ok (view x)
+Gives view (Err e) read = Fails e read
