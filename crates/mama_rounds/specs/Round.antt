@@ -29,7 +29,8 @@ use Rattle.mama_event.specs.Publisher as send
 use Rattle.mama_rounds.specs.Client.{Planned, client_steps, client_objects}
 use Rattle.mama_script.specs.declared.publisher.PublisherPart.{PublisherPart}
 use Rattle.mama_script.specs.Script.{ScriptData}
-use Rattle.mama_rounds.specs.World.{Setting, World, AreRounds, orders_by}
+use Rattle.mama_rounds.specs.World.{Setting, World, orders_by}
+use Rattle.mama_rounds.specs.Stage.{Stage, AreRounds, IsOver}
 use Rattle.mama_record.specs.RunData.{RunData, ObjectCalls, LastImage}
 
 -- what a line sends
@@ -95,10 +96,8 @@ setting_of script = record {
 }
 
 -- before the first round nothing was done
-abbrev pub start : ScriptData → List (List ℕ) → World
-start script moments = record {
-  client_steps = all_client_steps (queues_of script.shape) 0 moments script.clients;
-  publisher_steps = map (λ s. publisher_steps s.lines) script.publishers;
+abbrev pub no_journals : ScriptData → World
+no_journals script = record {
   publishers = map (λ s. []) script.publishers;
   bridge = [];
   timers = [];
@@ -109,13 +108,12 @@ start script moments = record {
   to_queues = map (λ q. []) (numbers_below (queues_of script.shape));
 }
 
--- as many rounds as the longest list of steps
-abbrev pub most : {A : Type 0} → List (List A) → ℕ
-most [] = 0
-most (xs ∷ rest) = max (length xs) (most rest)
-
-abbrev pub rounds_of : World → ℕ
-rounds_of w = max (most w.client_steps) (most w.publisher_steps)
+abbrev pub start : ScriptData → List (List ℕ) → Stage
+start script moments = record {
+  clients = all_client_steps (queues_of script.shape) 0 moments script.clients;
+  publishers = map (λ s. publisher_steps s.lines) script.publishers;
+  world = no_journals script;
+}
 
 -- the callbacks of an object by the journal of its queue
 abbrev pub noted : Callback × List Order → CallNote
@@ -163,8 +161,10 @@ record_of setting moments w = record {
   images = flat_map (last_image setting w.queues) setting.objects;
 }
 
--- a record is that of the rounds of a script
+-- a record is that of the rounds of a script: as many as it takes until every client and publisher has made its steps
 pub record IsRound (script : ScriptData) (run : RunData) : Type 0 where
-  pub last : World
-  pub rounds : AreRounds (setting_of script) (rounds_of (start script run.clients)) (start script run.clients) last
-  pub told : run ≡ record_of (setting_of script) run.clients last
+  pub count : ℕ
+  pub last : Stage
+  pub rounds : AreRounds (setting_of script) count (start script run.clients) last
+  pub over : IsOver last
+  pub told : run ≡ record_of (setting_of script) run.clients last.world

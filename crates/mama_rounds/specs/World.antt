@@ -47,10 +47,8 @@ plan_of setting o = rows_of (first_said (plan_in o) setting.objects)
 abbrev pub orders_by : Setting → ObjectId → ℕ → List Order
 orders_by setting o call = planned (plan_of setting o) call
 
--- the steps that each client and publisher has still to make, the journals, and the lanes
+-- the journals, and what was put on each lane and not taken
 pub record World : Type 0 where
-  pub client_steps : List (List (List QueuePut))
-  pub publisher_steps : List (List (List PublisherEntry))
   pub publishers : List (List PublisherEntry)
   pub bridge : List (ℕ × BridgeNote)
   pub timers : List (ℕ × TimersNote)
@@ -187,40 +185,3 @@ pub record IsDrained (setting : Setting) (w drained : World) : Type 0 where
   pub count : ℕ
   pub after : drained ≡ passes setting count w
   pub quiet : IsQuiet drained
-
--- STEPS: a client or a publisher makes its next step, if it has one
-
-abbrev pub client_stepped : Setting → ℕ → World → List (List QueuePut) → World
-client_stepped setting c w [] = w
-client_stepped setting c w (step ∷ rest) =
-    with_puts (bridge_port_of_client setting.shape c) (timers_port_of_client setting.shape c) step
-    (record w { client_steps = slice_set w.client_steps c rest })
-
-abbrev pub client_step : Setting → ℕ → World → World
-client_step setting c w = client_stepped setting c w (slice_index_or w.client_steps c [])
-
-abbrev pub entries_done : Setting → ℕ → World → List PublisherEntry → World
-entries_done setting p w [] = w
-entries_done setting p w (e ∷ es) = entries_done setting p (publisher_did setting p w e) es
-
-abbrev pub publisher_stepped : Setting → ℕ → World → List (List PublisherEntry) → World
-publisher_stepped setting p w [] = w
-publisher_stepped setting p w (step ∷ rest) = entries_done setting p (record w { publisher_steps = slice_set w.publisher_steps p rest }) step
-
-abbrev pub publisher_step : Setting → ℕ → World → World
-publisher_step setting p w = publisher_stepped setting p w (slice_index_or w.publisher_steps p [])
-
--- the steps of the actors numbered below n, ascending, each followed by a drain
-abbrev pub AreSteps : Setting → (ℕ → World → World) → ℕ → World → World → Type 0
-AreSteps setting step zero w after = after ≡ w
-AreSteps setting step (suc n) w after = (mid : World) × AreSteps setting step n w mid × IsDrained setting (step n mid) after
-
--- one round: each client makes a step, and then each publisher
-pub record IsOneRound (setting : Setting) (w after : World) : Type 0 where
-  pub mid : World
-  pub clients : AreSteps setting (client_step setting) (clients_of setting.shape) w mid
-  pub publishers : AreSteps setting (publisher_step setting) (publishers_of setting.shape) mid after
-
-abbrev pub AreRounds : Setting → ℕ → World → World → Type 0
-AreRounds setting zero w after = after ≡ w
-AreRounds setting (suc n) w after = (mid : World) × AreRounds setting n w mid × IsOneRound setting mid after
