@@ -18,6 +18,13 @@ use Rattle.mama_lane.specs.Steps.{opener, spent, bound, with_port, next_port, wi
 use Rattle.mama_lane.specs.Rule.{notes_of, Fits, Kept, IsKept, CameFromPort, IsCaughtUp, AreBegun}
 use Rattle.mama_lane.proofs.Lists.{by_port-append, by_port_here, by_port_else, each_map, each_both, each_snoc, changed, changed_here, changed_else, changed_cases, first_of, at_end, at_same, at_there, not_empty}
 
+-- a list begins with itself, and with nothing
+pub whole_begins : {N : Type 0} (xs : List N) → IsPrefix xs xs
+whole_begins xs = ([], append-nil xs)
+
+pub nothing_begins : {N : Type 0} (xs : List N) → IsPrefix [] xs
+nothing_begins xs = (xs, refl)
+
 -- no pass has two roles
 taker_port : (r : Role) → r ≡ Taker → r ≡ Port → ⊥
 taker_port r a b = let e : Taker ≡ Port = sym a ∙ b in cc
@@ -252,12 +259,12 @@ module _ {E N : Type 0} (noted : E → N) (lawful : Bounds → ℕ → List N �
       let l : View N = with_port v in let vs : List (View N) = set views 0 l in let there = at_there views 0 v l at in
       subst (λ (u : View N). Kept noted lawful u items (vs ++ next_port v ∷ [])) (at_same vs 0 l t there (first_of vs (next_port v ∷ []) 0 l t there e)) (split_kept v items views (h v at))
 
-  -- tell: a note has a copy of what the port put
-  pub tells : (i : ℕ) (v : View N) → v.role ≡ Port → Forks (IsKept noted lawful) i v v (noted_port v)
-  tells i v is_port items views h at =
-      subst (λ (vs : List (View N)). IsKept noted lawful items (vs ++ noted_port v ∷ [])) (sym (set_again views i v at))
-      (kept_new items views i v (noted_port v) h at (λ t K. let F = (K.fits i v at).port is_port in
-      snoc_kept t items views (noted_port v) K (record { port = λ e. absurd (port_note Note e refl); note = λ _. ([], append-nil v.put ∙ F.put) })))
+  -- tell: a note has a copy of what the port put, or of a beginning of it
+  pub tells : (i : ℕ) (v note : View N) → v.role ≡ Port → note.role ≡ Note → note.number ≡ v.number → IsPrefix note.put v.put → Forks (IsKept noted lawful) i v v note
+  tells i v note is_port is_note same begins items views h at =
+      subst (λ (vs : List (View N)). IsKept noted lawful items (vs ++ note ∷ [])) (sym (set_again views i v at))
+      (kept_new items views i v note h at (λ t K. let F = (K.fits i v at).port is_port in
+      snoc_kept t items views note K (record { port = λ e. absurd (port_note note.role e is_note); note = λ _. (begins.0, begins.1 ∙ (F.put ∙ ap K.sent (sym same))) })))
 
   -- learn and join: the taker takes in what another pass knows, which is spent
   kept_merge : (items : List (ℕ × E)) (views : List (View N)) (v both : View N) (i : ℕ) (w : View N) → IsKept noted lawful items views → get_elem? views 0 ≡ some v → ¬ (i ≡ 0) → get_elem? (set views 0 both) i ≡ some w

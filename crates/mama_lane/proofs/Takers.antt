@@ -1,5 +1,5 @@
 -- A taker's flags say which ports ended.
-use Rattle.std.proofs.Common.{◌≡◌, ◌≢◌, ℕ, ◌<◌, Bool, true, false, ◌||◌, List, [], ◌∷◌, ◌++◌, length, get_or, set, sym, refl, ap, ◌∙◌, subst, append-nil, arith}
+use Rattle.std.proofs.Common.{◌≡◌, ◌≢◌, ℕ, ◌<◌, Bool, true, false, ◌||◌, List, [], ◌∷◌, ◌++◌, length, get_or, set, sym, refl, ap, ◌∙◌, subst, append-nil, arith, if◌then◌else◌}
 use Rattle.std.proofs.lemmas.List.{get_or-set_same, get_or-set_other, length-set}
 use Rattle.std.proofs.lemmas.List.Folds.{list_any-append}
 use Rattle.std.specs.List.{list_any}
@@ -45,7 +45,7 @@ module _ {N : Type 0} (last : N → Bool) where
       (λ (apart : p ≢ port). old p ∙ sym (any_else xs p port note apart))
 
   module _ (lawful : Bounds → ℕ → List N → Type 0) where
-    pub took_last : (v w : View N) (flags : List Bool) (port : ℕ) (note : N) → IsTakerPass last lawful v flags → w ≡ with_taken v port note → port < v.made → ((p : ℕ) → lawful v.bounds p (by_port p w.taken)) → last note ≡ true
+    took_last : (v w : View N) (flags : List Bool) (port : ℕ) (note : N) → IsTakerPass last lawful v flags → w ≡ with_taken v port note → port < v.made → ((p : ℕ) → lawful v.bounds p (by_port p w.taken)) → last note ≡ true
         → IsTakerPass last lawful w (set flags port true)
     took_last v w flags port note t is made may is_last = let n : View N = with_taken v port note in let count = t.count in
         subst (λ (u : View N). IsTakerPass last lawful u (set flags port true)) (sym is) (record {
@@ -56,7 +56,7 @@ module _ {N : Type 0} (last : N → Bool) where
           flags = last_flags v.taken port note flags (omega arith) is_last t.flags;
         })
 
-    pub took_other : (v w : View N) (flags : List Bool) (port : ℕ) (note : N) → IsTakerPass last lawful v flags → w ≡ with_taken v port note → ((p : ℕ) → lawful v.bounds p (by_port p w.taken)) → last note ≡ false
+    took_other : (v w : View N) (flags : List Bool) (port : ℕ) (note : N) → IsTakerPass last lawful v flags → w ≡ with_taken v port note → ((p : ℕ) → lawful v.bounds p (by_port p w.taken)) → last note ≡ false
         → IsTakerPass last lawful w flags
     took_other v w flags port note t is may not_last = let n : View N = with_taken v port note in
         subst (λ (u : View N). IsTakerPass last lawful u flags) (sym is) (record {
@@ -66,3 +66,9 @@ module _ {N : Type 0} (last : N → Bool) where
           count = t.count;
           flags = same_flags v.taken port note flags not_last t.flags;
         })
+
+    -- the flags that are set where the event is the last of its port
+    pub took : (v w : View N) (flags : List Bool) (port : ℕ) (note : N) (is_last : Bool) → IsTakerPass last lawful v flags → w ≡ with_taken v port note → port < v.made → ((p : ℕ) → lawful v.bounds p (by_port p w.taken)) → last note ≡ is_last
+        → IsTakerPass last lawful w (if is_last then set flags port true else flags)
+    took v w flags port note true t is made may e = took_last v w flags port note t is made may e
+    took v w flags port note false t is made may e = took_other v w flags port note t is may e

@@ -1,4 +1,4 @@
-ghost use Rattle.std.specs.Prelude.{◌≡◌, ℕ, ◌<◌, IfSome, IfNone};
+ghost use Rattle.std.specs.Prelude.{◌≡◌, ℕ, ◌<◌, IfSome, IfNone, vec_len, slice_set, true, if◌then◌else◌};
 ghost use Rattle.std.specs.List.{All, list_any};
 ghost use mathlib.Core.List.{IsPrefix};
 ghost use Rattle.mama_journal.specs.Lane.{by_port};
@@ -49,9 +49,7 @@ impl<E: Stream> Taker<E> {
         ensures caught_up { IfNone result (All (λ note. IsPrefix note.1 (by_port note.0 self.old.taken)) self.old.learnt) }
     {
         let (port, event) = steps::take(&rt, &lane.queue, &mut self.pass)?;
-        if event.is_last() {
-            self.ended[port as usize] = true;
-        }
+        mark_ended(&mut self.ended, port, event.is_last());
         Some((port, event))
     }
 
@@ -73,5 +71,15 @@ impl<E: Stream> Taker<E> {
             Some(ended) => *ended,
             None => false,
         }
+    }
+}
+
+// Sets the flag of this port, if its last event was taken.
+fn mark_ended(ended: &mut Vec<bool>, port: u32, last: bool)
+    requires { port < vec_len ended.old }
+    ensures { ended.new.items ≡ (if last then slice_set ended.old.items port true else ended.old.items) }
+{
+    if last {
+        ended[port as usize] = true;
     }
 }

@@ -28,3 +28,5 @@ pub use mama_memory::OutOfMemory;
 
 #[cfg(test)]
 mod tests;
+#[cfg(test)]
+mod vectors;

@@ -1,4 +1,5 @@
 use super::DecodeFault::{BadTag, BadText, Repeated, TooMany, Trailing, Truncated};
+use super::vectors::CASES;
 use super::{DecodeFault, EncodeFault, decode, encode};
 use mama_msg::{BytesValue, Field, Msg, Name, Price, TextValue, Value};
 use std::alloc::Global;
@@ -367,5 +368,140 @@ fn sixty_four_fields_are_written_and_no_more(rt: HostRuntime) -> Result<(), Fail
         encode(rt.alloc(), &longer).err(),
         Some(EncodeFault::TooMany)
     );
+    Ok(())
+}
+
+/// A byte of two hexadecimal digits at a time.
+fn bytes_of(alloc: Global, hex: &str) -> Result<Vec<u8>, Fail> {
+    let mut bytes = Vec::new(alloc);
+    let mut first = None;
+    for digit in hex.bytes() {
+        let n = if digit < b'a' {
+            digit.wrapping_sub(b'0')
+        } else {
+            digit.wrapping_sub(b'a' - 10)
+        };
+        first = match first {
+            None => Some(n),
+            Some(high) => {
+                bytes.push(n.wrapping_add(16u8.wrapping_mul(high)))?;
+                None
+            }
+        };
+    }
+    Ok(bytes)
+}
+
+fn hex_digit(n: u8) -> char {
+    if n < 10 {
+        n.wrapping_add(b'0') as char
+    } else {
+        n.wrapping_add(b'a' - 10) as char
+    }
+}
+
+fn write_quoted(text: &mut String, bytes: &[u8]) -> Result<(), Fail> {
+    text.push_str("text:\"")?;
+    for byte in bytes {
+        if *byte == b'"' || *byte == b'\\' {
+            text.push('\\')?;
+        }
+        text.push(*byte as char)?;
+    }
+    Ok(text.push('"')?)
+}
+
+fn write_hex(text: &mut String, bytes: &[u8]) -> Result<(), Fail> {
+    text.push_str("bytes:x")?;
+    for byte in bytes {
+        text.push(hex_digit(*byte / 16))?;
+        text.push(hex_digit(*byte % 16))?;
+    }
+    Ok(())
+}
+
+/// A value as scripts write it.
+fn write_value(alloc: Global, text: &mut String, value: &Value) -> Result<(), Fail> {
+    let word = match value {
+        Value::Bool(flag) => format!(in alloc; "bool:{flag}")?,
+        Value::Char(n) => format!(in alloc; "char:{n}")?,
+        Value::I8(n) => format!(in alloc; "i8:{n}")?,
+        Value::I16(n) => format!(in alloc; "i16:{n}")?,
+        Value::I32(n) => format!(in alloc; "i32:{n}")?,
+        Value::I64(n) => format!(in alloc; "i64:{n}")?,
+        Value::U8(n) => format!(in alloc; "u8:{n}")?,
+        Value::U16(n) => format!(in alloc; "u16:{n}")?,
+        Value::U32(n) => format!(in alloc; "u32:{n}")?,
+        Value::U64(n) => format!(in alloc; "u64:{n}")?,
+        Value::Text(quoted) => return write_quoted(text, quoted.bytes()),
+        Value::Bytes(bytes) => return write_hex(text, bytes.bytes()),
+        Value::Price(price) => {
+            let mantissa = price.mantissa();
+            let decimals = price.decimals();
+            format!(in alloc; "price:{mantissa}/{decimals}")?
+        }
+        Value::Moment(n) => format!(in alloc; "moment:{n}")?,
+    };
+    Ok(text.push_str(word.as_str())?)
+}
+
+/// Fields as scripts write them.
+fn fields_text(alloc: Global, msg: &Msg) -> Result<String, Fail> {
+    let mut text = String::new(alloc);
+    for i in 0..msg.len() {
+        let field = msg.at(i);
+        if i > 0 {
+            text.push(' ')?;
+        }
+        let fid = field.fid();
+        text.push_str(format!(in alloc; "{fid}:")?.as_str())?;
+        for letter in field.name().bytes() {
+            text.push(*letter as char)?;
+        }
+        text.push(':')?;
+        write_value(alloc, &mut text, field.value())?;
+    }
+    Ok(text)
+}
+
+fn fault_text(alloc: Global, fault: DecodeFault) -> Result<String, Fail> {
+    Ok(match fault {
+        Truncated { at } => format!(in alloc; "Truncated {at}")?,
+        BadTag { at } => format!(in alloc; "BadTag {at}")?,
+        BadText { at } => format!(in alloc; "BadText {at}")?,
+        Repeated { at } => format!(in alloc; "Repeated {at}")?,
+        TooMany { at } => format!(in alloc; "TooMany {at}")?,
+        Trailing { at } => format!(in alloc; "Trailing {at}")?,
+        DecodeFault::OutOfMemory => format!(in alloc; "no memory")?,
+    })
+}
+
+/// Whether a line's bytes are read as its fields and its fields written as its bytes, or refused with its fault.
+fn is_so(alloc: Global, line: &str) -> Result<bool, Fail> {
+    if let Some((hex, fields)) = line.split_once(" = ") {
+        let bytes = bytes_of(alloc, hex)?;
+        let msg = decode(alloc, &bytes)?;
+        let written = encode(alloc, &msg)?;
+        return Ok(fields_text(alloc, &msg)?.as_str() == fields && written == bytes);
+    }
+    let (hex, want) = line.split_once(" ! ").ok_or("no fault")?;
+    let bytes = bytes_of(alloc, hex)?;
+    let fault = fault_of(alloc, &bytes).ok_or("it was read")?;
+    Ok(fault_text(alloc, fault)?.as_str() == want)
+}
+
+#[test]
+fn payloads_of_another_writer_are_read_and_written(rt: HostRuntime) -> Result<(), Fail> {
+    let mut rest = CASES;
+    let mut count = 0u32;
+    for _ in 0..CASES.len() {
+        let Some((line, more)) = rest.split_once('\n') else {
+            break;
+        };
+        assert!(rt; is_so(rt.alloc(), line)?, "{line}");
+        count = count.wrapping_add(1);
+        rest = more;
+    }
+    assert_eq!(rt; count, 399);
     Ok(())
 }
