@@ -2,13 +2,13 @@
 # Time and memory of reading a script at n and 2n: one line of many fields, one inbox with many fault rows, and a text of
 # many update lines. Prints seconds, their ratio, and peak bytes of memory for each byte of input.
 #
-# Usage: bench/parse.sh [FIELDS] [ROWS] [MIB]   (the greater sizes; 1000000, 20000 and 64 if left out)
+# Usage: bench/parse.sh [FIELDS] [ROWS] [MIB]   (the greater sizes; 1000000, 400000 and 64 if left out)
 #
 # The program is written into a scratch folder and proved there over the crates of this repository. It says how long
 # the reading alone took; the memory is the whole program's, with the text itself.
 set -eu
 fields=${1:-1000000}
-rows=${2:-20000}
+rows=${2:-400000}
 mib=${3:-64}
 top=$(cd "$(dirname "$0")/.." && pwd)
 scratch=$(mktemp -d)
