@@ -1,0 +1,5 @@
+pub mod Put
+pub mod Names
+pub mod Sender
+pub mod Stand
+pub mod Entry

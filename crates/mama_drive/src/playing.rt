@@ -1,0 +1,20 @@
+use crate::plans::Plans;
+use crate::system::System;
+use mama_edge::Clock;
+use mama_memory::OutOfMemory;
+use mama_record::RunRecord;
+use mama_script::Script;
+use std::alloc::Global;
+
+/// Plays the script on one thread. A round gives each client, and then each publisher, its next step, and everything
+/// is drained after each step. The clock is read once for each line that asks for it. The error is want of memory.
+pub fn serial<C: Clock>(
+    alloc: Global,
+    script: &Script,
+    clock: &mut C,
+) -> Result<RunRecord, OutOfMemory> {
+    let plans = Plans::of(alloc, script)?;
+    let mut system = System::new(alloc, script, &plans)?;
+    system.play(clock)?;
+    system.into_record()
+}

@@ -1,0 +1,67 @@
+-- What the answers of the top call say.
+use Rattle.std.specs.Prelude.{◌≡◌, ℕ, List, [], ⊤, Option, Some, IfSome, Err}
+use Rattle.mama_script.specs.Script.{ScriptData}
+use Rattle.mama_script.specs.Tree.{IsScript, script_text}
+use Rattle.mama_script.specs.Reading.{script_in}
+use Rattle.mama_script.specs.declared.fault.ScriptFault.TheVariants as f
+use Rattle.mama_record.specs.RunData.{RunData}
+use Rattle.mama_record.specs.LogText.{log_text}
+use Rattle.mama_run.specs.declared.status.Status.{Status}
+use Rattle.mama_run.specs.declared.status.Status.TheVariants as s
+use Rattle.mama_run.specs.declared.run.NoLog.{NoLog}
+use Rattle.mama_run.specs.declared.run.NoLog.TheVariants as n
+
+-- a source gave this text to its end, as far as it tells its bytes
+abbrev pub GaveAll : Option (List ℕ) → Option (List ℕ) → List ℕ → Type 0
+GaveAll old new text = IfSome old (λ left. (text ≡ left) × (new ≡ Some []))
+
+-- the text spells an accepted script, and the other is the log of one record for a system of the script's shape
+abbrev pub IsLogOf : List ℕ → List ℕ → Type 0
+IsLogOf text log = (script : ScriptData) × IsScript script × (text ≡ script_text script) × (run : RunData) × (log ≡ log_text script.shape run)
+
+-- why there is no log of a text: its first line with a fault, its first line past a limit, or want of memory
+abbrev pub IsCause : List ℕ → NoLog → Type 0
+IsCause text (n.Script (f.Bad line fault)) = script_in text ≡ Err (f.Bad line fault)
+IsCause text (n.Script (f.OverLimit line limit)) = script_in text ≡ Err (f.OverLimit line limit)
+IsCause text (n.Script f.OutOfMemory) = ⊤
+IsCause text n.Memory = ⊤
+
+-- a fact of the bytes that were written before a write fault
+abbrev pub IfWriteFault : Status → (ℕ → Type 0) → Type 0
+IfWriteFault s.Ok P = ⊤
+IfWriteFault s.BadWords P = ⊤
+IfWriteFault (s.BadScript line fault) P = ⊤
+IfWriteFault (s.OverLimit line limit) P = ⊤
+IfWriteFault s.ReadFault P = ⊤
+IfWriteFault (s.WriteFault written) P = P written
+IfWriteFault s.OutOfMemory P = ⊤
+
+-- a fact of the line and the fault of a bad script
+abbrev pub IfBadScript : Status → (ℕ → ℕ → Type 0) → Type 0
+IfBadScript s.Ok P = ⊤
+IfBadScript s.BadWords P = ⊤
+IfBadScript (s.BadScript line fault) P = P line fault
+IfBadScript (s.OverLimit line limit) P = ⊤
+IfBadScript s.ReadFault P = ⊤
+IfBadScript (s.WriteFault written) P = ⊤
+IfBadScript s.OutOfMemory P = ⊤
+
+-- a fact of the line and the limit that it passes; the input as a whole, which passes the first limit, has line 0
+abbrev pub IfOverLimit : Status → (ℕ → ℕ → Type 0) → Type 0
+IfOverLimit s.Ok P = ⊤
+IfOverLimit s.BadWords P = ⊤
+IfOverLimit (s.BadScript line fault) P = ⊤
+IfOverLimit (s.OverLimit line limit) P = P line limit
+IfOverLimit s.ReadFault P = ⊤
+IfOverLimit (s.WriteFault written) P = ⊤
+IfOverLimit s.OutOfMemory P = ⊤
+
+-- a fact of every answer but Ok and a write fault
+abbrev pub OnSilent : Status → Type 0 → Type 0
+OnSilent s.Ok P = ⊤
+OnSilent s.BadWords P = P
+OnSilent (s.BadScript line fault) P = P
+OnSilent (s.OverLimit line limit) P = P
+OnSilent s.ReadFault P = P
+OnSilent (s.WriteFault written) P = ⊤
+OnSilent s.OutOfMemory P = P

@@ -1,0 +1,57 @@
+//! Plays scripts of publishers, subscribers and link faults, and writes what every actor took and called back.
+#![tactic(auto)]
+
+mod run;
+mod status;
+#[cfg(test)]
+mod tests;
+
+use mama_edge::{RealClock, StdSink, StdSource};
+pub use run::{MOST_INPUT, NoLog, run_plain};
+pub use status::Status;
+use std::process::ExitCode;
+use std::{env, io};
+
+const HELP: &str = "usage: mama_run serial
+
+serial     reads a script from standard input, plays it on one thread, and writes its log to standard output
+--help     writes this text
+--version  writes the version
+
+exit status: 0 all was done, 2 the words are no command, 3 the script has a fault, 4 the script passes a limit,
+5 a read failed, 6 a write failed, 8 no memory was found. Each but 0 comes with one line on standard error.
+";
+
+fn main(rt: HostRuntime) -> io::Result<ExitCode> {
+    let mut words = Vec::new(rt.alloc());
+    for word in env::args(&rt)? {
+        words.push(word)?;
+    }
+    let words = if words.is_empty() {
+        words.as_slice()
+    } else {
+        &words.as_slice()[1..]
+    };
+    if let [word] = words {
+        if word.as_str() == "--help" {
+            print!(rt; "{HELP}")?;
+            return Ok(ExitCode::from(0));
+        }
+        if word.as_str() == "--version" {
+            println!(rt; "mama_run 1")?;
+            return Ok(ExitCode::from(0));
+        }
+    }
+    let status = serve(&rt, words);
+    if status != Status::Ok {
+        let _ = eprintln!(rt; "mama_run: {status}");
+    }
+    Ok(status.exit())
+}
+
+fn serve(rt: &HostRuntime, words: &[String]) -> Status {
+    let mut source = StdSource::new(rt.stdin());
+    let mut sink = StdSink::new(rt.stdout());
+    let mut clock = RealClock::new(rt);
+    run_plain(rt.alloc(), words, &mut source, &mut sink, &mut clock)
+}

@@ -1,0 +1,140 @@
+ghost use Rattle.std.specs.Prelude.{List, ℕ, ⊤, ◌≡◌, ◌≢◌, ◌+◌, ◌<◌, ◌↔◌, [], Some, None, Bool, true, false, map, take, length, string_bytes, Err, IfOk, IfErr, IfSome};
+ghost use Rattle.mama_edge.specs.Count.{Rose};
+ghost use Rattle.mama_edge.specs.Told.{Appended, Lost};
+ghost use Rattle.mama_script.specs.Reading.{script_in};
+ghost use Rattle.mama_script.specs.declared.fault.ScriptFault.TheVariants as script;
+ghost use Rattle.mama_run.specs.Command.{is_serial};
+ghost use Rattle.mama_run.specs.Answers.{GaveAll, IsLogOf, IsCause, IfWriteFault, IfBadScript, IfOverLimit, OnSilent};
+
+use crate::status::Status;
+use mama_drive::serial;
+use mama_edge::{Clock, ReadAll, Sink, Source, read_all, write_all_counted};
+use mama_memory::OutOfMemory;
+use mama_record::print_log;
+use mama_script::{ScriptFault, parse};
+use std::alloc::Global;
+
+/// The most bytes of input.
+pub const MOST_INPUT: usize = 67_108_864;
+
+/// Why there is no log.
+#[derive(Clone, Copy, Debug, PartialEq, Eq)]
+pub enum NoLog {
+    /// The script has a fault, or passes a limit.
+    Script(ScriptFault),
+    /// No memory was found.
+    Memory,
+}
+
+/// Serves the command that the words name: `serial` reads a script from the source, plays it on one thread and writes
+/// its log to the sink. The clock is read once for each line of the script that asks for it. It always returns.
+///
+/// No clause ties want of memory to its cause, and none says yet that the record is a run of the script: that is
+/// tested.
+pub fn run_plain<S: Source, K: Sink, C: Clock>(
+    alloc: Global,
+    words: &[String],
+    source: &mut S,
+    sink: &mut K,
+    clock: &mut C,
+) -> Status
+    // The words are no command exactly where that is the answer, and then nothing was read.
+    ensures bad_words { (result ≡ Status.BadWords) ↔ (is_serial (map string_bytes words.now) ≡ false) }
+    ensures unread { result ≡ Status.BadWords → source.new ≡ source.old }
+
+    // A read fault and a write fault come only where the count of that object rose.
+    ensures read_fault { result ≡ Status.ReadFault → Rose (S.faults source.old) (S.faults source.new) }
+    ensures write_fault { IfWriteFault result (λ written. Rose (K.faults sink.old) (K.faults sink.new)) }
+
+    // The input is too long only where one byte more than the limit was taken.
+    ensures too_long { result ≡ Status.OverLimit 0 1 → Lost (S.left source.old) (S.left source.new) 67108865 }
+
+    // A fault or a limit is that of the text that the source gave: its first line that has one.
+    ensures bad_script { IfBadScript result (λ line fault. (text : List ℕ) × GaveAll (S.left source.old) (S.left source.new) text
+        × (script_in text ≡ Err (script.Bad line fault))) }
+    ensures over_limit { IfOverLimit result (λ line limit. (line ≢ 0) → (text : List ℕ) × GaveAll (S.left source.old) (S.left source.new) text
+        × (script_in text ≡ Err (script.OverLimit line limit))) }
+
+    // At Ok the source gave the text of an accepted script and no more, and a log of it was written whole. At a write
+    // fault a part of one was written, which is not the whole.
+    ensures ok { result ≡ Status.Ok → (text log : List ℕ) × GaveAll (S.left source.old) (S.left source.new) text × IsLogOf text log
+        × Appended (K.written sink.old) (K.written sink.new) log }
+    ensures part { IfWriteFault result (λ written. (text log : List ℕ) × GaveAll (S.left source.old) (S.left source.new) text × IsLogOf text log
+        × (written < length log) × Appended (K.written sink.old) (K.written sink.new) (take written log)) }
+
+    // At every other answer nothing was written.
+    ensures silent { OnSilent result (sink.new ≡ sink.old) }
+{
+    if !is_command(words) {
+        return Status::BadWords;
+    }
+    let text = match read_all(alloc, source, MOST_INPUT) {
+        Ok(text) => text,
+        Err(ReadAll::ReadFault) => return Status::ReadFault,
+        Err(ReadAll::TooLong) => return Status::OverLimit { line: 0, limit: 1 },
+        Err(ReadAll::OutOfMemory) => return Status::OutOfMemory,
+    };
+    let log = match log_of(alloc, text.as_slice(), clock) {
+        Ok(log) => log,
+        Err(fault) => return status_of(fault),
+    };
+    match write_all_counted(sink, log.as_slice()) {
+        Ok(()) => Status::Ok,
+        Err(fault) => Status::WriteFault {
+            written: fault.written,
+        },
+    }
+}
+
+/// Whether the words are a command.
+fn is_command(words: &[String]) -> bool
+    ensures { result ≡ is_serial (map string_bytes words.now) }
+{
+    match words {
+        [word] => word.as_str() == "serial",
+        _ => false,
+    }
+}
+
+/// The log of the script that the text spells, or why there is none.
+fn log_of<C: Clock>(alloc: Global, text: &[u8], clock: &mut C) -> Result<Vec<u8>, NoLog>
+    ensures log { IfOk result (λ log. IsLogOf text.now log.items) }
+    ensures cause { IfErr result (λ cause. IsCause text.now cause) }
+{
+    let script = match parse(alloc, text) {
+        Ok(script) => script,
+        Err(fault) => return Err(NoLog::Script(fault)),
+    };
+    let run = match serial(alloc, &script, clock) {
+        Ok(run) => run,
+        Err(OutOfMemory) => return Err(NoLog::Memory),
+    };
+    match print_log(alloc, script.shape(), &run) {
+        Ok(log) => Ok(log),
+        Err(OutOfMemory) => Err(NoLog::Memory),
+    }
+}
+
+/// The answer where there is no log. Only the input as a whole has line 0.
+fn status_of(fault: NoLog) -> Status
+    ensures words { result ≢ Status.BadWords }
+    ensures read { result ≢ Status.ReadFault }
+    ensures ok { result ≢ Status.Ok }
+    ensures long { result ≢ Status.OverLimit 0 1 }
+    ensures written { IfWriteFault result (λ written. ⊥) }
+    ensures bad { IfBadScript result (λ line number. fault ≡ NoLog.Script (script.Bad line number)) }
+    ensures over { IfOverLimit result (λ line limit. (line ≢ 0) × (fault ≡ NoLog.Script (script.OverLimit line limit))) }
+{
+    match fault {
+        NoLog::Script(ScriptFault::Bad { line, fault }) => Status::BadScript { line, fault },
+        NoLog::Script(ScriptFault::OverLimit { line, limit }) => {
+            if line == 0 {
+                Status::OutOfMemory
+            } else {
+                Status::OverLimit { line, limit }
+            }
+        }
+        NoLog::Script(ScriptFault::OutOfMemory) => Status::OutOfMemory,
+        NoLog::Memory => Status::OutOfMemory,
+    }
+}
