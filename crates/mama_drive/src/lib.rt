@@ -17,7 +17,6 @@ mod recording;
 mod rounds;
 mod slots;
 mod system;
-mod timers;
 
 pub use mama_memory::OutOfMemory;
 pub use playing::serial;

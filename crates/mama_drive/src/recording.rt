@@ -45,7 +45,7 @@ impl<'a> System<'a> {
             clients,
             publishers,
             self.bridge_journal,
-            self.timers_journal,
+            self.timers.into_journal(),
             queues,
             calls,
             images,

@@ -12,13 +12,11 @@ use crate::plans::Plans;
 use crate::publisher_seat::PublisherSeat;
 use crate::put::Put;
 use crate::queue_seat::QueueSeat;
-use crate::timers::{TimerOut, Timers};
-use mama_event::{
-    BridgeNote, ObjectId, Shape, Stream, TimersNote, ToBridge, ToPublisher, ToQueue, ToTimers,
-};
+use mama_event::{BridgeNote, ObjectId, Shape, Stream, ToBridge, ToPublisher, ToQueue, ToTimers};
 use mama_link::Outbox;
 use mama_memory::OutOfMemory;
 use mama_script::{ClientLines, PublisherPart, Script};
+use mama_timer::{TimerOut, Timers};
 use std::alloc::Global;
 use std::collections::VecDeque;
 
@@ -33,8 +31,7 @@ pub struct System<'a> {
     pub(crate) queues: Vec<QueueSeat<'a>>,
     bridge: Bridge,
     pub(crate) bridge_journal: Vec<(u32, BridgeNote)>,
-    timers: Timers,
-    pub(crate) timers_journal: Vec<(u32, TimersNote)>,
+    pub(crate) timers: Timers<ObjectId>,
     to_bridge: VecDeque<(u32, ToBridge<ObjectId>)>,
     to_timers: VecDeque<(u32, ToTimers<ObjectId>)>,
 }
@@ -106,7 +103,6 @@ impl<'a> System<'a> {
             bridge: Bridge::new(alloc, shape)?,
             bridge_journal: Vec::new(alloc),
             timers: Timers::new(alloc, shape)?,
-            timers_journal: Vec::new(alloc),
             to_bridge: VecDeque::new(alloc),
             to_timers: VecDeque::new(alloc),
         })
@@ -188,7 +184,7 @@ impl<'a> System<'a> {
     }
 
     /// Puts the timer service's events on the queues' lanes, in order.
-    fn spread_ticks(&mut self, events: Outbox<TimerOut>) -> Result<(), OutOfMemory> {
+    fn spread_ticks(&mut self, events: Outbox<TimerOut<ObjectId>>) -> Result<(), OutOfMemory> {
         let mut events = events;
         for _ in 0..events.len() {
             if let Some(TimerOut { queue, event }) = events.take_first() {
@@ -203,8 +199,9 @@ impl<'a> System<'a> {
         match self.to_timers.pop_front() {
             Some((port, event)) => {
                 let mut out = Outbox::new(self.alloc);
-                self.timers_journal.push((port, event.note()?))?;
-                self.timers.take(port, event, &mut out)?;
+                if self.timers.take(port, event, &mut out).is_err() {
+                    return Err(OutOfMemory);
+                }
                 self.spread_ticks(out)
             }
             None => Ok(()),

@@ -1,0 +1,15 @@
+pub mod Changes
+pub mod Holding
+pub mod Keeping
+pub mod Lists
+pub mod Live
+pub mod Orders
+pub mod Places
+pub mod Pushes
+pub mod Reactions
+pub mod Rolls
+pub mod Sorting
+pub mod Standing
+pub mod Ticks
+pub mod Words
+pub mod Writes

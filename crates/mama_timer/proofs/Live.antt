@@ -1,0 +1,160 @@
+-- Which timers are live, where they stand, and which slots they hold.
+use Rattle.std.specs.Prelude.{Option, None, Some, is_some, max, nat_le, if◌then◌else◌}
+use Rattle.std.specs.List.{list_any, flat_map, filter}
+use Rattle.std.specs.Option.{option_or}
+use Rattle.std.proofs.Common.{◌≡◌, ℕ, zero, suc, ◌+◌, ◌≤◌, ◌<◌, ◌==◌, eqb, Bool, true, false, not, ◌&&◌, ◌||◌, cond, List, [], ◌∷◌, ◌++◌, length, map, refl, sym, ◌∙◌, ap, subst, arith, append-nil, append_assoc, ⊎_elim, ◌⊎◌}
+use Rattle.std.proofs.lemmas.Bool.{and_parts, and_from, both_ways, or_left, or_right, or_cases, cases_Bool, false_from_ne_true, true_from_ne_false, eqb-true, eq-eqb, cases_eq}
+use Rattle.std.proofs.lemmas.Bool.Decides.{nat_tests}
+use Rattle.std.proofs.lemmas.List.Folds.{list_any-append}
+use Rattle.std.proofs.lemmas.Map.Steps.{le-length_from_below}
+use Rattle.mama_journal.specs.Journal.{puts, all_puts, turns, first_said, numbers_below, least_from, least_free}
+use Rattle.mama_event.specs.Ports.{queues_of}
+use Rattle.mama_event.specs.Object.{same_timer}
+use Rattle.mama_event.specs.declared.ids.TimerId.{TimerId}
+use Rattle.mama_event.specs.declared.ids.ObjectId.TheVariants.{Timer}
+use Rattle.mama_event.specs.declared.shape.Shape.{Shape}
+use Rattle.mama_event.specs.declared.to_queue.Make.TheVariants as make
+use Rattle.mama_event.specs.declared.to_queue.QueueNote.{QueueNote}
+use Rattle.mama_event.specs.declared.to_queue.QueueNote.TheVariants as q
+use Rattle.mama_rules.specs.Timers.{TimersEvent, arms, disarms, now, client_done, bye, fin, no_event, clock, arms_timer, disarms_timer, has_ending, is_armed, is_live, newly_armed, comes_first, in_order, live_timers, firing, created_in, place_of, to_place, slot_on, free_slot, gone, answer, ending_comes, timers_reaction}
+use Rattle.mama_timer.proofs.Lists.{by_entries, puts-push, all_puts-push, first_said-append, said_still, said_none, none_more, none_of_flat_map, none_of_map, list_any-push, list_any-agree, list_any-flat_map, list_any-filter}
+use Rattle.mama_timer.proofs.Orders.{same_timer-is, same_timer-itself, same_timer-flips}
+use Rattle.mama_timer.proofs.Pushes.{is_armed-push, has_ending-still, live_before, armed_came, IsNoEnd}
+use Rattle.mama_timer.proofs.Sorting.{has, IsAscending, AreApart, comes_first-order, ascending-in_order, has-in_order, has-filter, apart-filter, apart-push}
+
+-- ---- the timers that were armed
+
+-- the timers that were armed, in order of their first arming
+abbrev pub all_armed : List TimersEvent → List TimerId
+all_armed es = puts newly_armed es
+
+is_some_cond : (b : Bool) (p : ℕ × ℕ) → is_some (cond b (Some p) None) ≡ b
+is_some_cond true p = refl
+is_some_cond false p = refl
+
+pub arms_timer-arms : (t u : TimerId) (queue interval : ℕ) (tag : _) → arms_timer t (arms u queue interval tag) ≡ same_timer u t
+arms_timer-arms t u queue interval tag = is_some_cond (same_timer u t) (queue, interval)
+
+none : (b : Bool) → b ≡ (b || false)
+none true = refl
+none false = refl
+
+newly_has : (t : TimerId) (es : List TimersEvent) (e : TimersEvent) → (has t (newly_armed es e) || list_any (arms_timer t) es) ≡ (list_any (arms_timer t) es || arms_timer t e)
+newly_has t es (arms u queue interval tag) = by_case (list_any (arms_timer u) es) refl ∙ ap (λ b. list_any (arms_timer t) es || b) (sym (arms_timer-arms t u queue interval tag))
+  where
+    or_swap : (a b : Bool) → ((a || false) || b) ≡ (b || a)
+    or_swap true true = refl
+    or_swap true false = refl
+    or_swap false true = refl
+    or_swap false false = refl
+
+    known : (b : Bool) → same_timer u t ≡ b → list_any (arms_timer u) es ≡ true → list_any (arms_timer t) es ≡ (list_any (arms_timer t) es || b)
+    known true s h = let is : list_any (arms_timer t) es ≡ true = ap (λ (v : TimerId). list_any (arms_timer v) es) (sym (same_timer-is u t s)) ∙ h in is ∙ sym (or_left (list_any (arms_timer t) es) true is)
+    known false s h = or_false (list_any (arms_timer t) es)
+      where
+        or_false : (b : Bool) → b ≡ (b || false)
+        or_false true = refl
+        or_false false = refl
+
+    by_case : (b : Bool) → list_any (arms_timer u) es ≡ b → (has t (cond b [] (u ∷ [])) || list_any (arms_timer t) es) ≡ (list_any (arms_timer t) es || same_timer u t)
+    by_case true h = known (same_timer u t) refl h
+    by_case false h = or_swap (same_timer u t) (list_any (arms_timer t) es)
+newly_has t es (disarms u) = none (list_any (arms_timer t) es)
+newly_has t es (now moment) = none (list_any (arms_timer t) es)
+newly_has t es (client_done c) = none (list_any (arms_timer t) es)
+newly_has t es (bye k) = none (list_any (arms_timer t) es)
+newly_has t es fin = none (list_any (arms_timer t) es)
+newly_has t es no_event = none (list_any (arms_timer t) es)
+
+or_flip : (a b : Bool) → (a || b) ≡ (b || a)
+or_flip true true = refl
+or_flip true false = refl
+or_flip false true = refl
+or_flip false false = refl
+
+pub has-armed : (t : TimerId) (es : List TimersEvent) → has t (all_armed es) ≡ list_any (arms_timer t) es
+has-armed t es = by_entries (λ (xs : List TimersEvent). has t (all_armed xs) ≡ list_any (arms_timer t) xs) refl
+    (λ xs e ih. ap (has t) (puts-push newly_armed xs e) ∙ list_any-append (λ r. same_timer r t) (all_armed xs) (newly_armed xs e)
+    ∙ or_flip (has t (all_armed xs)) (has t (newly_armed xs e))
+    ∙ ap (λ (b : Bool). has t (newly_armed xs e) || b) ih ∙ newly_has t xs e ∙ sym (list_any-push (arms_timer t) xs e)) es
+
+apart_newly : (xs : List TimersEvent) (e : TimersEvent) → AreApart (all_armed xs) → AreApart (all_armed xs ++ newly_armed xs e)
+apart_newly xs (arms u queue interval tag) ih = by_case (list_any (arms_timer u) xs) refl
+  where
+    by_case : (b : Bool) → list_any (arms_timer u) xs ≡ b → AreApart (all_armed xs ++ cond b [] (u ∷ []))
+    by_case true h = subst AreApart (sym (append-nil (all_armed xs))) ih
+    by_case false h = apart-push (all_armed xs) u ih (has-armed u xs ∙ h)
+apart_newly xs (disarms u) ih = subst AreApart (sym (append-nil (all_armed xs))) ih
+apart_newly xs (now moment) ih = subst AreApart (sym (append-nil (all_armed xs))) ih
+apart_newly xs (client_done c) ih = subst AreApart (sym (append-nil (all_armed xs))) ih
+apart_newly xs (bye k) ih = subst AreApart (sym (append-nil (all_armed xs))) ih
+apart_newly xs fin ih = subst AreApart (sym (append-nil (all_armed xs))) ih
+apart_newly xs no_event ih = subst AreApart (sym (append-nil (all_armed xs))) ih
+
+pub apart-armed : (es : List TimersEvent) → AreApart (all_armed es)
+apart-armed es = by_entries (λ (xs : List TimersEvent). AreApart (all_armed xs)) tt
+    (λ xs e ih. subst AreApart (sym (puts-push newly_armed xs e)) (apart_newly xs e ih)) es
+
+-- ---- the live timers
+
+pub live_came : (shape : Shape) (t : TimerId) (es : List TimersEvent) → is_live shape t es ≡ true → list_any (arms_timer t) es ≡ true
+live_came shape t es h = armed_came t es (and_parts (is_armed t es) (not (has_ending shape es)) h).0
+
+pub has-live : (shape : Shape) (t : TimerId) (es : List TimersEvent) → has t (live_timers shape es) ≡ is_live shape t es
+has-live shape t es =
+    has-in_order comes_first t (filter (λ timer. is_live shape timer es) (all_armed es))
+    ∙ has-filter (λ timer. is_live shape timer es) t (all_armed es)
+    ∙ ap (λ (b : Bool). is_live shape t es && b) (has-armed t es)
+    ∙ by_case (is_live shape t es) (live_came shape t es)
+  where
+    by_case : (b : Bool) → (b ≡ true → list_any (arms_timer t) es ≡ true) → (b && list_any (arms_timer t) es) ≡ b
+    by_case true h = h refl
+    by_case false h = refl
+
+pub ascending-live : (shape : Shape) (es : List TimersEvent) → IsAscending comes_first (live_timers shape es)
+ascending-live shape es = ascending-in_order comes_first comes_first-order (filter (λ timer. is_live shape timer es) (all_armed es))
+    (apart-filter (λ timer. is_live shape timer es) (all_armed es) (apart-armed es))
+
+-- ---- the least free number
+
+in_both : (n k : ℕ) → (n == k) ≡ (k == n)
+in_both n k = grind (arith, nat_tests)
+
+sought : (used : List ℕ) (n fuel k : ℕ) → k ≤ n → n ≤ k + fuel → list_any (λ m. m == n) used ≡ false → ((j : ℕ) → j < n → list_any (λ m. m == j) used ≡ true) → least_from k fuel used ≡ n
+sought used n zero k low high free below = omega (arith, low, high)
+sought used n (suc fuel) k low high free below = ⊎_elim
+    (λ (e : k ≡ n). rw (ap (λ (j : ℕ). list_any (λ m. m == j) used) e ∙ free) e)
+    (λ (ne : k ≡ n → ⊥). let less : k < n = omega (arith, low, ne) in rw (below k less) (sought used n fuel (suc k) (omega (arith, less)) (omega (arith, high)) free below))
+    (cases_eq k n)
+
+-- the least free number is free, and all below it are not
+pub least_free-is : (used : List ℕ) (n : ℕ) → list_any (λ m. m == n) used ≡ false → ((j : ℕ) → j < n → list_any (λ m. m == j) used ≡ true) → least_free used ≡ n
+least_free-is used n free below =
+    let few : n ≤ length used = le-length_from_below used n (λ j less. list_any-agree (λ m. eqb j m) (λ m. m == j) used (λ m. in_both j m) ∙ below j less) in
+    sought used n (length used) 0 (omega arith) (omega (arith, few)) free below
+
+sought_free : (used : List ℕ) (fuel k : ℕ) → ((j : ℕ) → j < k → list_any (λ m. m == j) used ≡ true) → list_any (λ m. m == least_from k fuel used) used ≡ true
+    → (least_from k fuel used ≡ k + fuel) × ((j : ℕ) → j < k + fuel → list_any (λ m. m == j) used ≡ true)
+sought_free used zero k below h = (omega arith, λ j less. below j (omega (arith, less)))
+sought_free used (suc fuel) k below h = by_case (sought_free used fuel (suc k)) (list_any (λ m. m == k) used) refl h
+  where
+    more : list_any (λ m. m == k) used ≡ true → (j : ℕ) → j < suc k → list_any (λ m. m == j) used ≡ true
+    more e j less = ⊎_elim (λ (s : j ≡ k). ap (λ (i : ℕ). list_any (λ m. m == i) used) s ∙ e) (λ (ne : j ≡ k → ⊥). below j (omega (arith, less, ne))) (cases_eq j k)
+
+    by_case : (((j : ℕ) → j < suc k → list_any (λ m. m == j) used ≡ true) → list_any (λ m. m == least_from (suc k) fuel used) used ≡ true
+        → (least_from (suc k) fuel used ≡ suc k + fuel) × ((j : ℕ) → j < suc k + fuel → list_any (λ m. m == j) used ≡ true))
+        → (b : Bool) → list_any (λ m. m == k) used ≡ b → list_any (λ m. m == cond b (least_from (suc k) fuel used) k) used ≡ true
+        → (cond b (least_from (suc k) fuel used) k ≡ k + suc fuel) × ((j : ℕ) → j < k + suc fuel → list_any (λ m. m == j) used ≡ true)
+    by_case next true e h = let rest = next (more e) h in (rest.0 ∙ omega arith, λ j less. rest.1 j (omega (arith, less)))
+    by_case next false e h = absurd (both_ways (list_any (λ m. m == k) used) e h)
+
+-- the least free number is not in use
+pub least_free-free : (used : List ℕ) → list_any (λ m. m == least_free used) used ≡ false
+least_free-free used = false_from_ne_true (list_any (λ m. m == least_free used) used) (λ h.
+    let found = sought_free used (length used) 0 (λ j less. absurd (omega (arith, less))) h in
+    let full : (j : ℕ) → j < suc (length used) → list_any (λ m. m == j) used ≡ true = λ j less. ⊎_elim
+    (λ (s : j ≡ least_free used). ap (λ (i : ℕ). list_any (λ m. m == i) used) s ∙ h)
+    (λ (ne : j ≡ least_free used → ⊥). found.1 j (omega (arith, less, ne, found.0)))
+    (cases_eq j (least_free used)) in
+    let many : suc (length used) ≤ length used = le-length_from_below used (suc (length used)) (λ j less. list_any-agree (λ m. eqb j m) (λ m. m == j) used (λ m. in_both j m) ∙ full j less) in
+    omega (arith, many))

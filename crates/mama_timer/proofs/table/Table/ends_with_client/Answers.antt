@@ -1,0 +1,27 @@
+use Rattle.std.proofs.Common.{◌≡◌, ◌++◌, ◌∷◌, [], ℕ, Bool, List, Some, None, true, false, ◌&&◌, not, map, set, refl, ap, sym, subst, ◌∙◌}
+use Rattle.std.specs.List.{list_any, list_all, flat_map}
+use Rattle.std.proofs.lemmas.Bool.{both_ways}
+use Rattle.mama_journal.specs.Journal.{turns}
+use Rattle.mama_rules.specs.Ports.{timers_putter}
+use Rattle.mama_rules.specs.Timers.{TimersEvent, heard, put_by, arms_timer, has_ending, is_armed, clock, gone, live_timers, place_of, timers_puts, timers_puts_at, now, bye, fin, client_done, disarms, arms}
+use Rattle.mama_timer.specs.declared.table.Row.{Row}
+use Rattle.mama_timer.specs.Rows.{row_of}
+use Rattle.mama_timer.specs.Service.{Service, is_last_bye}
+use Rattle.mama_timer.specs.Stands.{IsStill, IsNoWord}
+use Rattle.mama_timer.proofs.Words.{client_length, client_turns}
+use Rattle.mama_timer.proofs.table.Table.ends_with_client.Goals as goal
+
+pub is_full_with-full-requires : goal.is_full_with-full-requires
+is_full_with-full-requires c =
+    let i = c.self.inside in
+    client_length i.shape i.journal.items c.args.port c.args.note i.clock i.timers.entries i.dues.keys i.slots i.clients_done i.bridge_done i.queues_done c.self.invariant c.args.client
+    (ap (λ (s : Service). put_by (timers_putter s.shape c.args.port) c.args.note) c.self.view_is ∙ c.requires)
+
+pub returns : goal.returns
+returns c =
+    let i = c.self.inside in
+    c.newly.ensures ∙ ap (λ (b : Bool). b && not c.has_ended-had.result) (c.both.ensures ∙ ap (λ (b : Bool). b && i.bridge_done) c.is_full_with-full.ensures)
+    ∙ ap (λ (b : Bool). (list_all (λ b. b) (set i.clients_done c.args.client true) && i.bridge_done) && not b) (c.has_ended-had.ensures ∙ sym (ap (λ (s : Service). has_ending s.shape (heard s.shape s.journal)) c.self.view_is))
+    ∙ client_turns i.shape i.journal.items c.args.port c.args.note i.clock i.timers.entries i.dues.keys i.slots i.clients_done i.bridge_done i.queues_done c.self.invariant c.args.client
+    (ap (λ (s : Service). put_by (timers_putter s.shape c.args.port) c.args.note) c.self.view_is ∙ c.requires)
+    ∙ ap (λ (s : Service). turns (has_ending s.shape) (heard s.shape s.journal) (client_done c.args.client)) c.self.view_is

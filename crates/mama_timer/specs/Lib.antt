@@ -1,0 +1,10 @@
+pub mod Firing
+pub mod Heard
+pub mod Kept
+pub mod Leaving
+pub mod Order
+pub mod Out
+pub mod Rows
+pub mod Service
+pub mod Slots
+pub mod Stands
