@@ -3,7 +3,7 @@
 # to the end, in turn), and 2n messages with twice as many rows, in one process. Each is run three times, and the
 # shortest time counts. A cost that grows as fast as the messages has the ratio 2.
 #
-# Usage: bench/link.sh [MESSAGES]   (n; 1000000 if left out, which has 10000 rows)
+# Usage: bench/link.sh [MESSAGES]   (n, a multiple of 400; 1000000 if left out, which has 10000 rows)
 #
 # The program is written into a scratch folder, proved there over the crates of this repository, and run.
 set -eu

@@ -1,10 +1,10 @@
 #!/bin/bash
 # Time and memory of 'mama_run serial' at n and 2n: updates of one publisher to one subscription; and many publishers,
-# subscriptions and topics. Wants the proved program (./mama builds it). Prints seconds, their ratio, and peak bytes of
+# subscriptions and topics. Wants the proved program (./mama --version builds it). Prints seconds, their ratio, and peak bytes of
 # memory for each byte of input.
 top=$(cd "$(dirname "$0")/.." && pwd)
 program=$top/crates/mama_run/out/mama_run
-[ -x "$program" ] || { echo "no $program: run ./mama once" >&2; exit 1; }
+[ -x "$program" ] || { echo "no $program: run ./mama --version once" >&2; exit 1; }
 scratch=$(mktemp -d) || exit 1
 trap 'rm -rf "$scratch"' EXIT
 

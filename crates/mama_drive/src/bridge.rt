@@ -76,6 +76,7 @@ pub struct Bridge {
 }
 
 impl Bridge {
+    /// A bridge of this shape that has taken nothing yet.
     pub fn new(alloc: Global, shape: &Shape) -> Result<Bridge, OutOfMemory> {
         let topics = shape.publisher_topics.as_slice();
         let mut first_publisher = BTreeMap::new(alloc);

@@ -65,6 +65,7 @@ pub struct QueueNotes {
 }
 
 impl Queue {
+    /// A queue that has taken nothing yet.
     pub fn new(alloc: Global) -> Queue {
         Queue {
             alloc,

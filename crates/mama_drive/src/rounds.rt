@@ -1,6 +1,7 @@
 use crate::system::{System, count_of, port_from};
 use mama_edge::Clock;
 use mama_memory::OutOfMemory;
+use std::collections::BTreeSet;
 
 impl<'a> System<'a> {
     /// A client makes its next step, if it has one.
@@ -39,57 +40,77 @@ impl<'a> System<'a> {
         Err(OutOfMemory)
     }
 
-    /// One round: each client makes a step, and then each publisher, and everything is drained after each step.
-    fn round<C: Clock>(&mut self, clock: &mut C) -> Result<(), OutOfMemory> {
+    /// The round of a client's next step that does something, if it could make a step in this round. It rests until
+    /// then. None where it has made all its steps.
+    fn client_round(&mut self, number: u32, round: u64) -> Option<u64> {
+        let seat = self.clients.get_mut(number as usize)?;
+        let mut round = round;
+        for _ in 0..u64::MAX {
+            match seat.idle()? {
+                0 => return Some(round),
+                steps => {
+                    seat.rest(steps);
+                    round = round.saturating_add(u64::from(steps));
+                }
+            }
+        }
+        None
+    }
+
+    /// The same of a publisher.
+    fn publisher_round(&mut self, number: u32, round: u64) -> Option<u64> {
+        let seat = self.publishers.get_mut(number as usize)?;
+        let mut round = round;
+        for _ in 0..u64::MAX {
+            match seat.idle()? {
+                0 => return Some(round),
+                steps => {
+                    seat.rest(steps);
+                    round = round.saturating_add(u64::from(steps));
+                }
+            }
+        }
+        None
+    }
+
+    /// The first step of each client and each publisher, by its round. In a round clients step before publishers, and
+    /// each kind by number.
+    fn first_steps(&mut self) -> Result<BTreeSet<(u64, bool, u32)>, OutOfMemory> {
+        let mut steps = BTreeSet::new(self.alloc);
         for number in 0..count_of(self.clients.len())? {
-            self.client_step(number, clock)?;
+            if let Some(round) = self.client_round(number, 0) {
+                steps.insert((round, false, number))?;
+            }
         }
         for number in 0..count_of(self.publishers.len())? {
-            self.publisher_step(number)?;
+            if let Some(round) = self.publisher_round(number, 0) {
+                steps.insert((round, true, number))?;
+            }
         }
-        Ok(())
+        Ok(steps)
     }
 
-    /// In how many rounds nothing happens before something does; none where the run is over.
-    fn idle(&self) -> Option<u32> {
-        let mut idle = None;
-        for seat in &self.clients {
-            idle = least(idle, seat.idle());
-        }
-        for seat in &self.publishers {
-            idle = least(idle, seat.idle());
-        }
-        idle
-    }
-
-    /// As many rounds, in which nothing happens.
-    fn rest(&mut self, rounds: u32) {
-        for seat in self.clients.iter_mut() {
-            seat.rest(rounds);
-        }
-        for seat in self.publishers.iter_mut() {
-            seat.rest(rounds);
-        }
-    }
-
-    /// Rounds, until every client and every publisher has made all its steps.
+    /// Makes the steps of all rounds in order, until every client and every publisher has made all of its own. Steps
+    /// in which nothing happens are passed over.
     pub fn play<C: Clock>(&mut self, clock: &mut C) -> Result<(), OutOfMemory> {
+        let mut steps = self.first_steps()?;
         for _ in 0..u64::MAX {
-            match self.idle() {
+            let (round, sends, number) = match steps.pop_first() {
+                Some(step) => step,
                 None => return Ok(()),
-                Some(0) => self.round(clock)?,
-                Some(rounds) => self.rest(rounds),
+            };
+            let next = round.saturating_add(1);
+            let next = if sends {
+                self.publisher_step(number)?;
+                self.publisher_round(number, next)
+            } else {
+                self.client_step(number, clock)?;
+                self.client_round(number, next)
+            };
+            if let Some(next) = next {
+                steps.insert((next, sends, number))?;
             }
         }
         Err(OutOfMemory)
-    }
-}
-
-/// The lesser of two counts, where none is more than any.
-fn least(a: Option<u32>, b: Option<u32>) -> Option<u32> {
-    match (a, b) {
-        (None, b) => b,
-        (a, None) => a,
-        (Some(a), Some(b)) => Some(a.min(b)),
     }
 }

@@ -10,6 +10,7 @@ pub struct Slots {
 }
 
 impl Slots {
+    /// All slots are free. It takes no memory.
     pub fn new(alloc: Global) -> Slots {
         Slots {
             freed: BTreeSet::new(alloc),

@@ -18,7 +18,7 @@ use mama_memory::OutOfMemory;
 use mama_script::{ClientLines, PublisherPart, Script};
 use mama_timer::{TimerOut, Timers};
 use std::alloc::Global;
-use std::collections::VecDeque;
+use std::collections::{BTreeSet, VecDeque};
 
 /// All actors of a script on one thread, with what waits on the lanes between them.
 #[derive(Drop)]
@@ -34,6 +34,9 @@ pub struct System<'a> {
     pub(crate) timers: Timers<ObjectId>,
     to_bridge: VecDeque<(u32, ToBridge<ObjectId>)>,
     to_timers: VecDeque<(u32, ToTimers<ObjectId>)>,
+    // The numbers of the publishers and of the queues on whose lanes something waits.
+    ready_publishers: BTreeSet<u32>,
+    ready_queues: BTreeSet<u32>,
 }
 
 /// The port of the actor of this number, where those of its kind begin at `base`.
@@ -105,6 +108,8 @@ impl<'a> System<'a> {
             timers: Timers::new(alloc, shape)?,
             to_bridge: VecDeque::new(alloc),
             to_timers: VecDeque::new(alloc),
+            ready_publishers: BTreeSet::new(alloc),
+            ready_queues: BTreeSet::new(alloc),
         })
     }
 
@@ -112,8 +117,8 @@ impl<'a> System<'a> {
     pub(crate) fn is_quiet(&self) -> bool {
         self.to_bridge.is_empty()
             && self.to_timers.is_empty()
-            && self.publishers.iter().all(|seat| seat.is_quiet())
-            && self.queues.iter().all(|seat| seat.is_quiet())
+            && self.ready_publishers.is_empty()
+            && self.ready_queues.is_empty()
     }
 
     /// Puts events of a port on the bridge's lane, in order.
@@ -137,6 +142,7 @@ impl<'a> System<'a> {
     fn put_to_publisher(&mut self, number: u32, event: ToPublisher) -> Result<(), OutOfMemory> {
         if let Some(seat) = self.publishers.get_mut(number as usize) {
             seat.put(event)?;
+            self.ready_publishers.insert(number)?;
         }
         Ok(())
     }
@@ -149,6 +155,7 @@ impl<'a> System<'a> {
     ) -> Result<(), OutOfMemory> {
         if let Some(seat) = self.queues.get_mut(number as usize) {
             seat.put(port, event)?;
+            self.ready_queues.insert(number)?;
         }
         Ok(())
     }
@@ -213,15 +220,18 @@ impl<'a> System<'a> {
         let port = port_from(self.shape.clients, number)?;
         if let Some(seat) = self.publishers.get_mut(number as usize) {
             let out = seat.turn()?;
+            if seat.is_quiet() {
+                self.ready_publishers.remove(&number);
+            }
             append_to_bridge(&mut self.to_bridge, port, out)?;
         }
         Ok(())
     }
 
-    /// Each publisher takes the first event of its lane, if there is one.
+    /// Each publisher takes the first event of its lane, if there is one. Their turns put nothing on each other's
+    /// lanes, so those that are not ready now have no turn.
     fn publisher_turns(&mut self) -> Result<(), OutOfMemory> {
-        let count = count_of(self.publishers.len())?;
-        for number in 0..count {
+        for number in ready(self.alloc, &self.ready_publishers)? {
             self.publisher_turn(number)?;
         }
         Ok(())
@@ -251,6 +261,9 @@ impl<'a> System<'a> {
         let bridge_port = port_from(port_from(self.shape.clients, publishers)?, number)?;
         if let Some(seat) = self.queues.get_mut(number as usize) {
             let puts = seat.turn()?;
+            if seat.is_quiet() {
+                self.ready_queues.remove(&number);
+            }
             self.put_all(bridge_port, timers_port, puts)?;
         }
         Ok(())
@@ -258,8 +271,7 @@ impl<'a> System<'a> {
 
     /// Each queue takes the first event of its lane, if there is one.
     fn queue_turns(&mut self) -> Result<(), OutOfMemory> {
-        let count = count_of(self.queues.len())?;
-        for number in 0..count {
+        for number in ready(self.alloc, &self.ready_queues)? {
             self.queue_turn(number)?;
         }
         Ok(())
@@ -272,6 +284,15 @@ impl<'a> System<'a> {
         self.publisher_turns()?;
         self.queue_turns()
     }
+}
+
+/// The numbers that are ready, ascending.
+fn ready(alloc: Global, numbers: &BTreeSet<u32>) -> Result<Vec<u32>, OutOfMemory> {
+    let mut list = Vec::new(alloc);
+    for number in numbers {
+        list.push(*number)?;
+    }
+    Ok(list)
 }
 
 /// The number of actors of a kind. No accepted script has more than fit.

@@ -1,5 +1,5 @@
 -- What the answers of the top call say.
-use Rattle.std.specs.Prelude.{◌≡◌, ℕ, List, [], ⊤, Option, Some, IfSome, Err}
+use Rattle.std.specs.Prelude.{◌≡◌, ◌≤◌, length, ℕ, List, [], ⊤, Option, Some, IfSome, Err}
 use Rattle.mama_script.specs.Script.{ScriptData}
 use Rattle.mama_script.specs.Tree.{IsScript, script_text}
 use Rattle.mama_script.specs.Reading.{script_in}
@@ -11,11 +11,12 @@ use Rattle.mama_run.specs.declared.status.Status.TheVariants as s
 use Rattle.mama_run.specs.declared.run.NoLog.{NoLog}
 use Rattle.mama_run.specs.declared.run.NoLog.TheVariants as n
 
--- a source gave this text to its end, as far as it tells its bytes
-abbrev pub GaveAll : Option (List ℕ) → Option (List ℕ) → List ℕ → Type 0
-GaveAll old new text = IfSome old (λ left. (text ≡ left) × (new ≡ Some []))
+-- a source gave this text to its end, as far as it tells its bytes, and the text is not too long
+pub record GaveAll (old new : Option (List ℕ)) (text : List ℕ) : Type 0 where
+  pub whole : IfSome old (λ left. (text ≡ left) × (new ≡ Some []))
+  pub within : length text ≤ 67108864
 
--- the text spells an accepted script, and the other is the log of one record for a system of the script's shape
+-- the text spells an accepted script, and the other is the log of some record, its ports named by the script's shape
 abbrev pub IsLogOf : List ℕ → List ℕ → Type 0
 IsLogOf text log = (script : ScriptData) × IsScript script × (text ≡ script_text script) × (run : RunData) × (log ≡ log_text script.shape run)
 

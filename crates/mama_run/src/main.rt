@@ -24,8 +24,16 @@ exit status: 0 all was done, 2 the words are no command, 3 the script has a faul
 
 fn main(rt: HostRuntime) -> io::Result<ExitCode> {
     let mut words = Vec::new(rt.alloc());
-    for word in env::args(&rt)? {
-        words.push(word)?;
+    match env::args(&rt) {
+        Ok(args) => {
+            for word in args {
+                if words.push(word).is_err() {
+                    return Ok(end(&rt, Status::OutOfMemory));
+                }
+            }
+        }
+        // Words that are no text are no command.
+        Err(_) => return Ok(end(&rt, Status::BadWords)),
     }
     let words = if words.is_empty() {
         words.as_slice()
@@ -34,19 +42,31 @@ fn main(rt: HostRuntime) -> io::Result<ExitCode> {
     };
     if let [word] = words {
         if word.as_str() == "--help" {
-            print!(rt; "{HELP}")?;
-            return Ok(ExitCode::from(0));
+            return Ok(end(&rt, written(print!(rt; "{HELP}").is_ok())));
         }
         if word.as_str() == "--version" {
-            println!(rt; "mama_run 1")?;
-            return Ok(ExitCode::from(0));
+            return Ok(end(&rt, written(println!(rt; "mama_run 1").is_ok())));
         }
     }
     let status = serve(&rt, words);
+    Ok(end(&rt, status))
+}
+
+/// How a call ended that only writes.
+fn written(whole: bool) -> Status {
+    if whole {
+        Status::Ok
+    } else {
+        Status::WriteFault { written: 0 }
+    }
+}
+
+/// Tells any status but Ok on standard error, and gives the exit status.
+fn end(rt: &HostRuntime, status: Status) -> ExitCode {
     if status != Status::Ok {
         let _ = eprintln!(rt; "mama_run: {status}");
     }
-    Ok(status.exit())
+    status.exit()
 }
 
 fn serve(rt: &HostRuntime, words: &[String]) -> Status {

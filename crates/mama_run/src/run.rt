@@ -47,7 +47,7 @@ pub fn run_plain<S: Source, K: Sink, C: Clock>(
     ensures write_fault { IfWriteFault result (λ written. Rose (K.faults sink.old) (K.faults sink.new)) }
 
     // The input is too long only where one byte more than the limit was taken.
-    ensures too_long { result ≡ Status.OverLimit 0 1 → Lost (S.left source.old) (S.left source.new) 67108865 }
+    ensures too_long { IfOverLimit result (λ line limit. line ≡ 0 → (limit ≡ 1) × Lost (S.left source.old) (S.left source.new) 67108865) }
 
     // A fault or a limit is that of the text that the source gave: its first line that has one.
     ensures bad_script { IfBadScript result (λ line fault. (text : List ℕ) × GaveAll (S.left source.old) (S.left source.new) text
@@ -120,7 +120,6 @@ fn status_of(fault: NoLog) -> Status
     ensures words { result ≢ Status.BadWords }
     ensures read { result ≢ Status.ReadFault }
     ensures ok { result ≢ Status.Ok }
-    ensures long { result ≢ Status.OverLimit 0 1 }
     ensures written { IfWriteFault result (λ written. ⊥) }
     ensures bad { IfBadScript result (λ line number. fault ≡ NoLog.Script (script.Bad line number)) }
     ensures over { IfOverLimit result (λ line limit. (line ≢ 0) × (fault ≡ NoLog.Script (script.OverLimit line limit))) }
