@@ -1,12 +1,9 @@
 -- What the code keeps stands for the journal after an arming, a disarming and a moment.
-use Rattle.std.specs.Prelude.{Option, None, Some, is_some, max, min, nat_le, if◌then◌else◌}
-use Rattle.std.specs.List.{list_any, flat_map, filter}
-use Rattle.std.specs.Option.{option_or, option_map}
-use Rattle.std.specs.Ordering.{is_eq}
-use Rattle.std.proofs.Common.{◌≡◌, ℕ, ◌+◌, ◌<◌, ◌≤◌, ◌==◌, Bool, true, false, not, ◌&&◌, ◌||◌, cond, List, [], ◌∷◌, ◌++◌, map, refl, sym, ◌∙◌, ap, subst, arith, inl, inr, ⊎_elim, ◌⊎◌, append-nil}
-use Rattle.std.proofs.lemmas.Bool.{and_parts, and_from, both_ways, or_left, or_right, or_cases, or_from, or_parts, not-true, false_from_ne_true, cases_Bool, true≢false}
-use Rattle.std.proofs.lemmas.Bool.Decides.{nat_tests}
-use Rattle.mama_journal.specs.Journal.{puts, all_puts, turns, first_said}
+use Rattle.std.specs.Prelude.{Option, None, Some, is_some, nat_le, if◌then◌else◌}
+use Rattle.std.specs.List.{list_any}
+use Rattle.std.specs.Option.{option_map}
+use Rattle.std.proofs.Common.{◌≡◌, ℕ, ◌+◌, ◌==◌, Bool, true, false, not, ◌&&◌, ◌||◌, cond, List, [], ◌∷◌, ◌++◌, refl, sym, ◌∙◌, ap, subst, arith, ⊎_elim, append-nil}
+use Rattle.std.proofs.lemmas.Bool.{and_parts, and_from, both_ways, or_from, or_parts, not-true, cases_Bool}
 use Rattle.mama_event.specs.Object.{same_timer}
 use Rattle.mama_event.specs.declared.ids.TimerId.{TimerId}
 use Rattle.mama_event.specs.declared.ids.ObjectId.{ObjectId}
@@ -15,18 +12,17 @@ use Rattle.mama_event.specs.declared.shape.Shape.{Shape}
 use Rattle.mama_event.specs.declared.to_queue.Make.TheVariants as make
 use Rattle.mama_event.specs.declared.to_queue.QueueNote.{QueueNote}
 use Rattle.mama_event.specs.declared.to_queue.QueueNote.TheVariants as q
-use Rattle.mama_rules.specs.Timers.{TimersEvent, arms, disarms, now, client_done, bye, fin, no_event, clock, moment_in, terms_in, arms_timer, disarms_timer, has_ending, is_armed, is_live, due_step, due_along, newly_armed, created_in, place_of, free_slot, gone, timers_reaction}
+use Rattle.mama_rules.specs.Timers.{TimersEvent, arms, disarms, now, clock, terms_in, arms_timer, disarms_timer, has_ending, is_armed, is_live, due_step, due_along, newly_armed, created_in, place_of}
 use Rattle.mama_timer.specs.declared.table.Row.{Row}
-use Rattle.mama_timer.specs.Order.{due_cmp}
 use Rattle.mama_timer.specs.Rows.{laid_down}
 use Rattle.mama_timer.specs.Slots.{SlotData, in_use}
-use Rattle.mama_timer.specs.Stands.{stands_at, is_held, IsRow, AreRows, AreListed, Stands}
-use Rattle.mama_timer.proofs.Lists.{puts-push, said_still, said_none, list_any-push}
-use Rattle.mama_timer.proofs.Orders.{same_timer-is, same_timer-itself, same_timer-flips, due_tied}
-use Rattle.mama_timer.proofs.Pushes.{clock-push, is_armed-push, due_along-push, has_ending-still, has_ending-keeps, live_before, armed_came, IsNoEnd}
-use Rattle.mama_timer.proofs.Live.{all_armed, has-armed, live_came, arms_timer-arms}
-use Rattle.mama_timer.proofs.Holding.{Facts, held_same, held_armed, held_disarmed, free_slot-is}
-use Rattle.mama_timer.proofs.Reactions.{arms_no_end, disarms_no_end, late_slot, place_new, place_old, made_none}
+use Rattle.mama_timer.specs.Stands.{is_held, IsRow, AreListed, Stands}
+use Rattle.mama_timer.proofs.Lists.{puts-push, said_none, list_any-push}
+use Rattle.mama_timer.proofs.Orders.{same_timer-is, same_timer-itself}
+use Rattle.mama_timer.proofs.Pushes.{clock-push, is_armed-push, due_along-push, has_ending-still, has_ending-keeps, live_before, armed_came}
+use Rattle.mama_timer.proofs.Live.{all_armed, arms_timer-arms}
+use Rattle.mama_timer.proofs.Holding.{Facts, held_same, held_armed, held_disarmed}
+use Rattle.mama_timer.proofs.Reactions.{arms_no_end, place_new, place_old}
 use Rattle.mama_timer.specs.Firing.{ticked, due_then}
 use Rattle.mama_timer.proofs.Lists.{by_entries}
 use Rattle.mama_timer.proofs.Standing.{not_yet, armed_step, row_step, live_still, due_arms, due_disarms}

@@ -1,26 +1,19 @@
 -- Which slots live timers hold.
-use Rattle.std.specs.Prelude.{Option, None, Some, is_some, if◌then◌else◌}
+use Rattle.std.specs.Prelude.{Option, None, Some, is_some}
 use Rattle.std.specs.List.{list_any, flat_map, filter}
-use Rattle.std.specs.Option.{option_or}
-use Rattle.std.proofs.Common.{◌≡◌, ℕ, ◌<◌, ◌==◌, Bool, true, false, not, ◌&&◌, ◌||◌, cond, List, [], ◌∷◌, ◌++◌, refl, sym, ◌∙◌, ap, subst, arith, ⊎_elim, ◌⊎◌, append-nil}
-use Rattle.std.proofs.lemmas.Bool.{and_parts, and_from, both_ways, or_left, false_from_ne_true, eqb-true, eq-eqb}
+use Rattle.std.proofs.Common.{◌≡◌, ℕ, ◌<◌, ◌==◌, Bool, true, false, not, ◌&&◌, ◌||◌, cond, List, [], ◌∷◌, ◌++◌, refl, sym, ◌∙◌, ap, arith}
+use Rattle.std.proofs.lemmas.Bool.{and_parts, both_ways, false_from_ne_true, eqb-true}
 use Rattle.std.proofs.lemmas.Bool.Decides.{nat_tests}
-use Rattle.mama_journal.specs.Journal.{puts}
 use Rattle.mama_event.specs.Object.{same_timer}
 use Rattle.mama_event.specs.declared.ids.TimerId.{TimerId}
-use Rattle.mama_event.specs.declared.ids.ObjectId.{ObjectId}
-use Rattle.mama_event.specs.declared.ids.ObjectId.TheVariants.{Timer}
 use Rattle.mama_event.specs.declared.shape.Shape.{Shape}
-use Rattle.mama_event.specs.declared.to_queue.Make.TheVariants as make
 use Rattle.mama_event.specs.declared.to_queue.QueueNote.{QueueNote}
-use Rattle.mama_event.specs.declared.to_queue.QueueNote.TheVariants as q
-use Rattle.mama_rules.specs.Timers.{TimersEvent, arms, disarms, arms_timer, disarms_timer, has_ending, is_armed, is_live, newly_armed, live_timers, comes_first, created_in, place_of, slot_on, free_slot}
+use Rattle.mama_rules.specs.Timers.{TimersEvent, arms_timer, is_live, live_timers, comes_first, place_of, slot_on, free_slot}
 use Rattle.mama_timer.specs.Stands.{stands_at, is_held}
-use Rattle.mama_timer.proofs.Lists.{puts-push, first_said-append, said_still, list_any-push, list_any-agree, list_any-flat_map, list_any-filter}
-use Rattle.mama_timer.proofs.Orders.{same_timer-is, same_timer-itself, same_timer-flips}
-use Rattle.mama_timer.proofs.Pushes.{is_armed-push, has_ending-still, IsNoEnd}
-use Rattle.mama_timer.proofs.Sorting.{has, any-in_order, any_members, any_member, any_never}
-use Rattle.mama_timer.proofs.Live.{all_armed, has-armed, has-live, live_came, arms_timer-arms, least_free-is, least_free-free}
+use Rattle.mama_timer.proofs.Lists.{list_any-push, list_any-agree, list_any-flat_map, list_any-filter}
+use Rattle.mama_timer.proofs.Orders.{same_timer-is, same_timer-itself}
+use Rattle.mama_timer.proofs.Sorting.{any-in_order, any_members, any_never}
+use Rattle.mama_timer.proofs.Live.{all_armed, has-armed, least_free-is, least_free-free}
 
 -- where timers stand: each that was armed has a place, and no two live ones have one place
 pub record Facts (shape : Shape) (es : List TimersEvent) (sofar : List (ℕ × QueueNote)) : Type 0 where

@@ -5,31 +5,29 @@ use Rattle.std.specs.List.Sorted.{IsStrictlySortedBy}
 use Rattle.std.specs.Option.{option_map}
 use Rattle.std.specs.BTreeMap.{is_at}
 use Rattle.mama_event.specs.Object.{same_timer}
-use Rattle.mama_event.specs.declared.to_timers.TimersNote.TheVariants as t
 use Rattle.mama_timer.specs.declared.firing.Firing.{Firing}
 use Rattle.mama_timer.specs.Firing.{firing_of, is_due_at, next_key, row_after}
 use Rattle.mama_timer.proofs.Live.{all_armed}
 use Rattle.mama_timer.proofs.Ticks.{reached_are, rows_ticked, listed_ticked, ticks_are}
 use Rattle.std.specs.List.{list_any, list_all}
-use Rattle.std.specs.Map.{lookup}
-use Rattle.std.proofs.Common.{◌≡◌, ℕ, zero, suc, ◌+◌, ◌-◌, ◌<◌, ◌≤◌, ◌^◌, ◌==◌, Bool, true, false, not, ◌&&◌, ◌||◌, cond, List, [], ◌∷◌, ◌++◌, map, length, set, replicate, refl, sym, ◌∙◌, ap, subst, arith, ⊎_elim, ◌⊎◌, length-append}
-use Rattle.std.proofs.lemmas.Bool.{both_ways, and_from, false_from_ne_true, cases_eq, eq-eqb, ne_eqb, and_parts}
+use Rattle.std.proofs.Common.{◌≡◌, ℕ, zero, suc, ◌+◌, ◌-◌, ◌<◌, ◌≤◌, ◌^◌, ◌==◌, Bool, true, false, not, ◌&&◌, ◌||◌, cond, List, [], ◌∷◌, ◌++◌, map, length, set, replicate, refl, sym, ◌∙◌, ap, subst, arith, ⊎_elim, length-append}
+use Rattle.std.proofs.lemmas.Bool.{both_ways, and_from, false_from_ne_true, cases_eq, eq-eqb, ne_eqb}
 use Rattle.std.proofs.lemmas.List.{map-append, set-append_left}
 use Rattle.std.proofs.lemmas.List.Folds.{list_all-append}
 use Rattle.std.proofs.Math.Seq.{set-append_seam}
-use Rattle.mama_journal.specs.Journal.{all_puts, turns, all_below, numbers_below}
+use Rattle.mama_journal.specs.Journal.{all_puts, all_below, numbers_below}
 use Rattle.mama_event.specs.Ports.{clients_of, queues_of}
 use Rattle.mama_event.specs.declared.ids.TimerId.{TimerId}
 use Rattle.mama_event.specs.declared.shape.Shape.{Shape}
 use Rattle.mama_event.specs.declared.to_timers.TimersNote.{TimersNote}
 use Rattle.mama_event.specs.declared.to_queue.QueueNote.{QueueNote}
 use Rattle.mama_rules.specs.Ports.{timers_putter}
-use Rattle.mama_rules.specs.Timers.{TimersEvent, arms, disarms, now, client_done, bye, fin, no_event, put_by, heard, ends_client, ends_queue, is_fin, has_ending, arms_timer, is_armed, is_live, free_slot, gone, from_queue, clock, firing, fires_first, due, in_order, comes_first, live_timers, to_place, place_of, timers_reaction, timers_puts, timers_puts_at}
+use Rattle.mama_rules.specs.Timers.{TimersEvent, arms, disarms, now, client_done, bye, fin, no_event, put_by, heard, ends_client, ends_queue, is_fin, has_ending, arms_timer, is_armed, is_live, free_slot, clock, firing, fires_first, due, in_order, comes_first, live_timers, to_place, place_of, timers_reaction, timers_puts, timers_puts_at}
 use Rattle.mama_timer.specs.declared.table.Row.{Row}
 use Rattle.mama_timer.specs.Rows.{row_of, is_listed, laid_down}
 use Rattle.mama_timer.specs.Slots.{SlotData, in_use}
 use Rattle.mama_timer.specs.Service.{Service, taken, every_bye}
-use Rattle.mama_timer.specs.Stands.{IsStill, IsNoWord, is_held, Stands, AreRolls, AreRows, AreListed}
+use Rattle.mama_timer.specs.Stands.{IsStill, IsNoWord, is_held, Stands, AreRolls, AreRows}
 use Rattle.mama_timer.specs.Kept.{Kept}
 use Rattle.mama_timer.proofs.Lists.{all_puts-push, list_any-push}
 use Rattle.std.specs.Ordering.{is_eq}
@@ -42,7 +40,7 @@ use Rattle.mama_timer.proofs.Changes.{stands_armed, stands_disarmed, stands_tick
 use Rattle.mama_timer.proofs.Holding.{Facts, free_slot-is, free_slot-free}
 use Rattle.mama_event.specs.declared.ids.ObjectId.{ObjectId}
 use Rattle.mama_timer.proofs.Pushes.{no_turn, armed_came, clock-small, clock-push}
-use Rattle.mama_timer.proofs.Reactions.{facts, made_none, held_by, now_no_end, late_slot, react_arm, react_known, react_disarm, react_no_disarm, no_ending, nothing_no_end, bye_no_end}
+use Rattle.mama_timer.proofs.Reactions.{facts, made_none, held_by, now_no_end, late_slot, react_arm, react_disarm, react_no_disarm, no_ending, nothing_no_end, bye_no_end}
 use Rattle.mama_timer.proofs.Standing.{stands_still}
 
 -- ---- one entry more, by its meaning

@@ -1,25 +1,19 @@
 -- Which timers are live, where they stand, and which slots they hold.
-use Rattle.std.specs.Prelude.{Option, None, Some, is_some, max, nat_le, if◌then◌else◌}
-use Rattle.std.specs.List.{list_any, flat_map, filter}
-use Rattle.std.specs.Option.{option_or}
-use Rattle.std.proofs.Common.{◌≡◌, ℕ, zero, suc, ◌+◌, ◌≤◌, ◌<◌, ◌==◌, eqb, Bool, true, false, not, ◌&&◌, ◌||◌, cond, List, [], ◌∷◌, ◌++◌, length, map, refl, sym, ◌∙◌, ap, subst, arith, append-nil, append_assoc, ⊎_elim, ◌⊎◌}
-use Rattle.std.proofs.lemmas.Bool.{and_parts, and_from, both_ways, or_left, or_right, or_cases, cases_Bool, false_from_ne_true, true_from_ne_false, eqb-true, eq-eqb, cases_eq}
+use Rattle.std.specs.Prelude.{None, Some, is_some}
+use Rattle.std.specs.List.{list_any, filter}
+use Rattle.std.proofs.Common.{◌≡◌, ℕ, zero, suc, ◌+◌, ◌≤◌, ◌<◌, ◌==◌, eqb, Bool, true, false, not, ◌&&◌, ◌||◌, cond, List, [], ◌∷◌, ◌++◌, length, refl, sym, ◌∙◌, ap, subst, arith, append-nil, ⊎_elim}
+use Rattle.std.proofs.lemmas.Bool.{and_parts, both_ways, or_left, false_from_ne_true, cases_eq}
 use Rattle.std.proofs.lemmas.Bool.Decides.{nat_tests}
 use Rattle.std.proofs.lemmas.List.Folds.{list_any-append}
 use Rattle.std.proofs.lemmas.Map.Steps.{le-length_from_below}
-use Rattle.mama_journal.specs.Journal.{puts, all_puts, turns, first_said, numbers_below, least_from, least_free}
-use Rattle.mama_event.specs.Ports.{queues_of}
+use Rattle.mama_journal.specs.Journal.{puts, least_from, least_free}
 use Rattle.mama_event.specs.Object.{same_timer}
 use Rattle.mama_event.specs.declared.ids.TimerId.{TimerId}
-use Rattle.mama_event.specs.declared.ids.ObjectId.TheVariants.{Timer}
 use Rattle.mama_event.specs.declared.shape.Shape.{Shape}
-use Rattle.mama_event.specs.declared.to_queue.Make.TheVariants as make
-use Rattle.mama_event.specs.declared.to_queue.QueueNote.{QueueNote}
-use Rattle.mama_event.specs.declared.to_queue.QueueNote.TheVariants as q
-use Rattle.mama_rules.specs.Timers.{TimersEvent, arms, disarms, now, client_done, bye, fin, no_event, clock, arms_timer, disarms_timer, has_ending, is_armed, is_live, newly_armed, comes_first, in_order, live_timers, firing, created_in, place_of, to_place, slot_on, free_slot, gone, answer, ending_comes, timers_reaction}
-use Rattle.mama_timer.proofs.Lists.{by_entries, puts-push, all_puts-push, first_said-append, said_still, said_none, none_more, none_of_flat_map, none_of_map, list_any-push, list_any-agree, list_any-flat_map, list_any-filter}
-use Rattle.mama_timer.proofs.Orders.{same_timer-is, same_timer-itself, same_timer-flips}
-use Rattle.mama_timer.proofs.Pushes.{is_armed-push, has_ending-still, live_before, armed_came, IsNoEnd}
+use Rattle.mama_rules.specs.Timers.{TimersEvent, arms, disarms, now, client_done, bye, fin, no_event, arms_timer, has_ending, is_armed, is_live, newly_armed, comes_first, live_timers}
+use Rattle.mama_timer.proofs.Lists.{by_entries, puts-push, list_any-push, list_any-agree}
+use Rattle.mama_timer.proofs.Orders.{same_timer-is}
+use Rattle.mama_timer.proofs.Pushes.{armed_came}
 use Rattle.mama_timer.proofs.Sorting.{has, IsAscending, AreApart, comes_first-order, ascending-in_order, has-in_order, has-filter, apart-filter, apart-push}
 
 -- ---- the timers that were armed

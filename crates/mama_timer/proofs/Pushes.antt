@@ -1,14 +1,14 @@
 -- What one entry more changes of the words over the service's journal.
-use Rattle.std.specs.Prelude.{Option, None, Some, is_some, max, nat_le, if◌then◌else◌}
+use Rattle.std.specs.Prelude.{Option, None, max, if◌then◌else◌}
 use Rattle.std.specs.List.{list_any}
-use Rattle.std.proofs.Common.{◌≡◌, ℕ, ◌+◌, ◌≤◌, ◌<◌, ◌^◌, Bool, true, false, not, ◌&&◌, ◌||◌, ◌==◌, cond, List, [], ◌∷◌, ◌++◌, map, refl, sym, ◌∙◌, ap, arith, append-nil, append_assoc}
+use Rattle.std.proofs.Common.{◌≡◌, ℕ, ◌≤◌, ◌<◌, ◌^◌, Bool, true, false, not, ◌&&◌, ◌||◌, cond, List, [], ◌∷◌, ◌++◌, refl, sym, ◌∙◌, ap, arith, append-nil, append_assoc}
 use Rattle.std.proofs.lemmas.Bool.{and_parts, and_from, or_left}
 use Rattle.mama_journal.specs.Journal.{turns, all_below}
 use Rattle.mama_event.specs.Ports.{clients_of}
 use Rattle.mama_event.specs.declared.ids.TimerId.{TimerId}
 use Rattle.mama_event.specs.declared.shape.Shape.{Shape}
 use Rattle.mama_rules.specs.Timers.{TimersEvent, arms, disarms, now, client_done, bye, fin, no_event, clock, moment_in, last_moment, terms_in, arms_timer, disarms_timer, ends_client, is_fin, has_ending, is_armed, is_live, due_step, due_along}
-use Rattle.mama_timer.proofs.Lists.{list_any-push, all_below-agree, all_below-weaker, by_entries}
+use Rattle.mama_timer.proofs.Lists.{list_any-push, all_below-agree, all_below-weaker}
 
 pub clock-push : (es : List TimersEvent) (e : TimersEvent) → clock (es ++ e ∷ []) ≡ max (clock es) (moment_in e)
 clock-push [] e = omega arith

@@ -1,11 +1,11 @@
 -- What the service puts at each kind of event, and that it makes no timer's place but at an arming.
 use Rattle.std.specs.Prelude.{Option, None, Some, is_some, if◌then◌else◌}
-use Rattle.std.specs.List.{list_any, flat_map, filter}
+use Rattle.std.specs.List.{list_any, flat_map}
 use Rattle.std.specs.Option.{option_or}
-use Rattle.std.proofs.Common.{◌≡◌, ℕ, ◌<◌, ◌==◌, Bool, true, false, not, ◌&&◌, ◌||◌, cond, List, [], ◌∷◌, ◌++◌, map, refl, sym, ◌∙◌, ap, subst, arith, inl, inr, ⊎_elim, ◌⊎◌, append-nil}
-use Rattle.std.proofs.lemmas.Bool.{and_parts, and_from, both_ways, or_left, or_right, or_cases, false_from_ne_true, cases_Bool}
+use Rattle.std.proofs.Common.{◌≡◌, ℕ, ◌==◌, Bool, true, false, not, ◌&&◌, ◌||◌, cond, List, [], ◌∷◌, ◌++◌, map, refl, sym, ◌∙◌, ap, subst, arith, inl, inr, ⊎_elim, ◌⊎◌, append-nil}
+use Rattle.std.proofs.lemmas.Bool.{and_from, both_ways, or_left, or_cases}
 use Rattle.std.proofs.lemmas.Bool.Decides.{nat_tests}
-use Rattle.mama_journal.specs.Journal.{puts, all_puts, turns, first_said, numbers_below}
+use Rattle.mama_journal.specs.Journal.{all_puts, turns, first_said, numbers_below}
 use Rattle.mama_event.specs.Object.{same_timer}
 use Rattle.mama_event.specs.Ports.{queues_of}
 use Rattle.mama_event.specs.declared.ids.TimerId.{TimerId}
@@ -15,13 +15,13 @@ use Rattle.mama_event.specs.declared.shape.Shape.{Shape}
 use Rattle.mama_event.specs.declared.to_queue.Make.TheVariants as make
 use Rattle.mama_event.specs.declared.to_queue.QueueNote.{QueueNote}
 use Rattle.mama_event.specs.declared.to_queue.QueueNote.TheVariants as q
-use Rattle.mama_rules.specs.Timers.{TimersEvent, arms, disarms, now, client_done, bye, fin, no_event, clock, arms_timer, disarms_timer, has_ending, is_armed, is_live, newly_armed, live_timers, firing, created_in, place_of, to_place, free_slot, gone, answer, ending_comes, timers_reaction}
+use Rattle.mama_rules.specs.Timers.{TimersEvent, arms, disarms, now, client_done, bye, fin, no_event, clock, arms_timer, has_ending, is_armed, is_live, live_timers, firing, created_in, place_of, to_place, free_slot, gone, answer, ending_comes, timers_reaction}
 use Rattle.mama_timer.specs.Stands.{stands_at, is_held}
-use Rattle.mama_timer.proofs.Lists.{by_entries, puts-push, all_puts-push, first_said-append, said_still, said_none, none_more, none_of_flat_map, none_of_map, list_any-push}
-use Rattle.mama_timer.proofs.Orders.{same_timer-is, same_timer-itself, same_timer-flips}
-use Rattle.mama_timer.proofs.Pushes.{is_armed-push, has_ending-still, has_ending-keeps, live_before, armed_came, no_turn, IsNoEnd}
-use Rattle.mama_timer.proofs.Sorting.{has, any_never, any_member}
-use Rattle.mama_timer.proofs.Live.{all_armed, has-armed, has-live, live_came, arms_timer-arms}
+use Rattle.mama_timer.proofs.Lists.{by_entries, all_puts-push, first_said-append, said_still, said_none, none_more, none_of_flat_map, none_of_map, list_any-push}
+use Rattle.mama_timer.proofs.Orders.{same_timer-is, same_timer-itself}
+use Rattle.mama_timer.proofs.Pushes.{live_before, no_turn, IsNoEnd}
+use Rattle.mama_timer.proofs.Sorting.{any_never, any_member}
+use Rattle.mama_timer.proofs.Live.{all_armed, has-armed, live_came, arms_timer-arms}
 use Rattle.mama_timer.proofs.Holding.{Facts, free_slot-is, free_slot-free}
 
 -- what the entry puts at which the ending comes

@@ -1,12 +1,12 @@
 -- The timers that a moment lets tick are those that the code finds among the due moments.
-use Rattle.std.specs.Prelude.{Option, None, Some, is_some, nat_le, nat_lt, if◌then◌else◌}
+use Rattle.std.specs.Prelude.{Option, None, Some, nat_le, nat_lt}
 use Rattle.std.specs.List.{list_any, flat_map, filter, filter_map, take_while, prefix_len, cons_option, AllByRecursion}
 use Rattle.std.specs.List.Sorted.{IsStrictlySortedBy}
 use Rattle.std.specs.Option.{option_map}
 use Rattle.std.specs.Ordering.{is_eq, nat_cmp, ordering_then}
 use Rattle.std.specs.BTreeMap.{is_at}
-use Rattle.std.proofs.Common.{◌≡◌, ℕ, suc, take, ◌+◌, ◌<◌, ◌≤◌, ◌==◌, Bool, true, false, not, ◌&&◌, ◌||◌, cond, List, [], ◌∷◌, ◌++◌, map, refl, sym, ◌∙◌, ap, subst, arith, Less, ⊎_elim, ◌⊎◌}
-use Rattle.std.proofs.lemmas.Bool.{and_parts, and_from, both_ways, or_left, or_right, or_cases, or_from, cases_Bool, false_from_ne_true, eqb-true}
+use Rattle.std.proofs.Common.{◌≡◌, ℕ, suc, take, ◌+◌, ◌==◌, Bool, true, false, not, ◌&&◌, ◌||◌, cond, List, [], ◌∷◌, map, refl, sym, ◌∙◌, ap, subst, arith, Less, ⊎_elim}
+use Rattle.std.proofs.lemmas.Bool.{and_parts, and_from, both_ways, or_left, or_right, or_cases, eqb-true}
 use Rattle.std.proofs.lemmas.Bool.Decides.{nat_tests, same_from_decides}
 use Rattle.std.proofs.lemmas.Map.Keys.{sorted_head, sorted_tail}
 use Rattle.mama_event.specs.Object.{same_timer}
@@ -14,16 +14,16 @@ use Rattle.mama_event.specs.declared.ids.TimerId.{TimerId}
 use Rattle.mama_event.specs.declared.shape.Shape.{Shape}
 use Rattle.mama_event.specs.declared.to_queue.QueueNote.{QueueNote}
 use Rattle.mama_event.specs.declared.to_queue.QueueNote.TheVariants as q
-use Rattle.mama_rules.specs.Timers.{TimersEvent, has_ending, is_armed, is_live, due_along, due, due_moment, comes_first, in_order, live_timers, fires_first, firing, place_of, to_place}
+use Rattle.mama_rules.specs.Timers.{TimersEvent, has_ending, is_armed, is_live, due, due_moment, comes_first, live_timers, fires_first, firing, place_of, to_place}
 use Rattle.mama_timer.specs.declared.table.Row.{Row}
 use Rattle.mama_timer.specs.declared.firing.Firing.{Firing}
 use Rattle.mama_timer.specs.Order.{timer_cmp, due_cmp}
 use Rattle.mama_timer.specs.Rows.{is_listed}
 use Rattle.mama_timer.specs.Firing.{fired, fired_row, firing_of, is_due_at, next_key, due_then, row_after, ticked}
 use Rattle.mama_timer.specs.Slots.{SlotData}
-use Rattle.mama_timer.specs.Stands.{IsRow, AreRows, AreListed, Stands}
+use Rattle.mama_timer.specs.Stands.{AreListed, Stands}
 use Rattle.mama_timer.proofs.Orders.{same_timer-is, same_timer-itself, due_tied, due_ties}
-use Rattle.mama_timer.proofs.Sorting.{has, by_number, by_number-order, Precedes, IsAscending, ascending_one, ascending-apart, ascending-in_order, apart-filter, has-in_order, has-filter, comes_first-order}
+use Rattle.mama_timer.proofs.Sorting.{has, by_number-order, Precedes, IsAscending, ascending_one, ascending-apart, ascending-in_order, apart-filter, has-in_order, has-filter, comes_first-order}
 use Rattle.mama_timer.proofs.Live.{has-live, ascending-live, live_came}
 
 -- ---- the due moments that the clock has reached are the first ones

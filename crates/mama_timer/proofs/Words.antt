@@ -1,12 +1,11 @@
 -- Whose last word a port's event is, and what the ending puts.
-use Rattle.std.specs.Prelude.{Option, None, Some, is_some, nat_le, if◌then◌else◌}
-use Rattle.std.specs.List.{list_any, list_all, flat_map, filter, filter_map, cons_option, AllByRecursion, All}
+use Rattle.std.specs.Prelude.{Option, None, Some, nat_le, if◌then◌else◌}
+use Rattle.std.specs.List.{list_any, list_all, flat_map, filter_map, cons_option, AllByRecursion, All}
 use Rattle.std.specs.List.Sorted.{IsStrictlySortedBy}
-use Rattle.std.specs.Map.{keys_of, lookup}
-use Rattle.std.specs.BTreeMap.{is_at}
+use Rattle.std.specs.Map.{keys_of}
 use Rattle.std.specs.Ordering.{is_eq}
-use Rattle.std.proofs.Common.{◌≡◌, ℕ, ◌+◌, ◌-◌, ◌<◌, ◌≤◌, ◌==◌, nat_lt, Bool, true, false, not, ◌&&◌, ◌||◌, cond, List, [], ◌∷◌, ◌++◌, map, length, set, refl, sym, ◌∙◌, ap, subst, arith, Less, append-nil, append_assoc}
-use Rattle.std.proofs.lemmas.Bool.{both_ways, and_parts, and_from, ltb-true, leb-true, false_from_ne_true, cases_Bool}
+use Rattle.std.proofs.Common.{◌≡◌, ℕ, ◌-◌, ◌<◌, ◌==◌, nat_lt, Bool, true, false, not, ◌&&◌, ◌||◌, cond, List, [], ◌∷◌, ◌++◌, map, length, set, refl, sym, ◌∙◌, ap, subst, arith, Less, append-nil, append_assoc}
+use Rattle.std.proofs.lemmas.Bool.{both_ways, and_parts, ltb-true, leb-true, false_from_ne_true}
 use Rattle.std.proofs.lemmas.List.{map-append}
 use Rattle.std.proofs.lemmas.List.Elements.{recursion_from_All}
 use Rattle.std.proofs.lemmas.List.Concat.{flat_map-append}
@@ -22,7 +21,7 @@ use Rattle.mama_event.specs.declared.to_timers.TimersNote.{TimersNote}
 use Rattle.mama_event.specs.declared.to_timers.TimersNote.TheVariants as t
 use Rattle.mama_event.specs.declared.to_queue.QueueNote.{QueueNote}
 use Rattle.mama_event.specs.declared.to_queue.QueueNote.TheVariants as q
-use Rattle.mama_rules.specs.Ports.{timers_putter, Putter, ByClient, ByQueue, ByBridge, ByNobody}
+use Rattle.mama_rules.specs.Ports.{timers_putter, ByClient, ByQueue, ByBridge, ByNobody}
 use Rattle.mama_rules.specs.Timers.{TimersEvent, arms, disarms, now, client_done, bye, fin, no_event, put_by, from_client, from_queue, from_bridge, heard, ends_client, ends_queue, arms_timer, is_armed, answer, ending_comes, clock, firing, has_ending, is_live, live_timers, comes_first, place_of, to_place, gone, timers_reaction, timers_puts, timers_puts_at}
 use Rattle.mama_timer.specs.declared.table.Row.{Row}
 use Rattle.mama_timer.specs.declared.firing.Firing.{Firing}
@@ -50,10 +49,9 @@ use Rattle.mama_event.specs.declared.shape.Took.{Took}
 use Rattle.mama_event.specs.declared.shape.Took.TheVariants.{Running, Ended}
 use Rattle.mama_timer.specs.Out.{puts_create, is_create, brought, create_of, create_if, created_puts, gone_puts, out_note, listener_in, listeners, tick_out, gone_out, fin_out, gone_note}
 use Rattle.mama_timer.specs.Service.{Service, every_bye, is_last_bye}
-use Rattle.mama_timer.specs.Stands.{AreRows, AreRolls, IsStill, IsNoWord, Stands}
 use Rattle.mama_timer.specs.Kept.{Kept}
-use Rattle.mama_timer.proofs.Orders.{timer_ties, same_timer-is, same_timer-itself, same_timer-flips}
-use Rattle.mama_timer.proofs.Sorting.{has, IsAscending, Precedes, ascending_one, ascending_sorted, comes_first-order, less_first}
+use Rattle.mama_timer.proofs.Orders.{timer_ties, same_timer-is, same_timer-flips}
+use Rattle.mama_timer.proofs.Sorting.{has, IsAscending, Precedes, ascending_one, comes_first-order, less_first}
 use Rattle.mama_timer.proofs.Live.{has-live, ascending-live, live_came}
 use Rattle.mama_timer.proofs.Reactions.{ending_puts, no_ending, with_ending, made_none}
 use Rattle.mama_timer.proofs.Standing.{stands_still, client_still, fin_still, bye_still}

@@ -1,5 +1,5 @@
 -- What contracts see of the timer service: its shape, and its journal.
-use Rattle.std.specs.Prelude.{ℕ, Bool, List, [], ◌∷◌, ◌++◌, Option, None, Some}
+use Rattle.std.specs.Prelude.{ℕ, Bool, List, [], ◌∷◌, ◌++◌}
 use Rattle.std.specs.List.{list_any}
 use Rattle.mama_journal.specs.Journal.{turns, all_below}
 use Rattle.mama_event.specs.Ports.{queues_of}

@@ -109,7 +109,8 @@ fn put_all_gone<L>(leaving: &[Leaving], out: &mut Outbox<TimerOut<L>>)
 /// Puts Fin to each queue. It takes no memory.
 fn put_fins<L>(queues: u32, out: &mut Outbox<TimerOut<L>>)
     requires { queues ≤ out.old.spare }
-    ensures { out.new.items ≡ out.old.items ++ map fin_out (numbers_below queues) }
+    ensures items { out.new.items ≡ out.old.items ++ map fin_out (numbers_below queues) }
+    ensures spare { out.new.spare + queues ≡ out.old.spare }
 {
     for queue in 0..queues {
         out.push_reserved(TimerOut {

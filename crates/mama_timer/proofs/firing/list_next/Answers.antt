@@ -1,6 +1,4 @@
-use Rattle.std.proofs.Common.{◌≡◌, ℕ, true, get_or}
 use Rattle.mama_timer.specs.declared.firing.Firing.{Firing}
-use Rattle.mama_timer.specs.Rows.{is_listed}
 use Rattle.mama_timer.proofs.Writes.{listed_more, listed_kept}
 use Rattle.mama_timer.proofs.firing.list_next.Goals as goal
 

@@ -3,8 +3,8 @@ use Rattle.std.specs.List.{list_any}
 use Rattle.std.specs.BTreeMap.{is_at}
 use Rattle.mama_event.specs.declared.ids.TimerId.{TimerId}
 use Rattle.mama_timer.specs.Order.{due_cmp}
-use Rattle.mama_timer.specs.Rows.{row_of, is_listed}
-use Rattle.mama_timer.specs.Firing.{is_due_at, next_key, row_after}
+use Rattle.mama_timer.specs.Rows.{is_listed}
+use Rattle.mama_timer.specs.Firing.{next_key}
 use Rattle.mama_timer.proofs.firing.list_next.Given as goal
 
 abbrev pub invariant-loop-firing : goal.invariant-loop-firing

@@ -1,4 +1,4 @@
-use Rattle.std.proofs.Common.{◌≡◌, ◌+◌, ◌++◌, map, take, length}
+use Rattle.std.proofs.Common.{◌≡◌, ◌+◌, ◌++◌, map, take}
 use Rattle.mama_timer.specs.Out.{gone_out}
 use Rattle.mama_timer.proofs.out.put_all_gone.Given as goal
 

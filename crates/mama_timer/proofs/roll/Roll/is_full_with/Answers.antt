@@ -1,5 +1,5 @@
-use Rattle.std.proofs.Common.{◌≡◌, ◌||◌, ◌&&◌, ◌==◌, not, Bool, true, false, get_or, set, List, ℕ, ◌<◌, length, rules, arith, ap, ◌∙◌, sym}
-use Rattle.std.specs.List.{list_all, count_by}
+use Rattle.std.proofs.Common.{◌≡◌, ◌||◌, ◌&&◌, ◌==◌, not, Bool, false, get_or, List, ℕ, ◌<◌, length, arith, ap, ◌∙◌, sym}
+use Rattle.std.specs.List.{count_by}
 use Rattle.std.proofs.lemmas.Bool.Decides.{nat_tests}
 use Rattle.std.proofs.lemmas.List.{get_or_default}
 use Rattle.mama_timer.proofs.Rolls.{full_with}

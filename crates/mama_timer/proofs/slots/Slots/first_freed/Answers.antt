@@ -1,4 +1,4 @@
-use Rattle.std.proofs.Common.{◌≡◌, ℕ, ap, sym, ◌∙◌}
+use Rattle.std.proofs.Common.{ap, sym, ◌∙◌}
 use Rattle.mama_timer.specs.Slots.{is_freed, SlotData}
 use Rattle.mama_timer.proofs.Places.{range_first, range_none}
 use Rattle.mama_timer.proofs.slots.Slots.first_freed.Goals as goal

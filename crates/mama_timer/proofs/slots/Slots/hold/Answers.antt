@@ -1,5 +1,4 @@
-use Rattle.std.proofs.Common.{◌≡◌, ℕ, Bool, ◌||◌, ◌&&◌, ◌==◌, ap, sym, ◌∙◌}
-use Rattle.std.specs.Map.{keys_of}
+use Rattle.std.proofs.Common.{◌||◌, ◌&&◌, ◌==◌, ap, sym, ◌∙◌}
 use Rattle.mama_timer.specs.Slots.{SlotData, in_use, is_freed}
 use Rattle.mama_timer.proofs.Places.{taken_again, below_still}
 use Rattle.mama_timer.proofs.slots.Slots.hold.Goals as goal

@@ -1,5 +1,5 @@
-use Rattle.std.proofs.Common.{◌≡◌, ℕ, ◌<◌, ◌+◌, false, ap, sym, ◌∙◌, arith}
-use Rattle.mama_timer.specs.Slots.{SlotData, in_use, is_freed, top_of}
+use Rattle.std.proofs.Common.{ap, sym, ◌∙◌}
+use Rattle.mama_timer.specs.Slots.{SlotData, in_use, is_freed}
 use Rattle.mama_timer.proofs.Places.{used_below}
 use Rattle.mama_timer.proofs.slots.Slots.least.Goals as goal
 

@@ -1,4 +1,4 @@
-use Rattle.std.proofs.Common.{◌≡◌, ℕ, Bool, true, not, ◌||◌, ◌&&◌, ◌==◌, ap, sym, ◌∙◌}
+use Rattle.std.proofs.Common.{not, ◌&&◌, ◌==◌, ap, ◌∙◌}
 use Rattle.mama_timer.specs.Slots.{SlotData, in_use, is_freed}
 use Rattle.mama_timer.proofs.Places.{gone_free, below_with}
 use Rattle.mama_timer.proofs.slots.Slots.release.Goals as goal

@@ -1,13 +1,9 @@
-use Rattle.std.proofs.Common.{◌≡◌, ◌++◌, ◌∷◌, [], ℕ, Bool, List, Some, None, true, false, ◌&&◌, not, map, refl, ap, sym, subst, ◌∙◌}
-use Rattle.std.specs.List.{list_any, list_all, flat_map}
-use Rattle.std.proofs.lemmas.Bool.{both_ways}
-use Rattle.mama_journal.specs.Journal.{turns}
+use Rattle.std.proofs.Common.{◌++◌, ◌∷◌, [], List, true, refl, ap, sym, ◌∙◌}
+use Rattle.std.specs.List.{list_any}
 use Rattle.mama_rules.specs.Ports.{timers_putter}
-use Rattle.mama_rules.specs.Timers.{TimersEvent, heard, put_by, arms_timer, has_ending, is_armed, clock, gone, live_timers, place_of, timers_puts, timers_puts_at, now, bye, fin, client_done, disarms, arms}
+use Rattle.mama_rules.specs.Timers.{heard, put_by, arms_timer, has_ending, timers_puts_at}
 use Rattle.mama_timer.specs.declared.table.Row.{Row}
-use Rattle.mama_timer.specs.Rows.{row_of}
-use Rattle.mama_timer.specs.Service.{Service, is_last_bye}
-use Rattle.mama_timer.specs.Stands.{IsStill, IsNoWord}
+use Rattle.mama_timer.specs.Service.{Service}
 use Rattle.mama_timer.proofs.Keeping.{kept_armed, kept_slots, puts_armed, slot_yet, clock_fits, listed_with, taken_view}
 use Rattle.mama_timer.proofs.table.Table.arm_first.Goals as goal
 

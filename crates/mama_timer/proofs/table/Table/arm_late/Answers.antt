@@ -1,4 +1,4 @@
-use Rattle.std.proofs.Common.{◌≡◌, ℕ, Some, List, ◌++◌, ◌∷◌, [], true, false, refl, ap, sym, ◌∙◌}
+use Rattle.std.proofs.Common.{true, refl, ap, sym, ◌∙◌}
 use Rattle.std.specs.List.{list_any}
 use Rattle.std.proofs.lemmas.Bool.{both_ways}
 use Rattle.mama_rules.specs.Ports.{timers_putter}

@@ -1,4 +1,4 @@
-use Rattle.std.proofs.Common.{◌≡◌, ℕ, Some, None, ap, sym, ◌∙◌}
+use Rattle.std.proofs.Common.{ap, sym, ◌∙◌}
 use Rattle.std.specs.Option.{option_copied}
 use Rattle.mama_rules.specs.Timers.{heard, is_armed, place_of, timers_puts}
 use Rattle.mama_timer.specs.Rows.{row_of}

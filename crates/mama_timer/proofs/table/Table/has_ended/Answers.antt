@@ -1,4 +1,4 @@
-use Rattle.std.proofs.Common.{◌≡◌, Bool, true, false, ◌&&◌, ap, sym, ◌∙◌}
+use Rattle.std.proofs.Common.{Bool, ◌&&◌, ap, sym, ◌∙◌}
 use Rattle.mama_rules.specs.Timers.{heard, has_ending}
 use Rattle.mama_timer.specs.Service.{Service}
 use Rattle.mama_timer.proofs.Keeping.{ended_is}

@@ -1,4 +1,4 @@
-use Rattle.std.proofs.Common.{◌≡◌, ap, sym, ◌∙◌}
+use Rattle.std.proofs.Common.{ap, ◌∙◌}
 use Rattle.std.specs.List.{list_any}
 use Rattle.mama_rules.specs.Timers.{heard, arms_timer, timers_puts}
 use Rattle.mama_timer.specs.Rows.{row_of}

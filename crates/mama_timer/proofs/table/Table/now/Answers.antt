@@ -1,13 +1,4 @@
-use Rattle.std.proofs.Common.{◌≡◌, ◌++◌, ◌∷◌, [], ℕ, Bool, List, Some, None, true, false, ◌&&◌, not, map, refl, ap, sym, subst, ◌∙◌}
-use Rattle.std.specs.List.{list_any, list_all, flat_map}
-use Rattle.std.proofs.lemmas.Bool.{both_ways}
-use Rattle.mama_journal.specs.Journal.{turns}
-use Rattle.mama_rules.specs.Ports.{timers_putter}
-use Rattle.mama_rules.specs.Timers.{TimersEvent, heard, put_by, arms_timer, has_ending, is_armed, clock, gone, live_timers, place_of, timers_puts, timers_puts_at, now, bye, fin, client_done, disarms, arms}
-use Rattle.mama_timer.specs.declared.table.Row.{Row}
-use Rattle.mama_timer.specs.Rows.{row_of}
-use Rattle.mama_timer.specs.Service.{Service, is_last_bye}
-use Rattle.mama_timer.specs.Stands.{IsStill, IsNoWord}
+use Rattle.std.proofs.Common.{sym, ◌∙◌}
 use Rattle.std.specs.Result.{OnOk}
 use Rattle.std.proofs.Common.{Result, Ok, Err}
 use Rattle.mama_timer.proofs.Keeping.{puts_late}

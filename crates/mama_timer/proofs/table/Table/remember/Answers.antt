@@ -1,4 +1,4 @@
-use Rattle.std.proofs.Common.{◌≡◌, List, [], sym, ap, ◌∙◌, subst, ℕ}
+use Rattle.std.proofs.Common.{sym, ap, ◌∙◌, subst}
 use Rattle.mama_rules.specs.Ports.{timers_putter}
 use Rattle.mama_rules.specs.Timers.{heard, put_by, timers_puts_at}
 use Rattle.mama_timer.specs.Stands.{IsStill, IsNoWord}

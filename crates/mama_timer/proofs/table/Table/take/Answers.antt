@@ -1,8 +1,4 @@
-use Rattle.std.proofs.Common.{◌≡◌, ℕ, Bool, false, true, Result, Ok, Err, ap, sym, ◌∙◌, refl}
-use Rattle.std.specs.Result.{IfOk}
-use Rattle.std.proofs.lemmas.Bool.{both_ways}
-use Rattle.mama_event.specs.declared.shape.Took.{Took}
-use Rattle.mama_event.specs.declared.shape.Took.TheVariants.{Running, Ended}
+use Rattle.std.proofs.Common.{◌≡◌, ap, sym, ◌∙◌, refl}
 use Rattle.mama_event.specs.declared.to_timers.TimersNote.{TimersNote}
 use Rattle.mama_event.specs.ToTimers.{note_of}
 use Rattle.mama_rules.specs.Timers.{arms}

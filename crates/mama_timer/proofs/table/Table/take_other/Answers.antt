@@ -1,4 +1,4 @@
-use Rattle.std.proofs.Common.{◌≡◌, Bool, not, true, Result, Ok, Err, ap, sym, ◌∙◌}
+use Rattle.std.proofs.Common.{◌≡◌, not, true, Result, Ok, Err, ap, ◌∙◌}
 use Rattle.std.specs.Result.{OnOk, is_ok}
 use Rattle.mama_timer.specs.Heard.{event_of}
 use Rattle.mama_timer.specs.Out.{listeners}
