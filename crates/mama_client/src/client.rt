@@ -5,9 +5,7 @@ ghost use Rattle.mama_event.specs.declared.to_timers.ToTimers.TheVariants as tim
 ghost use Rattle.mama_client.specs.Client.{sub_refusal, timer_refusal, inbox_refusal, ask_refusal};
 
 use crate::fault::{AskFault, ClientFault, Closed};
-use mama_event::{
-    Bounds, Fids, InboxId, InboxTerms, SubId, SubTerms, TimerId, ToBridge, ToTimers,
-};
+use mama_event::{Bounds, Fids, InboxId, InboxTerms, SubId, SubTerms, TimerId, ToBridge, ToTimers};
 use std::marker::Model;
 
 /// A client. Each call makes an event, which the caller puts; none takes memory. The numbers of each kind of object

@@ -132,8 +132,8 @@ tie a b = grind (arith, common_steps)
 pub same_by_call : (before after : List PlanRow) → IsStableByKey call_of nat_cmp before after → IsSameByCall before after
 same_by_call before after stable = record {
   same = λ call.
-    let any : PlanRow = record { call = call; order = order.Stop (record { client = 0; number = 0 }) } in
-    ap (λ (rs : List PlanRow). map (λ (r : PlanRow). r.order) rs)
+      let any : PlanRow = record { call = call; order = order.Stop (record { client = 0; number = 0 }) } in
+      ap (λ (rs : List PlanRow). map (λ (r : PlanRow). r.order) rs)
       (sym (filter_same _ (λ (r : PlanRow). r.call == call) after (λ r. tie r.call call)) ∙ stable any ∙ filter_same _ (λ (r : PlanRow). r.call == call) before (λ r. tie r.call call));
 }
 

@@ -7,6 +7,8 @@
 mod listener;
 mod plan_listener;
 mod planned;
+#[cfg(test)]
+mod tests;
 
 pub use listener::Listener;
 pub use mama_event::{Callback, MarketMsg, ObjectId, Orders, PlanRow, Quality, Tagged};
