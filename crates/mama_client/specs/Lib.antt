@@ -1,0 +1,3 @@
+pub mod Standing
+pub mod Client
+pub mod Group

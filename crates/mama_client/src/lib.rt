@@ -1,0 +1,18 @@
+//! A client: it makes objects and ends them, by events that its caller puts.
+//!
+//! [`Client`] numbers the objects of each kind from 0 and refuses what is out of bounds; `specs/Client.antt` says when.
+//! [`QueueGroup`] gives the queues in turn.
+#![tactic(auto)]
+
+mod client;
+mod fault;
+mod queue_group;
+#[cfg(test)]
+mod tests;
+
+pub use client::Client;
+pub use fault::{AskFault, ClientFault, Closed};
+pub use mama_event::{
+    Bounds, Fids, InboxId, InboxTerms, SubId, SubTerms, TimerId, ToBridge, ToTimers,
+};
+pub use queue_group::QueueGroup;
