@@ -30,7 +30,8 @@ fn the_parts_of_a_script(rt: HostRuntime) -> Result<(), Fail> {
         script.shape().publisher_topics.as_slice(),
         [1, 0].as_slice()
     );
-    assert_eq!(rt; script.topics()[0].bytes(), b"A \"b\" \\".as_slice());
+    let first = script.topics().first().expect(&rt, "a topic");
+    assert_eq!(rt; first.bytes(), b"A \"b\" \\".as_slice());
     assert_eq!(rt; script.publishers()[0].base.len(), 2);
     assert_eq!(rt; script.publishers()[0].lines.as_slice().len(), 4);
     let steps = script.clients()[0].as_slice();
