@@ -1,3 +1,0 @@
-pub mod Listener
-pub mod Plan
-pub mod PlanListener
