@@ -8,3 +8,4 @@ pub mod Rows
 pub mod Service
 pub mod Slots
 pub mod Stands
+pub mod Streams

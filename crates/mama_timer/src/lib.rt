@@ -2,7 +2,9 @@
 //!
 //! What the service puts is `timers_puts_at` of `mama_rules`: the reaction to an entry of its journal, given the
 //! journal before it. The contract of [`Timers::take`] says so of every event that comes by any port, in any order,
-//! and that the listener of a `Create` is the one that the event of that entry brought.
+//! and that the listener of a `Create` is the one that the event of that entry brought. [`queues_get_lawful_streams`]
+//! is a law of the definition: what the service puts to each queue is a stream that the queue may be given, as long as
+//! no timer is armed after the ending.
 //!
 //! A moment costs the timers that are due and a logarithm for each; arming and disarming a timer cost a logarithm.
 //! Want of memory leaves the service and the outbox as they were.
@@ -11,12 +13,14 @@
 mod ending;
 mod firing;
 mod heard;
+mod laws;
 mod out;
 mod roll;
 mod slots;
 mod table;
 mod timers;
 
+pub use laws::queues_get_lawful_streams;
 pub use mama_memory::OutOfMemory;
 pub use out::TimerOut;
 pub use timers::Timers;
