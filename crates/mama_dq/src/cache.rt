@@ -1,4 +1,4 @@
-ghost use Rattle.std.specs.Prelude.{◌≡◌, [], IfOk, OnOk, OnErr, not, if◌then◌else◌};
+ghost use Rattle.std.specs.Prelude.{◌≡◌, [], length, IfOk, OnOk, OnErr, not, if◌then◌else◌};
 ghost use Rattle.std.specs.Ordering.{nat_cmp};
 ghost use Rattle.std.specs.Map.{remove_entry};
 ghost use Rattle.std.specs.BTreeMap.{is_at};
@@ -48,6 +48,13 @@ impl Cache {
         ensures { result ≡ self.now.size }
     {
         self.size
+    }
+
+    /// How many updates it holds.
+    pub fn len(&self) -> usize
+        ensures { result ≡ length self.now.updates }
+    {
+        self.updates.len()
     }
 
     /// Takes all updates out.

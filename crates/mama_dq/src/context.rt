@@ -1,4 +1,4 @@
-ghost use Rattle.std.specs.Prelude.{◌≡◌, ◌↔◌, ◌≤◌, ◌<◌, ◌++◌, OnOk, OnErr, IfOk, IfSome, IsNone};
+ghost use Rattle.std.specs.Prelude.{◌≡◌, length, ◌↔◌, ◌≤◌, ◌<◌, ◌++◌, OnOk, OnErr, IfOk, IfSome, IsNone};
 ghost use Rattle.mama_dq.specs.Cache.{above};
 ghost use Rattle.mama_dq.specs.Context.{new_context, quality_in, with_image};
 ghost use Rattle.mama_dq.specs.Strategy.{updated, update_acted, handled, cached_above, step_by, started, healed, acted, with_image_of, turned_to, after, callbacks_of};
@@ -468,5 +468,12 @@ impl DqContext {
             Phase::Await => 0,
             Phase::LiveOk | Phase::LiveStale => self.sender,
         }
+    }
+
+    /// How many updates its cache holds.
+    pub fn cached(&self) -> usize
+        ensures { result ≡ length self.now.cache.updates }
+    {
+        self.cache.len()
     }
 }

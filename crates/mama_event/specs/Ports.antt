@@ -45,9 +45,6 @@ timers_port_of_queue shape queue = clients_of shape + queue
 abbrev pub timers_port_of_bridge : Shape → ℕ
 timers_port_of_bridge shape = clients_of shape + queues_of shape
 
-abbrev pub timers_ports : Shape → ℕ
-timers_ports shape = clients_of shape + queues_of shape + 1
-
 -- a port of the timers' lane is a client's, a queue's or the bridge's
 abbrev pub is_timers_port_of_client : Shape → ℕ → Bool
 is_timers_port_of_client shape port = nat_lt port (clients_of shape)
@@ -59,9 +56,6 @@ abbrev pub is_timers_port_of_bridge : Shape → ℕ → Bool
 is_timers_port_of_bridge shape port = port == timers_port_of_bridge shape
 
 -- a publisher's lane has the bridge's port alone; a queue's lane has the bridge's and then the timer service's
-abbrev pub publisher_port_of_bridge : ℕ
-publisher_port_of_bridge = 0
-
 abbrev pub queue_port_of_bridge : ℕ
 queue_port_of_bridge = 0
 

@@ -1,4 +1,4 @@
-//! The record of a run, its log, and the run of a script in rounds.
+//! The record of a run, and the text of its log.
 #![tactic(auto)]
 
 mod calls;

@@ -1,3 +1,3 @@
-//! The rules of the actors, as functions of their journals: what the bridge, the timer service and the publishers put
-//! at each entry, which objects are live, and what goes through their links. There is no code here.
+//! The rules of the bridge and of the timer service, as functions of their journals: what they put at each entry, which
+//! objects are live, and what goes through their links. There is no code here.
 #![tactic(auto)]
