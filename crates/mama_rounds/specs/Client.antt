@@ -1,6 +1,7 @@
 -- A client's rules: what its lines put, step by step.
-use Rattle.std.specs.Prelude.{ℕ, zero, suc, ◌+◌, ◌%◌, ◌==◌, List, [], ◌∷◌, ◌++◌, length, map, filter, replicate}
+use Rattle.std.specs.Prelude.{ℕ, zero, suc, ◌+◌, ◌%◌, ◌==◌, Bool, true, false, List, [], ◌∷◌, ◌++◌, length, map, filter, replicate}
 use Rattle.std.specs.List.{flat_map}
+use Rattle.mama_journal.specs.Journal.{count_of}
 use Rattle.mama_event.specs.declared.ids.SubId.{SubId}
 use Rattle.mama_event.specs.declared.ids.TimerId.{TimerId}
 use Rattle.mama_event.specs.declared.ids.InboxId.{InboxId}
@@ -74,6 +75,15 @@ line_steps queues c s (line.Order o) = (order_put o ∷ []) ∷ []
 line_steps queues c s (line.Now m) = (to_timers (t.Now m) ∷ []) ∷ []
 line_steps queues c s line.NowClock = (to_timers (t.Now (first_moment s.moments)) ∷ []) ∷ []
 line_steps queues c s (line.Pause n) = replicate n []
+
+-- a line reads the clock
+abbrev pub reads_clock : ClientLine → Bool
+reads_clock line.NowClock = true
+reads_clock _ = false
+
+-- how many moments the lines of a client read
+abbrev pub clock_lines : List ClientLine → ℕ
+clock_lines lines = count_of reads_clock lines
 
 -- what a client puts, step by step: its lines in order, and then that it is done
 abbrev pub steps_from : ℕ → ℕ → Standing → List ClientLine → List (List QueuePut)

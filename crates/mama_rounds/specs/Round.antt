@@ -26,7 +26,7 @@ use Rattle.mama_event.specs.declared.publisher_entry.PublisherEntry.{PublisherEn
 use Rattle.mama_event.specs.declared.publisher_entry.PublisherEntry.TheVariants.{Send, Done}
 use Rattle.mama_event.specs.Publisher.{PublisherScript, SendLine}
 use Rattle.mama_event.specs.Publisher as send
-use Rattle.mama_rounds.specs.Client.{Planned, client_steps, client_objects}
+use Rattle.mama_rounds.specs.Client.{Planned, client_steps, client_objects, clock_lines}
 use Rattle.mama_script.specs.declared.publisher.PublisherPart.{PublisherPart}
 use Rattle.mama_script.specs.Script.{ScriptData}
 use Rattle.mama_rounds.specs.World.{Setting, World, orders_by}
@@ -161,8 +161,10 @@ record_of setting moments w = record {
   images = flat_map (last_image setting w.queues) setting.objects;
 }
 
--- a record is that of the rounds of a script: as many as it takes until every client and publisher has made its steps
+-- A record is that of the rounds of a script: as many as it takes until every client and publisher has made its steps.
+-- Each client read one moment for each of its lines that read the clock.
 pub record IsRound (script : ScriptData) (run : RunData) : Type 0 where
+  pub moments : map length run.clients ≡ map clock_lines script.clients
   pub count : ℕ
   pub last : Stage
   pub rounds : AreRounds (setting_of script) count (start script run.clients) last
