@@ -7,22 +7,10 @@
 # The program is written into a scratch folder, proved there over the crates of this repository, and run.
 set -eu
 events=${1:-1000000}
-top=$(cd "$(dirname "$0")/.." && pwd)
-scratch=$(mktemp -d)
-trap 'rm -rf "$scratch"' EXIT
+. "$(dirname "$0")/scratch.sh"
 cp "$top/HANDLES" "$scratch/"
-mkdir "$scratch/crates"
-: > "$scratch/crates.txt"
-for name in mama_memory mama_journal mama_msg mama_link mama_event mama_lane; do
-    mkdir "$scratch/crates/$name"
-    (cd "$top/crates/$name" && tar cf - --exclude=./out .) | (cd "$scratch/crates/$name" && tar xf -)
-    grep -E "^$name[ :]" "$top/crates.txt" >> "$scratch/crates.txt"
-done
-echo 'lane_bench may_wait=7: mama_event mama_lane crossbeam_queue anyhow' >> "$scratch/crates.txt"
-bench=$scratch/crates/lane_bench
-mkdir -p "$bench/src" "$bench/specs" "$bench/proofs"
-: > "$bench/specs/Lib.antt"
-: > "$bench/proofs/Lib.antt"
+new_program lane_bench 'lane_bench may_wait=7: mama_event mama_lane crossbeam_queue anyhow' \
+    mama_memory mama_journal mama_msg mama_link mama_event mama_lane
 mkdir "$bench/proofs/put_on_lane" "$bench/proofs/take_from_lane"
 cat > "$bench/proofs/put_on_lane/Invariants.antt" <<'PROOF'
 use Rattle.std.proofs.Common.{◌≡◌}

@@ -8,21 +8,8 @@
 # The program is written into a scratch folder, proved there over the crates of this repository, and run.
 set -eu
 messages=${1:-1000000}
-top=$(cd "$(dirname "$0")/.." && pwd)
-scratch=$(mktemp -d)
-trap 'rm -rf "$scratch"' EXIT
-mkdir "$scratch/crates"
-: > "$scratch/crates.txt"
-for name in mama_memory mama_link; do
-    mkdir "$scratch/crates/$name"
-    (cd "$top/crates/$name" && tar cf - --exclude=./out .) | (cd "$scratch/crates/$name" && tar xf -)
-    grep -E "^$name[ :]" "$top/crates.txt" >> "$scratch/crates.txt"
-done
-echo 'link_bench: mama_link anyhow' >> "$scratch/crates.txt"
-bench=$scratch/crates/link_bench
-mkdir -p "$bench/src" "$bench/specs" "$bench/proofs"
-: > "$bench/specs/Lib.antt"
-: > "$bench/proofs/Lib.antt"
+. "$(dirname "$0")/scratch.sh"
+new_program link_bench 'link_bench: mama_link anyhow' mama_memory mama_link
 sed "s/MESSAGES_THAT_PASS/$messages/" > "$bench/src/main.rt" <<'PROGRAM'
 //! How long messages take to pass a link.
 #![tactic(auto)]

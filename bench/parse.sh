@@ -10,21 +10,9 @@ set -eu
 fields=${1:-1000000}
 rows=${2:-400000}
 mib=${3:-64}
-top=$(cd "$(dirname "$0")/.." && pwd)
-scratch=$(mktemp -d)
-trap 'rm -rf "$scratch"' EXIT
-mkdir "$scratch/crates"
-: > "$scratch/crates.txt"
-for name in mama_memory mama_journal mama_edge mama_msg mama_link mama_event mama_words mama_script; do
-    mkdir "$scratch/crates/$name"
-    (cd "$top/crates/$name" && tar cf - --exclude=./out .) | (cd "$scratch/crates/$name" && tar xf -)
-    grep -E "^$name[ :]" "$top/crates.txt" >> "$scratch/crates.txt"
-done
-echo 'parse_bench: mama_script anyhow' >> "$scratch/crates.txt"
-bench=$scratch/crates/parse_bench
-mkdir -p "$bench/src" "$bench/specs" "$bench/proofs"
-: > "$bench/specs/Lib.antt"
-: > "$bench/proofs/Lib.antt"
+. "$(dirname "$0")/scratch.sh"
+new_program parse_bench 'parse_bench: mama_script anyhow' \
+    mama_memory mama_journal mama_edge mama_msg mama_link mama_event mama_words mama_script
 cat > "$bench/src/main.rt" <<'PROGRAM'
 //! Reads the script in the file `input`, and says how long that took and what came of it.
 #![tactic(auto)]

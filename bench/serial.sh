@@ -2,11 +2,8 @@
 # Time and memory of 'mama_run serial' at n and 2n: updates of one publisher to one subscription; and many publishers,
 # subscriptions and topics. Wants the proved program (./mama --version builds it). Prints seconds, their ratio, and peak bytes of
 # memory for each byte of input.
-top=$(cd "$(dirname "$0")/.." && pwd)
-program=$top/crates/mama_run/out/mama_run
-[ -x "$program" ] || { echo "no $program: run ./mama --version once" >&2; exit 1; }
-scratch=$(mktemp -d) || exit 1
-trap 'rm -rf "$scratch"' EXIT
+. "$(dirname "$0")/scratch.sh"
+proved_program
 
 one_publisher() {
   awk -v n="$1" 'BEGIN {
@@ -31,15 +28,10 @@ many_subscriptions() {
     print "client"; for (i = 0; i < s; i++) print "sub " i % 1000 " market any 10 1000" }'
 }
 
-run_once() {
-  /usr/bin/env time -f '%e %M' -o "$scratch/cost" "$program" serial < "$scratch/script" > "$scratch/log" || echo "status $?" >&2
-  cat "$scratch/cost"
-}
-
 compare() {
   name=$1 make=$2 n=$3
-  $make "$n" > "$scratch/script"; read -r first _ < <(run_once)
-  $make $((2 * n)) > "$scratch/script"; bytes=$(wc -c < "$scratch/script"); read -r second peak < <(run_once)
+  $make "$n" > "$scratch/script"; read -r first _ < <(play "$scratch/script")
+  $make $((2 * n)) > "$scratch/script"; bytes=$(wc -c < "$scratch/script"); read -r second peak < <(play "$scratch/script")
   awk -v name="$name" -v n="$n" -v a="$first" -v b="$second" -v kb="$peak" -v bytes="$bytes" 'BEGIN {
     printf "%s: n=%d %.2f s, 2n %.2f s, ratio %.2f, input %d bytes, peak %.1f bytes for each byte of input\n", name, n, a, b, (a > 0 ? b / a : 0), bytes, kb * 1024 / bytes }'
 }
