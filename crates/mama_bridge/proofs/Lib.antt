@@ -1,0 +1,12 @@
+pub mod FlagLemmas
+pub mod Moving
+pub mod Stepping
+pub mod TheOne
+pub mod Found
+pub mod SlotLemmas
+pub mod Adding
+pub mod Wishing
+pub mod Joining
+pub mod Closing
+pub mod Brought
+pub mod Keeping

@@ -1,0 +1,24 @@
+use Rattle.std.specs.List.{flat_map}
+use Rattle.std.proofs.Common.{◌∙◌, ap, map, filter}
+use Rattle.std.proofs.lemmas.Result.{on_ok_weaker, on_err_weaker}
+use Rattle.mama_bridge_rules.specs.Table.{of_inbox, inbox_ends}
+use Rattle.mama_bridge.specs.Links.{inbox_seen, inbox_end_outs}
+use Rattle.mama_bridge.proofs.Adding.{says_inbox_ends, adds_said}
+use Rattle.mama_bridge.proofs.desk.Desk.close.Goals as goal
+
+pub returns-clause-ok : goal.returns-clause-ok
+returns-clause-ok g c =
+    on_ok_weaker c.close.result
+    (λ done. λ shape table s sound.
+    let both = done table.inboxes s.inboxes sound.inboxes_once in
+    record {
+      stands = record { joined = s.joined; opened = s.opened; subs = s.subs; inboxes = both.0; clients = s.clients; sends = s.sends; settled = s.settled; byes = s.byes };
+      adds = adds_said g.L.Tagged.tagged c.args.out.now.items c.close.new.out.items (flat_map inbox_end_outs (filter (of_inbox c.args.inbox) table.inboxes)) (flat_map inbox_ends (filter (of_inbox c.args.inbox) table.inboxes)) both.1 (says_inbox_ends g.L.Tagged.tagged (filter (of_inbox c.args.inbox) table.inboxes));
+    })
+    c.close.ensures.ok
+
+pub returns-clause-same : goal.returns-clause-same
+returns-clause-same g c =
+    on_err_weaker c.close.result
+    (λ same. λ table s. record { joined = s.joined; opened = s.opened; subs = s.subs; inboxes = ap (map inbox_seen) same ∙ s.inboxes; clients = s.clients; sends = s.sends; settled = s.settled; byes = s.byes })
+    c.close.ensures.seen

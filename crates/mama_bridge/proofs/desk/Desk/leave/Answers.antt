@@ -1,0 +1,24 @@
+use Rattle.std.specs.List.{flat_map}
+use Rattle.std.proofs.Common.{◌∙◌, ap, map, filter}
+use Rattle.std.proofs.lemmas.Result.{on_ok_weaker, on_err_weaker}
+use Rattle.mama_bridge_rules.specs.Table.{of_sub, sub_ends}
+use Rattle.mama_bridge.specs.Links.{sub_seen, end_outs}
+use Rattle.mama_bridge.proofs.Adding.{says_ends, adds_said}
+use Rattle.mama_bridge.proofs.desk.Desk.leave.Goals as goal
+
+pub returns-clause-ok : goal.returns-clause-ok
+returns-clause-ok g c =
+    on_ok_weaker c.leave.result
+    (λ done. λ shape table s sound.
+    let both = done table.subs s.subs sound.subs_once in
+    record {
+      stands = record { joined = s.joined; opened = s.opened; subs = both.0; inboxes = s.inboxes; clients = s.clients; sends = s.sends; settled = s.settled; byes = s.byes };
+      adds = adds_said g.L.Tagged.tagged c.args.out.now.items c.leave.new.out.items (flat_map end_outs (filter (of_sub c.args.sub) table.subs)) (flat_map sub_ends (filter (of_sub c.args.sub) table.subs)) both.1 (says_ends g.L.Tagged.tagged (filter (of_sub c.args.sub) table.subs));
+    })
+    c.leave.ensures.ok
+
+pub returns-clause-same : goal.returns-clause-same
+returns-clause-same g c =
+    on_err_weaker c.leave.result
+    (λ same. λ table s. record { joined = s.joined; opened = s.opened; subs = ap (map sub_seen) same ∙ s.subs; inboxes = s.inboxes; clients = s.clients; sends = s.sends; settled = s.settled; byes = s.byes })
+    c.leave.ensures.seen

@@ -1,0 +1,29 @@
+use Rattle.std.proofs.Common.{◌≡◌, ◌∙◌, ap, ℕ, Bool, List, [], ◌++◌, cond, set, true, subst}
+use Rattle.mama_event.specs.Ports.{queues_of}
+use Rattle.mama_rules.specs.Bridge.{settled}
+use Rattle.mama_bridge_rules.specs.Table.{begins_settling, begins_ending}
+use Rattle.mama_bridge.specs.Links.{sub_seen, sub_view, inbox_seen, inbox_view, settle_outs, EndsIf}
+use Rattle.mama_bridge.proofs.Closing.{seen_kept, adds_closing}
+use Rattle.mama_bridge.proofs.desk.Desk.settled.Goals as goal
+
+pub returns-clause-ok : goal.returns-clause-ok
+returns-clause-ok g c table s sound =
+    let settles : c.begins-settles.result ≡ begins_settling table (settled c.args.publisher) = cc in
+    let ends : c.begins-ends.result ≡ begins_ending table (settled c.args.publisher) = cc in
+    let turned = c.in_ok-turn.ensures in
+    let rest = turned.rest in
+    let before = c.args.self.now in
+    let out = subst (λ (n : ℕ). EndsIf {L = g.row.L.Denot} c.begins-ends.result n (queues_of c.args.shape.now) before.subs.items before.inboxes.items (c.args.out.now.items ++ cond c.begins-settles.result (settle_outs n) []) c.turn.new.out.items) c.requires.publishers turned.out in
+    record {
+      stands = record {
+        joined = rest.joined ∙ s.joined;
+        opened = rest.opened ∙ s.opened;
+        subs = seen_kept sub_seen sub_view c.turn.new.self.subs.items before.subs.items table.subs c.begins-ends.result (begins_ending table (settled c.args.publisher)) turned.subs s.subs ends;
+        inboxes = seen_kept inbox_seen inbox_view c.turn.new.self.inboxes.items before.inboxes.items table.inboxes c.begins-ends.result (begins_ending table (settled c.args.publisher)) turned.inboxes s.inboxes ends;
+        clients = rest.clients ∙ s.clients;
+        sends = rest.sends ∙ s.sends;
+        settled = c.set.ensures ∙ ap (λ (flags : List Bool). set flags c.args.publisher true) (rest.settled ∙ s.settled);
+        byes = rest.byes ∙ s.byes;
+      };
+      adds = adds_closing g.L.Tagged.tagged c.args.shape.now table (settled c.args.publisher) before.subs.items before.inboxes.items c.args.out.now.items c.turn.new.out.items c.begins-settles.result c.begins-ends.result s.subs s.inboxes out settles ends;
+    }

@@ -1,0 +1,26 @@
+use Rattle.std.proofs.Common.{sym}
+use Rattle.std.proofs.lemmas.List.Quantifiers.{position-Some}
+use Rattle.std.proofs.lemmas.Result.{on_ok_weaker, on_err_weaker}
+use Rattle.mama_event.specs.Object.{same_sub}
+use Rattle.std.specs.Prelude.{nat_lt}
+use Rattle.std.proofs.Common.{cond}
+use Rattle.mama_bridge_rules.specs.Table.{sub_wished}
+use Rattle.mama_bridge.specs.declared.subs.SubLink.{SubLink}
+use Rattle.mama_bridge.specs.Links.{sub_seen, wish_outs}
+use Rattle.mama_bridge.proofs.Found.{sub_done, sub_not_done}
+use Rattle.mama_bridge.proofs.Stepping.{seen_turn}
+use Rattle.mama_bridge.proofs.routes.wish.Goals as goal
+
+pub returns-in-Some-clause-ok : goal.returns-in-Some-clause-ok
+returns-in-Some-clause-ok g c =
+    on_ok_weaker c.wish_one.result
+    (λ step. sub_done (λ row. cond (nat_lt row.wished row.terms.recaps) (sub_wished row) row) (wish_outs c.args.sender) c.args.sub c.args.links.now.items c.in-Some.i c.index_mut.result.now c.wish_one.new.link c.args.out.now.items c.wish_one.new.out.items (sym c.in-Some.ensures) c.index_mut.ensures.value step)
+    c.wish_one.ensures.ok
+
+pub returns-in-Some-clause-seen : goal.returns-in-Some-clause-seen
+returns-in-Some-clause-seen g c =
+    let place = position-Some (λ (a : SubLink). same_sub a.sub c.args.sub) c.args.links.now.items c.in-Some.i c.index_mut.result.now (sym c.in-Some.ensures) in
+    on_err_weaker c.wish_one.result (λ same. seen_turn sub_seen c.args.links.now.items c.in-Some.i c.index_mut.result.now c.wish_one.new.link place.0 c.index_mut.ensures.value same) c.wish_one.ensures.seen
+
+pub returns-in-None-clause-ok : goal.returns-in-None-clause-ok
+returns-in-None-clause-ok g c = sub_not_done (λ row. cond (nat_lt row.wished row.terms.recaps) (sub_wished row) row) (wish_outs c.args.sender) c.args.sub c.args.links.now.items c.args.out.now.items (sym c.in-None.ensures)

@@ -1,0 +1,92 @@
+-- What ties what a bridge keeps to the table of what it heard.
+use Rattle.std.specs.Prelude.{◌≡◌, ℕ, ◌<◌, false, List, [], map, if◌then◌else◌}
+use Rattle.std.specs.List.{list_any}
+use Rattle.mama_event.specs.declared.ids.ObjectId.{ObjectId}
+use Rattle.mama_event.specs.declared.shape.Shape.{Shape}
+use Rattle.mama_event.specs.Object.{same_sub, same_inbox}
+use Rattle.mama_event.specs.declared.to_bridge.BridgeNote.{BridgeNote}
+use Rattle.mama_event.specs.declared.to_bridge.ToBridge.{ToBridge}
+use Rattle.mama_event.specs.Ports.{publishers_of}
+use Rattle.mama_rules.specs.Bridge.{BridgeEvent, heard}
+use Rattle.mama_bridge_rules.specs.Table.{SubRow, InboxRow, Table, table_next, table_puts, table_of, all_set}
+use Rattle.mama_bridge_rules.specs.Laws.{Alone}
+use Rattle.mama_bridge.specs.declared.out.BridgeOut.{BridgeOut}
+use Rattle.mama_bridge.specs.declared.desk.Desk.{Desk}
+use Rattle.mama_bridge.specs.Outs.{Adds, brought, is_create}
+use Rattle.mama_bridge.specs.Links.{sub_seen, sub_view, inbox_seen, inbox_view}
+
+-- what is kept stands for a table
+pub record Stands (table : Table) (desk : Desk) : Type 0 where
+  pub joined : desk.joined.items ≡ table.joined
+  pub opened : desk.opened.items ≡ table.opened
+  pub subs : map sub_seen desk.subs.items ≡ map sub_view table.subs
+  pub inboxes : map inbox_seen desk.inboxes.items ≡ map inbox_view table.inboxes
+  pub clients : desk.clients ≡ table.clients
+  pub sends : desk.sends ≡ table.sends
+  pub settled : desk.settled ≡ table.settled
+  pub byes : desk.byes ≡ table.byes
+
+-- each row is there once
+pub record Sound (table : Table) : Type 0 where
+  pub subs_once : Alone same_sub (λ (row : SubRow). row.sub) table.subs
+  pub inboxes_once : Alone same_inbox (λ (row : InboxRow). row.inbox) table.inboxes
+
+-- an event was heard: what is kept stands for the next table, and what the table says was put
+pub record Heard {L : Type 0} (tagged : L → ObjectId) (shape : Shape) (table : Table) (e : BridgeEvent) (after : Desk) (old new : List (BridgeOut L)) (carried : List L) : Type 0 where
+  pub stands : Stands (table_next shape table e) after
+  pub adds : Adds tagged old new (table_puts shape table e) carried
+
+abbrev pub Hears : {L : Type 0} → (L → ObjectId) → Shape → BridgeEvent → Desk → Desk → List (BridgeOut L) → List (BridgeOut L) → List L → Type 0
+Hears tagged shape e before after old new carried = (table : Table) → Stands table before → Sound table → Heard tagged shape table e after old new carried
+
+-- the same of an event whose listener, if it brought one, goes with a Create
+abbrev pub HearsOf : {L : Type 0} → (L → ObjectId) → Shape → BridgeEvent → ToBridge L → Desk → Desk → List (BridgeOut L) → List (BridgeOut L) → Type 0
+HearsOf tagged shape e event before after old new = (table : Table) → Stands table before → Sound table
+    → Heard tagged shape table e after old new (if list_any is_create (table_puts shape table e) then brought event else [])
+
+-- nothing that contracts see has changed
+abbrev pub AsBefore : Desk → Desk → Type 0
+AsBefore before after = (table : Table) → Stands table before → Stands table after
+
+-- only who joined and the links of subscriptions may have changed
+pub record AllBut (before after : Desk) : Type 0 where
+  pub opened : after.opened.items ≡ before.opened.items
+  pub inboxes : after.inboxes.items ≡ before.inboxes.items
+  pub clients : after.clients ≡ before.clients
+  pub sends : after.sends ≡ before.sends
+  pub settled : after.settled ≡ before.settled
+  pub byes : after.byes ≡ before.byes
+
+-- only who opened and the links of inboxes may have changed
+pub record AllButInboxes (before after : Desk) : Type 0 where
+  pub joined : after.joined.items ≡ before.joined.items
+  pub subs : after.subs.items ≡ before.subs.items
+  pub clients : after.clients ≡ before.clients
+  pub sends : after.sends ≡ before.sends
+  pub settled : after.settled ≡ before.settled
+  pub byes : after.byes ≡ before.byes
+
+-- only links may have changed
+pub record AllButLinks (before after : Desk) : Type 0 where
+  pub joined : after.joined.items ≡ before.joined.items
+  pub opened : after.opened.items ≡ before.opened.items
+  pub clients : after.clients ≡ before.clients
+  pub sends : after.sends ≡ before.sends
+  pub settled : after.settled ≡ before.settled
+  pub byes : after.byes ≡ before.byes
+
+-- only who said Bye may have changed
+pub record AllButByes (before after : Desk) : Type 0 where
+  pub joined : after.joined.items ≡ before.joined.items
+  pub opened : after.opened.items ≡ before.opened.items
+  pub subs : after.subs.items ≡ before.subs.items
+  pub inboxes : after.inboxes.items ≡ before.inboxes.items
+  pub clients : after.clients ≡ before.clients
+  pub sends : after.sends ≡ before.sends
+  pub settled : after.settled ≡ before.settled
+
+-- what a bridge keeps stands for the table of what it heard, and its journal has room for the last queue's Bye
+pub record IsKept (shape : Shape) (publishers : ℕ) (journal : List (ℕ × BridgeNote)) (len capacity : ℕ) (desk : Desk) : Type 0 where
+  pub stands : Stands (table_of shape (heard shape journal)) desk
+  pub count : publishers ≡ publishers_of shape
+  pub room : all_set desk.byes ≡ false → len < capacity

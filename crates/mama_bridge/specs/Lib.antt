@@ -1,0 +1,5 @@
+pub mod Outs
+pub mod Links
+pub mod Desk
+pub mod Routing
+pub mod Putters

@@ -1,0 +1,657 @@
+ghost use Rattle.std.specs.Prelude.{◌≡◌, ◌+◌, ◌<◌, ◌≤◌, ◌^◌, ◌==◌, ◌&&◌, ◌++◌, [], ◌∷◌, not, nat_lt, nat_le, slice_set, true, length, position, sum_by, vec_len, IfOk, IfErr, OnOk, OnErr, if◌then◌else◌};
+ghost use Rattle.std.specs.Vec.{vec_capacity};
+ghost use Rattle.std.specs.List.{list_any};
+ghost use Rattle.mama_journal.specs.Journal.{least_free};
+ghost use Rattle.mama_link.specs.Link.{standing_after};
+ghost use Rattle.mama_event.specs.Object.{same_sub, same_inbox};
+ghost use Rattle.mama_event.specs.declared.shape.Shape.{Shape};
+ghost use Rattle.mama_rules.specs.Bridge.{joins, leaves, opens, closes, asks, publishes, images, replies, wishes, client_done, sends_done, settled, put_by};
+ghost use Rattle.mama_bridge_rules.specs.Table.{empty_table, all_set, marked, leaver_in, is_settling_by, is_ended_by, kept};
+ghost use Rattle.mama_bridge.specs.Desk.{Stands, Hears, AsBefore, AllBut, AllButInboxes, AllButLinks, AllButByes};
+ghost use Rattle.mama_bridge.specs.Putters.{actor_of, HasFlags};
+ghost use Rattle.mama_bridge.specs.Links.{sub_seen, inbox_seen, first_outs, image_outs, settle_outs, sub_held, inbox_held, EndsIf, sub_link_slots, inbox_link_slots};
+
+use crate::ending::{end_all, held_by_inboxes, held_by_subs, room, settle_if};
+use crate::flags::Flags;
+use crate::inboxes::InboxLink;
+use crate::out::BridgeOut;
+use crate::putter::Putter;
+use crate::slots::free_slot;
+use crate::subs::SubLink;
+use crate::{inboxes, routes};
+use mama_event::{
+    BridgeNote, Fids, InboxId, InboxTerms, Make, MarketMsg, MsgKind, ObjectId, Shape, SubId,
+    SubKind, SubTerms, Tagged, ToPublisher, ToQueue,
+};
+use mama_link::{Faults, Link, Outbox};
+use mama_memory::OutOfMemory;
+use mama_msg::Msg;
+use std::alloc::Global;
+
+/// What a bridge keeps: who joined and opened, the links in order, and who is done.
+#[derive(Drop)]
+pub(crate) struct Desk {
+    alloc: Global,
+    joined: Vec<SubId>,
+    opened: Vec<InboxId>,
+    subs: Vec<SubLink>,
+    inboxes: Vec<InboxLink>,
+    clients: Flags,
+    sends: Flags,
+    settled: Flags,
+    byes: Flags,
+}
+
+impl Desk {
+    pub(crate) fn new(alloc: Global, shape: &Shape) -> Result<Desk, OutOfMemory>
+        ensures { IfOk result (λ desk. Stands (empty_table shape.now) desk) }
+    {
+        let publishers = shape.publisher_topics.len();
+        Ok(Desk {
+            alloc,
+            joined: Vec::new(alloc),
+            opened: Vec::new(alloc),
+            subs: Vec::new(alloc),
+            inboxes: Vec::new(alloc),
+            clients: Flags::new(alloc, shape.clients as usize)?,
+            sends: Flags::new(alloc, publishers)?,
+            settled: Flags::new(alloc, publishers)?,
+            byes: Flags::new(alloc, shape.bounds.queues as usize)?,
+        })
+    }
+
+    /// Whether settling has begun.
+    pub(crate) fn is_settling(&self) -> bool
+        ensures { result ≡ is_settling_by self.now.clients self.now.sends }
+    {
+        self.clients.all() && self.sends.all()
+    }
+
+    /// Whether the ending has come.
+    pub(crate) fn is_ended(&self) -> bool
+        ensures { result ≡ is_ended_by self.now.clients self.now.sends self.now.settled }
+    {
+        self.is_settling() && self.settled.all()
+    }
+
+    pub(crate) fn leave<L: Tagged>(
+        &mut self,
+        sub: SubId,
+        out: &mut Outbox<BridgeOut<L>>,
+    ) -> Result<(), OutOfMemory>
+        ensures ok { OnOk result ((shape : Shape) → Hears L.tagged shape (leaves sub) self.old self.new out.old.items out.new.items []) }
+        ensures same { OnErr result (AsBefore self.old self.new) }
+        ensures err { OnErr result (out.new.items ≡ out.old.items) }
+    {
+        routes::leave(self.alloc, &mut self.subs, sub, out)
+    }
+
+    pub(crate) fn close<L: Tagged>(
+        &mut self,
+        inbox: InboxId,
+        out: &mut Outbox<BridgeOut<L>>,
+    ) -> Result<(), OutOfMemory>
+        ensures ok { OnOk result ((shape : Shape) → Hears L.tagged shape (closes inbox) self.old self.new out.old.items out.new.items []) }
+        ensures same { OnErr result (AsBefore self.old self.new) }
+        ensures err { OnErr result (out.new.items ≡ out.old.items) }
+    {
+        routes::close(self.alloc, &mut self.inboxes, inbox, out)
+    }
+
+    pub(crate) fn image<L: Tagged>(
+        &mut self,
+        sub: SubId,
+        msg: &MarketMsg,
+        out: &mut Outbox<BridgeOut<L>>,
+    ) -> Result<(), OutOfMemory>
+        ensures ok { OnOk result ((shape : Shape) → Hears L.tagged shape (images sub msg.now) self.old self.new out.old.items out.new.items []) }
+        ensures same { OnErr result (AsBefore self.old self.new) }
+        ensures err { OnErr result (out.new.items ≡ out.old.items) }
+    {
+        routes::image(self.alloc, &mut self.subs, sub, msg, out)
+    }
+
+    pub(crate) fn reply<L: Tagged>(
+        &mut self,
+        inbox: InboxId,
+        body: &Msg,
+        out: &mut Outbox<BridgeOut<L>>,
+    ) -> Result<(), OutOfMemory>
+        ensures ok { OnOk result ((shape : Shape) → Hears L.tagged shape (replies inbox body.now) self.old self.new out.old.items out.new.items []) }
+        ensures same { OnErr result (AsBefore self.old self.new) }
+        ensures err { OnErr result (out.new.items ≡ out.old.items) }
+    {
+        routes::reply(self.alloc, &mut self.inboxes, inbox, body, out)
+    }
+
+    pub(crate) fn publish<L: Tagged>(
+        &mut self,
+        shape: &Shape,
+        publisher: u32,
+        msg: &MarketMsg,
+        out: &mut Outbox<BridgeOut<L>>,
+    ) -> Result<(), OutOfMemory>
+        requires { publisher < length shape.now.publisher_topics }
+        ensures ok { OnOk result (Hears L.tagged shape.now (publishes publisher msg.now) self.old self.new out.old.items out.new.items []) }
+        ensures same { OnErr result (AsBefore self.old self.new) }
+        ensures err { OnErr result (out.new.items ≡ out.old.items) }
+    {
+        let topic = shape.publisher_topics.at(publisher as usize);
+        routes::publish(self.alloc, &mut self.subs, topic, msg, out)
+    }
+
+    pub(crate) fn wish<L: Tagged>(
+        &mut self,
+        shape: &Shape,
+        sub: SubId,
+        sender: u32,
+        out: &mut Outbox<BridgeOut<L>>,
+    ) -> Result<(), OutOfMemory>
+        ensures ok { OnOk result (Hears L.tagged shape.now (wishes sub sender) self.old self.new out.old.items out.new.items []) }
+        ensures same { OnErr result (AsBefore self.old self.new) }
+        ensures err { OnErr result (out.new.items ≡ out.old.items) }
+    {
+        if !may_forward(self.is_settling(), sender, shape.publisher_topics.len()) {
+            return Ok(());
+        }
+        routes::wish(&mut self.subs, sub, sender, out)
+    }
+
+    pub(crate) fn ask<L: Tagged>(
+        &mut self,
+        shape: &Shape,
+        inbox: InboxId,
+        topic: u32,
+        fids: Fids,
+        out: &mut Outbox<BridgeOut<L>>,
+    ) -> Result<(), OutOfMemory>
+        requires { length shape.now.publisher_topics < 2 ^ 32 }
+        ensures ok { OnOk result (Hears L.tagged shape.now (asks inbox topic fids) self.old self.new out.old.items out.new.items []) }
+        ensures same { OnErr result (AsBefore self.old self.new) }
+        ensures err { OnErr result (out.new.items ≡ out.old.items) }
+    {
+        out.reserve(1)?;
+        let may = may_ask(inboxes::has(&self.inboxes, inbox), self.is_settling());
+        put_first_if(may, shape, topic, ToPublisher::Ask { inbox, fids }, out);
+        Ok(())
+    }
+
+    /// Makes the room that a new subscription takes, and tells its slot.
+    fn ready_sub<L>(
+        &mut self,
+        queue: u32,
+        out: &mut Outbox<BridgeOut<L>>,
+    ) -> Result<u32, OutOfMemory>
+        ensures slot { IfOk result (λ slot. slot ≡ least_free (sub_link_slots queue self.old.subs.items ++ inbox_link_slots queue self.old.inboxes.items)) }
+        ensures room_joined { OnOk result (vec_len self.new.joined < vec_capacity self.new.joined) }
+        ensures room_subs { OnOk result (vec_len self.new.subs < vec_capacity self.new.subs) }
+        ensures room_out { OnOk result (1 < out.new.spare) }
+        ensures joined { self.new.joined.items ≡ self.old.joined.items }
+        ensures subs { self.new.subs.items ≡ self.old.subs.items }
+        ensures rest { AllBut self.old self.new }
+        ensures out { out.new.items ≡ out.old.items }
+    {
+        let slot = free_slot(self.alloc, &self.subs, &self.inboxes, queue)?;
+        self.joined.reserve(1)?;
+        self.subs.reserve(1)?;
+        out.reserve(2)?;
+        Ok(slot)
+    }
+
+    pub(crate) fn join<L: Tagged>(
+        &mut self,
+        shape: &Shape,
+        sub: SubId,
+        terms: SubTerms,
+        listener: L,
+        out: &mut Outbox<BridgeOut<L>>,
+    ) -> Result<(), (SubTerms, L)>
+        requires { length shape.now.publisher_topics < 2 ^ 32 }
+        ensures ok { OnOk result (Hears L.tagged shape.now (joins sub terms (L.tagged listener)) self.old self.new out.old.items out.new.items (if list_any (λ r. same_sub r sub) self.old.joined.items then [] else listener ∷ [])) }
+        ensures back { IfErr result (λ given. given ≡ (terms, listener)) }
+        ensures same { OnErr result (AsBefore self.old self.new) }
+        ensures err { OnErr result (out.new.items ≡ out.old.items) }
+    {
+        if has_sub(&self.joined, sub) {
+            return Ok(());
+        }
+        let slot = match self.ready_sub(terms.queue, out) {
+            Ok(slot) => slot,
+            Err(_) => return Err((terms, listener)),
+        };
+        let ended = self.is_ended();
+        let SubTerms {
+            topic,
+            kind,
+            queue,
+            cache,
+            recaps,
+            faults,
+        } = terms;
+        let link = new_link(self.alloc, sub, topic, queue, slot, recaps, faults);
+        self.add_sub(sub, ended, link);
+        let object = ObjectId::Sub(sub);
+        let make = Make::Sub { kind, cache };
+        out.push_reserved(BridgeOut::Queue(
+            queue,
+            ToQueue::Create {
+                slot,
+                object,
+                make,
+                listener,
+            },
+        ));
+        want_image(shape, sub, kind, topic, out);
+        Ok(())
+    }
+
+    /// Notes that a client is done.
+    pub(crate) fn client_done<L: Tagged>(
+        &mut self,
+        shape: &Shape,
+        client: u32,
+        publishers: u32,
+        out: &mut Outbox<BridgeOut<L>>,
+    ) -> Result<(), OutOfMemory>
+        requires client { client < length self.old.clients }
+        requires publishers { publishers ≡ length shape.now.publisher_topics }
+        ensures ok { OnOk result (Hears L.tagged shape.now (client_done client) self.old self.new out.old.items out.new.items []) }
+        ensures same { OnErr result (AsBefore self.old self.new) }
+        ensures err { OnErr result (out.new.items ≡ out.old.items) }
+    {
+        let settling = both(self.clients.all_with(client as usize), self.sends.all());
+        let ending = both(settling, self.settled.all());
+        let settles = begins(settling, self.is_settling());
+        let ends = begins(ending, self.is_ended());
+        self.turn(settles, ends, publishers, shape.bounds.queues, out)?;
+        self.clients.set(client as usize);
+        Ok(())
+    }
+
+    /// Notes that a publisher has sent the last of its own accord.
+    pub(crate) fn sends_done<L: Tagged>(
+        &mut self,
+        shape: &Shape,
+        publisher: u32,
+        publishers: u32,
+        out: &mut Outbox<BridgeOut<L>>,
+    ) -> Result<(), OutOfMemory>
+        requires publisher { publisher < length self.old.sends }
+        requires publishers { publishers ≡ length shape.now.publisher_topics }
+        ensures ok { OnOk result (Hears L.tagged shape.now (sends_done publisher) self.old self.new out.old.items out.new.items []) }
+        ensures same { OnErr result (AsBefore self.old self.new) }
+        ensures err { OnErr result (out.new.items ≡ out.old.items) }
+    {
+        let settling = both(self.clients.all(), self.sends.all_with(publisher as usize));
+        let ending = both(settling, self.settled.all());
+        let settles = begins(settling, self.is_settling());
+        let ends = begins(ending, self.is_ended());
+        self.turn(settles, ends, publishers, shape.bounds.queues, out)?;
+        self.sends.set(publisher as usize);
+        Ok(())
+    }
+
+    /// Notes that a publisher has settled.
+    pub(crate) fn settled<L: Tagged>(
+        &mut self,
+        shape: &Shape,
+        publisher: u32,
+        publishers: u32,
+        out: &mut Outbox<BridgeOut<L>>,
+    ) -> Result<(), OutOfMemory>
+        requires publisher { publisher < length self.old.settled }
+        requires publishers { publishers ≡ length shape.now.publisher_topics }
+        ensures ok { OnOk result (Hears L.tagged shape.now (settled publisher) self.old self.new out.old.items out.new.items []) }
+        ensures same { OnErr result (AsBefore self.old self.new) }
+        ensures err { OnErr result (out.new.items ≡ out.old.items) }
+    {
+        let settling = self.is_settling();
+        let ending = both(settling, self.settled.all_with(publisher as usize));
+        let settles = begins(settling, self.is_settling());
+        let ends = begins(ending, self.is_ended());
+        self.turn(settles, ends, publishers, shape.bounds.queues, out)?;
+        self.settled.set(publisher as usize);
+        Ok(())
+    }
+
+    /// Whether an actor's Bye is the last queue's.
+    pub(crate) fn ends_with_bye(&self, putter: Putter) -> bool
+        requires { HasFlags self.now putter }
+        ensures { result ≡ (all_set (marked self.now.byes (leaver_in (put_by (actor_of putter) BridgeNote.Bye))) && not (all_set self.now.byes)) }
+    {
+        match putter {
+            Putter::Queue(queue) => begins(self.byes.all_with(queue as usize), self.byes.all()),
+            _ => false,
+        }
+    }
+
+    /// Hears an actor's Bye. It takes no memory.
+    pub(crate) fn hear_bye(&mut self, putter: Putter)
+        requires { HasFlags self.old putter }
+        ensures byes { self.new.byes ≡ marked self.old.byes (leaver_in (put_by (actor_of putter) BridgeNote.Bye)) }
+        ensures rest { AllButByes self.old self.new }
+    {
+        if let Putter::Queue(queue) = putter {
+            self.byes.set(queue as usize);
+        }
+    }
+
+    /// Ends all links, if the ending comes, into outboxes with room.
+    fn end_if<L>(
+        &mut self,
+        ends: bool,
+        publishers: u32,
+        queues: u32,
+        msgs: &mut Outbox<MarketMsg>,
+        bodies: &mut Outbox<Msg>,
+        out: &mut Outbox<BridgeOut<L>>,
+    )
+        requires msgs { sum_by sub_held self.old.subs.items ≤ msgs.old.spare }
+        requires bodies { sum_by inbox_held self.old.inboxes.items ≤ bodies.old.spare }
+        requires out { sum_by sub_held self.old.subs.items + length self.old.subs.items + (sum_by inbox_held self.old.inboxes.items + length self.old.inboxes.items) + (queues + publishers + 1) ≤ out.old.spare }
+        requires no_msgs { msgs.old.items ≡ [] }
+        requires no_bodies { bodies.old.items ≡ [] }
+        ensures subs { self.new.subs.items ≡ kept ends self.old.subs.items }
+        ensures inboxes { self.new.inboxes.items ≡ kept ends self.old.inboxes.items }
+        ensures out { EndsIf ends publishers queues self.old.subs.items self.old.inboxes.items out.old.items out.new.items }
+        ensures rest { AllButLinks self.old self.new }
+    {
+        if ends {
+            let subs = std::mem::replace(&mut self.subs, Vec::new(self.alloc));
+            let inboxes = std::mem::replace(&mut self.inboxes, Vec::new(self.alloc));
+            end_all(subs, inboxes, publishers, queues, msgs, bodies, out);
+        }
+    }
+
+    /// Settles, if settling begins, and ends, if the ending comes.
+    fn settle_and_end<L>(
+        &mut self,
+        settles: bool,
+        ends: bool,
+        publishers: u32,
+        queues: u32,
+        out: &mut Outbox<BridgeOut<L>>,
+    ) -> Result<(), OutOfMemory>
+        ensures subs { OnOk result (self.new.subs.items ≡ kept ends self.old.subs.items) }
+        ensures inboxes { OnOk result (self.new.inboxes.items ≡ kept ends self.old.inboxes.items) }
+        ensures out { OnOk result (EndsIf ends publishers queues self.old.subs.items self.old.inboxes.items (out.old.items ++ (if settles then settle_outs publishers else [])) out.new.items) }
+        ensures rest { AllButLinks self.old self.new }
+        ensures same_subs { OnErr result (self.new.subs.items ≡ self.old.subs.items) }
+        ensures same_inboxes { OnErr result (self.new.inboxes.items ≡ self.old.inboxes.items) }
+        ensures err { OnErr result (out.new.items ≡ out.old.items) }
+    {
+        let held = held_by_subs(&self.subs)?;
+        let replies = held_by_inboxes(&self.inboxes)?;
+        let more = room(
+            held,
+            self.subs.len(),
+            replies,
+            self.inboxes.len(),
+            publishers,
+            queues,
+        )?;
+        out.reserve(more)?;
+        let mut msgs = Outbox::new(self.alloc);
+        msgs.reserve(held)?;
+        let mut bodies = Outbox::new(self.alloc);
+        bodies.reserve(replies)?;
+        settle_if(settles, publishers, out);
+        self.end_if(ends, publishers, queues, &mut msgs, &mut bodies, out);
+        Ok(())
+    }
+
+    /// Settles and ends, where either comes. Where neither does, no link is looked at.
+    fn turn<L>(
+        &mut self,
+        settles: bool,
+        ends: bool,
+        publishers: u32,
+        queues: u32,
+        out: &mut Outbox<BridgeOut<L>>,
+    ) -> Result<(), OutOfMemory>
+        ensures subs { OnOk result (self.new.subs.items ≡ kept ends self.old.subs.items) }
+        ensures inboxes { OnOk result (self.new.inboxes.items ≡ kept ends self.old.inboxes.items) }
+        ensures out { OnOk result (EndsIf ends publishers queues self.old.subs.items self.old.inboxes.items (out.old.items ++ (if settles then settle_outs publishers else [])) out.new.items) }
+        ensures rest { AllButLinks self.old self.new }
+        ensures same_subs { OnErr result (self.new.subs.items ≡ self.old.subs.items) }
+        ensures same_inboxes { OnErr result (self.new.inboxes.items ≡ self.old.inboxes.items) }
+        ensures err { OnErr result (out.new.items ≡ out.old.items) }
+    {
+        if !settles && !ends {
+            return Ok(());
+        }
+        self.settle_and_end(settles, ends, publishers, queues, out)
+    }
+
+    pub(crate) fn open_inbox<L: Tagged>(
+        &mut self,
+        inbox: InboxId,
+        terms: InboxTerms,
+        listener: L,
+        out: &mut Outbox<BridgeOut<L>>,
+    ) -> Result<(), (InboxTerms, L)>
+        ensures ok { OnOk result ((shape : Shape) → Hears L.tagged shape (opens inbox terms (L.tagged listener)) self.old self.new out.old.items out.new.items (if list_any (λ r. same_inbox r inbox) self.old.opened.items then [] else listener ∷ [])) }
+        ensures back { IfErr result (λ given. given ≡ (terms, listener)) }
+        ensures same { OnErr result (AsBefore self.old self.new) }
+        ensures err { OnErr result (out.new.items ≡ out.old.items) }
+    {
+        if has_inbox(&self.opened, inbox) {
+            return Ok(());
+        }
+        let slot = match self.ready_inbox(terms.queue, out) {
+            Ok(slot) => slot,
+            Err(_) => return Err((terms, listener)),
+        };
+        let ended = self.is_ended();
+        let InboxTerms { queue, faults } = terms;
+        let link = new_inbox_link(self.alloc, inbox, queue, slot, faults);
+        self.add_inbox(inbox, ended, link);
+        let object = ObjectId::Inbox(inbox);
+        let make = Make::Inbox;
+        out.push_reserved(BridgeOut::Queue(
+            queue,
+            ToQueue::Create {
+                slot,
+                object,
+                make,
+                listener,
+            },
+        ));
+        Ok(())
+    }
+
+    /// Notes that an inbox was opened, and that its link is there unless the ending has come.
+    fn add_inbox(&mut self, inbox: InboxId, ended: bool, link: InboxLink)
+        requires opened { vec_len self.old.opened < vec_capacity self.old.opened }
+        requires inboxes { vec_len self.old.inboxes < vec_capacity self.old.inboxes }
+        ensures opened { self.new.opened.items ≡ self.old.opened.items ++ inbox ∷ [] }
+        ensures inboxes { self.new.inboxes.items ≡ self.old.inboxes.items ++ kept ended (link ∷ []) }
+        ensures rest { AllButInboxes self.old self.new }
+    {
+        self.opened.push_reserved(inbox);
+        if !ended {
+            self.inboxes.push_reserved(link);
+        }
+    }
+
+    /// Makes the room that a new inbox takes, and tells its slot.
+    fn ready_inbox<L>(
+        &mut self,
+        queue: u32,
+        out: &mut Outbox<BridgeOut<L>>,
+    ) -> Result<u32, OutOfMemory>
+        ensures slot { IfOk result (λ slot. slot ≡ least_free (sub_link_slots queue self.old.subs.items ++ inbox_link_slots queue self.old.inboxes.items)) }
+        ensures room_opened { OnOk result (vec_len self.new.opened < vec_capacity self.new.opened) }
+        ensures room_inboxes { OnOk result (vec_len self.new.inboxes < vec_capacity self.new.inboxes) }
+        ensures room_out { OnOk result (0 < out.new.spare) }
+        ensures opened { self.new.opened.items ≡ self.old.opened.items }
+        ensures inboxes { self.new.inboxes.items ≡ self.old.inboxes.items }
+        ensures rest { AllButInboxes self.old self.new }
+        ensures out { out.new.items ≡ out.old.items }
+    {
+        let slot = free_slot(self.alloc, &self.subs, &self.inboxes, queue)?;
+        self.opened.reserve(1)?;
+        self.inboxes.reserve(1)?;
+        out.reserve(1)?;
+        Ok(slot)
+    }
+
+    /// Notes that a subscription joined, and that its link is there unless the ending has come.
+    fn add_sub(&mut self, sub: SubId, ended: bool, link: SubLink)
+        requires joined { vec_len self.old.joined < vec_capacity self.old.joined }
+        requires subs { vec_len self.old.subs < vec_capacity self.old.subs }
+        ensures joined { self.new.joined.items ≡ self.old.joined.items ++ sub ∷ [] }
+        ensures subs { self.new.subs.items ≡ self.old.subs.items ++ kept ended (link ∷ []) }
+        ensures rest { AllBut self.old self.new }
+    {
+        self.joined.push_reserved(sub);
+        if !ended {
+            self.subs.push_reserved(link);
+        }
+    }
+}
+
+/// Whether a wish for a recap of this sender is forwarded, if a link's terms allow one more.
+fn may_forward(settling: bool, sender: u32, publishers: usize) -> bool
+    ensures { result ≡ (not settling && (nat_lt 0 sender && nat_le sender publishers)) }
+{
+    !settling && sender > 0 && sender as usize <= publishers
+}
+
+/// Whether an ask is forwarded.
+fn may_ask(is_open: bool, settling: bool) -> bool
+    ensures { result ≡ (is_open && not settling) }
+{
+    is_open && !settling
+}
+
+/// Puts an event to the first publisher of a topic, if it may and there is one, into an outbox with room.
+fn put_first_if<L>(
+    may: bool,
+    shape: &Shape,
+    topic: u32,
+    event: ToPublisher,
+    out: &mut Outbox<BridgeOut<L>>,
+)
+    requires few { length shape.now.publisher_topics < 2 ^ 32 }
+    requires room { 0 < out.old.spare }
+    ensures { out.new.items ≡ out.old.items ++ (if may then first_outs (position (λ t. t == topic) shape.now.publisher_topics) event else []) }
+{
+    if may {
+        put_first(shape, topic, event, out);
+    }
+}
+
+/// The publisher of a topic with the lowest number.
+fn first_publisher(shape: &Shape, topic: u32) -> Option<usize>
+    ensures { result ≡ position (λ t. t == topic) shape.now.publisher_topics }
+{
+    shape
+        .publisher_topics
+        .as_slice()
+        .iter()
+        .position(|t| *t == topic)
+}
+
+/// Puts an event to the first publisher of a topic, if it has one, into an outbox with room.
+fn put_first<L>(shape: &Shape, topic: u32, event: ToPublisher, out: &mut Outbox<BridgeOut<L>>)
+    requires few { length shape.now.publisher_topics < 2 ^ 32 }
+    requires room { 0 < out.old.spare }
+    ensures { out.new.items ≡ out.old.items ++ first_outs (position (λ t. t == topic) shape.now.publisher_topics) event }
+{
+    if let Some(number) = first_publisher(shape, topic) {
+        out.push_reserved(BridgeOut::Publisher(number as u32, event));
+    }
+}
+
+/// Whether a subscription joined before.
+fn has_sub(joined: &Vec<SubId>, sub: SubId) -> bool
+    ensures { result ≡ list_any (λ r. same_sub r sub) joined.now.items }
+{
+    joined.iter().any(|joined| *joined == sub)
+}
+
+/// A link that no message has passed.
+fn new_link(
+    alloc: Global,
+    sub: SubId,
+    topic: u32,
+    queue: u32,
+    slot: u32,
+    recaps: u32,
+    faults: Faults,
+) -> SubLink
+    ensures { sub_seen result ≡ record { sub = sub; topic = topic; queue = queue; slot = slot; recaps = recaps; wished = 0; link = standing_after faults [] } }
+{
+    SubLink {
+        sub,
+        topic,
+        queue,
+        slot,
+        recaps,
+        wished: 0,
+        link: Link::new(alloc, faults),
+        ready: None,
+    }
+}
+
+/// Asks for the first image of a subscription, unless it is basic, into an outbox with room.
+fn want_image<L>(
+    shape: &Shape,
+    sub: SubId,
+    kind: SubKind,
+    topic: u32,
+    out: &mut Outbox<BridgeOut<L>>,
+)
+    requires few { length shape.now.publisher_topics < 2 ^ 32 }
+    requires room { 0 < out.old.spare }
+    ensures { out.new.items ≡ out.old.items ++ image_outs kind (first_outs (position (λ t. t == topic) shape.now.publisher_topics) (ToPublisher.Want sub MsgKind.Initial)) }
+{
+    match kind {
+        SubKind::Basic => {}
+        SubKind::Market => want_first(shape, sub, topic, out),
+        SubKind::Snapshot => want_first(shape, sub, topic, out),
+    }
+}
+
+fn want_first<L>(shape: &Shape, sub: SubId, topic: u32, out: &mut Outbox<BridgeOut<L>>)
+    requires few { length shape.now.publisher_topics < 2 ^ 32 }
+    requires room { 0 < out.old.spare }
+    ensures { out.new.items ≡ out.old.items ++ first_outs (position (λ t. t == topic) shape.now.publisher_topics) (ToPublisher.Want sub MsgKind.Initial) }
+{
+    let kind = MsgKind::Initial;
+    put_first(shape, topic, ToPublisher::Want { sub, kind }, out);
+}
+
+/// Whether an inbox was opened before.
+fn has_inbox(opened: &Vec<InboxId>, inbox: InboxId) -> bool
+    ensures { result ≡ list_any (λ r. same_inbox r inbox) opened.now.items }
+{
+    opened.iter().any(|opened| *opened == inbox)
+}
+
+/// A link that no reply has passed.
+fn new_inbox_link(alloc: Global, inbox: InboxId, queue: u32, slot: u32, faults: Faults) -> InboxLink
+    ensures { inbox_seen result ≡ record { inbox = inbox; queue = queue; slot = slot; link = standing_after faults [] } }
+{
+    InboxLink {
+        inbox,
+        queue,
+        slot,
+        link: Link::new(alloc, faults),
+    }
+}
+
+/// Whether both hold.
+fn both(a: bool, b: bool) -> bool
+    ensures { result ≡ (a && b) }
+{
+    a && b
+}
+
+/// Whether something holds that did not hold before.
+fn begins(now: bool, before: bool) -> bool
+    ensures { result ≡ (now && not before) }
+{
+    now && !before
+}

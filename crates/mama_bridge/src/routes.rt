@@ -1,0 +1,200 @@
+ghost use Rattle.std.specs.Prelude.{◌≡◌, ◌<◌, ◌++◌, map, nat_lt, OnOk, OnErr, if◌then◌else◌};
+ghost use Rattle.mama_bridge_rules.specs.Table.{SubRow, InboxRow, of_sub, sub_passed, inbox_passed, sub_wished};
+ghost use Rattle.mama_bridge.specs.Links.{sub_seen, sub_view, inbox_seen, inbox_view, emit_outs, inbox_emit_outs, row_is_on, wish_outs, SubsPass, SubLeaves, SubWishes, InboxPass, InboxCloses};
+
+use crate::ends::plus;
+use crate::inboxes::InboxLink;
+use crate::out::BridgeOut;
+use crate::subs::SubLink;
+use crate::{inboxes, subs};
+use mama_event::{InboxId, MarketMsg, MsgKind, SubId, ToPublisher};
+use mama_link::Outbox;
+use mama_memory::OutOfMemory;
+use mama_msg::Msg;
+use std::alloc::Global;
+
+/// Passes a message through all links on a topic, in order.
+pub(crate) fn publish<L>(
+    alloc: Global,
+    links: &mut Vec<SubLink>,
+    topic: u32,
+    msg: &MarketMsg,
+    out: &mut Outbox<BridgeOut<L>>,
+) -> Result<(), OutOfMemory>
+    ensures ok { OnOk result (SubsPass (row_is_on topic) msg.now links.old.items links.new.items out.old.items out.new.items) }
+    ensures seen { OnErr result (map sub_seen links.new.items ≡ map sub_seen links.old.items) }
+    ensures err { OnErr result (out.new.items ≡ out.old.items) }
+{
+    let total = subs::prepare_topic(links, topic, msg)?;
+    out.reserve(total)?;
+    let mut msgs = Outbox::new(alloc);
+    msgs.reserve(total)?;
+    subs::pass_topic(links, topic, &mut msgs, out);
+    Ok(())
+}
+
+/// Passes a message through one link.
+fn send<L>(
+    alloc: Global,
+    link: &mut SubLink,
+    msg: &MarketMsg,
+    out: &mut Outbox<BridgeOut<L>>,
+) -> Result<(), OutOfMemory>
+    ensures ok { OnOk result ((row : SubRow) → sub_seen link.old ≡ sub_view row → (sub_seen link.new ≡ sub_view (sub_passed msg.now row)) × (out.new.items ≡ out.old.items ++ emit_outs msg.now row)) }
+    ensures seen { OnErr result (sub_seen link.new ≡ sub_seen link.old) }
+    ensures err { OnErr result (out.new.items ≡ out.old.items) }
+{
+    let total = subs::prepare(link, msg)?;
+    out.reserve(total)?;
+    let mut msgs = Outbox::new(alloc);
+    msgs.reserve(total)?;
+    subs::pass(link, &mut msgs, out);
+    Ok(())
+}
+
+/// Passes a message through a subscription's link, if it is live.
+pub(crate) fn image<L>(
+    alloc: Global,
+    links: &mut Vec<SubLink>,
+    sub: SubId,
+    msg: &MarketMsg,
+    out: &mut Outbox<BridgeOut<L>>,
+) -> Result<(), OutOfMemory>
+    ensures ok { OnOk result (SubsPass (of_sub sub) msg.now links.old.items links.new.items out.old.items out.new.items) }
+    ensures seen { OnErr result (map sub_seen links.new.items ≡ map sub_seen links.old.items) }
+    ensures err { OnErr result (out.new.items ≡ out.old.items) }
+{
+    match subs::find(links, sub) {
+        Some(i) => send(alloc, &mut links[i], msg, out),
+        None => Ok(()),
+    }
+}
+
+/// Ends a subscription's link, if it is live.
+pub(crate) fn leave<L>(
+    alloc: Global,
+    links: &mut Vec<SubLink>,
+    sub: SubId,
+    out: &mut Outbox<BridgeOut<L>>,
+) -> Result<(), OutOfMemory>
+    ensures ok { OnOk result (SubLeaves sub links.old.items links.new.items out.old.items out.new.items) }
+    ensures seen { OnErr result (links.new.items ≡ links.old.items) }
+    ensures err { OnErr result (out.new.items ≡ out.old.items) }
+{
+    match subs::find(links, sub) {
+        Some(i) => {
+            let held = links[i].link.held();
+            out.reserve(plus(held, 1)?)?;
+            let mut msgs = Outbox::new(alloc);
+            msgs.reserve(held)?;
+            let link = links.remove(i);
+            subs::end(link, &mut msgs, out);
+            Ok(())
+        }
+        None => Ok(()),
+    }
+}
+
+/// Forwards a wish of a link, if its terms allow one more.
+fn wish_one<L>(
+    link: &mut SubLink,
+    sender: u32,
+    out: &mut Outbox<BridgeOut<L>>,
+) -> Result<(), OutOfMemory>
+    requires { 0 < sender }
+    ensures ok { OnOk result ((row : SubRow) → sub_seen link.old ≡ sub_view row → (sub_seen link.new ≡ sub_view (if nat_lt row.wished row.terms.recaps then sub_wished row else row)) × (out.new.items ≡ out.old.items ++ wish_outs sender row)) }
+    ensures seen { OnErr result (sub_seen link.new ≡ sub_seen link.old) }
+    ensures err { OnErr result (out.new.items ≡ out.old.items) }
+{
+    if link.wished < link.recaps {
+        let event = ToPublisher::Want {
+            sub: link.sub,
+            kind: MsgKind::Recap,
+        };
+        out.reserve(1)?;
+        out.push_reserved(BridgeOut::Publisher(sender - 1, event));
+        link.wished += 1;
+    }
+    Ok(())
+}
+
+/// Forwards a wish of a subscription, if it is live and its terms allow one more.
+pub(crate) fn wish<L>(
+    links: &mut Vec<SubLink>,
+    sub: SubId,
+    sender: u32,
+    out: &mut Outbox<BridgeOut<L>>,
+) -> Result<(), OutOfMemory>
+    requires { 0 < sender }
+    ensures ok { OnOk result (SubWishes sender sub links.old.items links.new.items out.old.items out.new.items) }
+    ensures seen { OnErr result (map sub_seen links.new.items ≡ map sub_seen links.old.items) }
+    ensures err { OnErr result (out.new.items ≡ out.old.items) }
+{
+    match subs::find(links, sub) {
+        Some(i) => wish_one(&mut links[i], sender, out),
+        None => Ok(()),
+    }
+}
+
+/// Passes a reply through one inbox's link.
+fn answer<L>(
+    alloc: Global,
+    link: &mut InboxLink,
+    body: &Msg,
+    out: &mut Outbox<BridgeOut<L>>,
+) -> Result<(), OutOfMemory>
+    ensures ok { OnOk result ((row : InboxRow) → inbox_seen link.old ≡ inbox_view row → (inbox_seen link.new ≡ inbox_view (inbox_passed body.now row)) × (out.new.items ≡ out.old.items ++ inbox_emit_outs body.now row)) }
+    ensures seen { OnErr result (inbox_seen link.new ≡ inbox_seen link.old) }
+    ensures err { OnErr result (out.new.items ≡ out.old.items) }
+{
+    let prepared = link.link.prepare(body)?;
+    let total = prepared.len();
+    out.reserve(total)?;
+    let mut bodies = Outbox::new(alloc);
+    bodies.reserve(total)?;
+    inboxes::pass(link, prepared, &mut bodies, out);
+    Ok(())
+}
+
+/// Passes a reply through an inbox's link, if it is open.
+pub(crate) fn reply<L>(
+    alloc: Global,
+    links: &mut Vec<InboxLink>,
+    inbox: InboxId,
+    body: &Msg,
+    out: &mut Outbox<BridgeOut<L>>,
+) -> Result<(), OutOfMemory>
+    ensures ok { OnOk result (InboxPass inbox body.now links.old.items links.new.items out.old.items out.new.items) }
+    ensures seen { OnErr result (map inbox_seen links.new.items ≡ map inbox_seen links.old.items) }
+    ensures err { OnErr result (out.new.items ≡ out.old.items) }
+{
+    match inboxes::find(links, inbox) {
+        Some(i) => answer(alloc, &mut links[i], body, out),
+        None => Ok(()),
+    }
+}
+
+/// Ends an inbox's link, if it is open.
+pub(crate) fn close<L>(
+    alloc: Global,
+    links: &mut Vec<InboxLink>,
+    inbox: InboxId,
+    out: &mut Outbox<BridgeOut<L>>,
+) -> Result<(), OutOfMemory>
+    ensures ok { OnOk result (InboxCloses inbox links.old.items links.new.items out.old.items out.new.items) }
+    ensures seen { OnErr result (links.new.items ≡ links.old.items) }
+    ensures err { OnErr result (out.new.items ≡ out.old.items) }
+{
+    match inboxes::find(links, inbox) {
+        Some(i) => {
+            let held = links[i].link.held();
+            out.reserve(plus(held, 1)?)?;
+            let mut bodies = Outbox::new(alloc);
+            bodies.reserve(held)?;
+            let link = links.remove(i);
+            inboxes::end(link, &mut bodies, out);
+            Ok(())
+        }
+        None => Ok(()),
+    }
+}
