@@ -1,0 +1,5 @@
+pub mod Lists
+pub mod Putters
+pub mod Worlds
+pub mod Stages
+pub mod Whole

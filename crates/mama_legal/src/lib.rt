@@ -1,0 +1,7 @@
+//! When the record of a run is legal for a script, as definitions, with laws: the record of a run in rounds is.
+//! There is no code here but functions with empty bodies, whose contracts are the laws.
+#![tactic(auto)]
+
+mod laws;
+
+pub use laws::rounds_are_whole;
