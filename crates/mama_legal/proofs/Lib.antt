@@ -3,3 +3,4 @@ pub mod Putters
 pub mod Worlds
 pub mod Stages
 pub mod Whole
+pub mod OneRecord

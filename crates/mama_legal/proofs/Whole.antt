@@ -24,7 +24,8 @@ use Rattle.mama_rounds.specs.World.{Setting, World, no_section, with_puts, publi
 use Rattle.mama_rounds.specs.Stage.{Stage, client_stepped, client_step, entries_done, publisher_stepped, publisher_step, IsStageDrained, IsOver}
 use Rattle.mama_rounds.specs.Round.{publishers_from, publisher_line_steps, publisher_steps, all_client_steps, setting_of, no_journals, start, record_of, IsRound}
 use Rattle.mama_legal.specs.Edges.{all_steps, client_puts, queue_puts, put_on_bridge, put_on_timers, put_on_queue, put_to_publisher, taken_in, taken_by, AreEdges}
-use Rattle.mama_legal.specs.Laws.{RoundsAreWhole}
+use Rattle.mama_legal.specs.Calls.{AreCalls}
+use Rattle.mama_legal.specs.Laws.{RoundsAreWhole, RoundsAreShaped, RoundsTellCalls}
 use Rattle.mama_legal.proofs.Lists.{within, all_empty}
 use Rattle.mama_legal.proofs.Putters.{by_bridge_port, by_timers_port, by_queue_port}
 use Rattle.mama_legal.proofs.Worlds.{Holds, bridge_turn_keeps, timers_turn_keeps, publisher_turn_keeps, queue_turn_keeps, client_keeps, own_keeps}
@@ -40,12 +41,12 @@ abbrev are_own : List (List PublisherEntry) → Bool
 are_own steps = list_all (list_all is_own) steps
 
 -- a run between two steps: what the clients put so far and have still to put, and what holds of every lane
-record Running (setting : Setting) (total : ℕ → List QueuePut) (s : Stage) : Type 0 where
-  done : ℕ → List QueuePut
-  steps : (c : ℕ) → done c ++ all_steps (slice_index_or s.clients c []) ≡ total c
-  publishers_len : length s.publishers ≡ length setting.publishers
-  own : (p : ℕ) → are_own (slice_index_or s.publishers p []) ≡ true
-  world : Holds setting done s.world
+pub record Running (setting : Setting) (total : ℕ → List QueuePut) (s : Stage) : Type 0 where
+  pub done : ℕ → List QueuePut
+  pub steps : (c : ℕ) → done c ++ all_steps (slice_index_or s.clients c []) ≡ total c
+  pub publishers_len : length s.publishers ≡ length setting.publishers
+  pub own : (p : ℕ) → are_own (slice_index_or s.publishers p []) ≡ true
+  pub world : Holds setting done s.world
 
 -- ---- a drain
 
@@ -192,9 +193,9 @@ all_lanes_empty Y (x ∷ xs) = all_lanes_empty Y xs
 -- ---- the whole run
 
 -- between two steps all is quiet
-record Resting (setting : Setting) (total : ℕ → List QueuePut) (s : Stage) : Type 0 where
-  running : Running setting total s
-  quiet : IsQuiet s.world
+pub record Resting (setting : Setting) (total : ℕ → List QueuePut) (s : Stage) : Type 0 where
+  pub running : Running setting total s
+  pub quiet : IsQuiet s.world
 
 kept_by_rounds : (setting : Setting) (total : ℕ → List QueuePut) → IsKeptByRounds setting (Resting setting total)
 kept_by_rounds setting total = record {
@@ -241,9 +242,24 @@ edges_at_end script moments last rest over =
           ∙ r.world.queues q inside port;
     }
 
-pub whole_edges : RoundsAreWhole
-whole_edges script run is =
+-- a run in rounds ends at rest
+pub at_rest : (script : ScriptData) (run : RunData) (is : IsRound script run) → Resting (setting_of script) (client_puts script run.clients) is.last
+at_rest script run is =
     let setting : Setting = setting_of script in
     let total : ℕ → List QueuePut = client_puts script run.clients in
-    let rest = rounds_keep setting (Resting setting total) (kept_by_rounds setting total) is.count (start script run.clients) is.last is.rounds (resting_at_start script run.clients) in
-    subst (AreEdges script) (sym is.told) (edges_at_end script run.clients is.last rest is.over)
+    rounds_keep setting (Resting setting total) (kept_by_rounds setting total) is.count (start script run.clients) is.last is.rounds (resting_at_start script run.clients)
+
+pub whole_edges : RoundsAreWhole
+whole_edges script run is = subst (AreEdges script) (sym is.told) (edges_at_end script run.clients is.last (at_rest script run is) is.over)
+
+pub shaped : RoundsAreShaped
+shaped script run is =
+    let world = (at_rest script run is).running.world in
+    record {
+      publishers = ap (λ (r : RunData). length r.publishers) is.told ∙ world.publishers_len ∙ sections_len 0 script.publishers;
+      queues = ap (λ (r : RunData). length r.queues) is.told ∙ world.queues_len;
+      moments = is.moments;
+    }
+
+pub calls_told : RoundsTellCalls
+calls_told script run is = subst (AreCalls script) (sym is.told) (record { calls = refl; images = refl })

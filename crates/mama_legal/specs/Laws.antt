@@ -1,9 +1,23 @@
 -- What the laws of this crate say.
+use Rattle.std.specs.Prelude.{◌≡◌}
 use Rattle.mama_script.specs.Script.{ScriptData}
 use Rattle.mama_record.specs.RunData.{RunData}
 use Rattle.mama_rounds.specs.Round.{IsRound}
 use Rattle.mama_legal.specs.Edges.{AreEdges}
+use Rattle.mama_legal.specs.Calls.{IsShaped, AreCalls}
 
 -- in the record of a run in rounds every edge is whole
 abbrev pub RoundsAreWhole : Type 0
 RoundsAreWhole = (script : ScriptData) (run : RunData) → IsRound script run → AreEdges script run
+
+-- it has the journals and the moments that the script asks for
+abbrev pub RoundsAreShaped : Type 0
+RoundsAreShaped = (script : ScriptData) (run : RunData) → IsRound script run → IsShaped script run
+
+-- and the callbacks and images are those of the journals
+abbrev pub RoundsTellCalls : Type 0
+RoundsTellCalls = (script : ScriptData) (run : RunData) → IsRound script run → AreCalls script run
+
+-- a script and the moments that its clients read have one record
+abbrev pub RoundsGiveOneRecord : Type 0
+RoundsGiveOneRecord = (script : ScriptData) (run other : RunData) → IsRound script run → IsRound script other → run.clients ≡ other.clients → run ≡ other

@@ -4,4 +4,4 @@
 
 mod laws;
 
-pub use laws::rounds_are_whole;
+pub use laws::{one_record, rounds_are_shaped, rounds_are_whole, rounds_tell_calls};
