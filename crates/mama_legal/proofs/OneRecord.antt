@@ -108,12 +108,9 @@ still_rounds setting n zero s a b done ia ib =
     one_rounds setting n s b a (subst (λ (m : ℕ). AreRounds setting m s b) same ib) ia
 still_rounds setting n (suc k) s a b done ia ib =
     let same : suc k + n ≡ suc (k + n) = omega arith in
-    last (subst (λ (m : ℕ). AreRounds setting m s b) same ib)
-  where
-    last : AreRounds setting (suc (k + n)) s b → b ≡ a
-    last is =
-        let before : is.0 ≡ a = still_rounds setting n k s a is.0 done ia is.1 in
-        still_round setting a b done (subst (λ (m : Stage). IsOneRound setting m b) before is.2)
+    let is : AreRounds setting (suc (k + n)) s b = subst (λ (m : ℕ). AreRounds setting m s b) same ib in
+    let before : is.0 ≡ a = still_rounds setting n k s a is.0 done ia is.1 in
+    still_round setting a b done (subst (λ (m : Stage). IsOneRound setting m b) before is.2)
 
 same_last : (setting : Setting) (n m : ℕ) (s a b : Stage) → Done a → Done b → AreRounds setting n s a → AreRounds setting m s b → a ≡ b
 same_last setting n m s a b da db ia ib = ⊎_elim
