@@ -4,3 +4,4 @@ pub mod Worlds
 pub mod Stages
 pub mod Whole
 pub mod OneRecord
+pub mod Endings

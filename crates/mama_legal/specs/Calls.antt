@@ -9,7 +9,7 @@ use Rattle.mama_rounds.specs.Round.{setting_of, object_calls, last_image}
 
 -- A record has a journal of each publisher and queue of the script, and the moments of each client, who read one for
 -- each of its lines that read the clock.
-pub record IsShaped (script : ScriptData) (run : RunData) : Type 0 where
+pub record IsShapedFor (script : ScriptData) (run : RunData) : Type 0 where
   pub publishers : length run.publishers ≡ length script.publishers
   pub queues : length run.queues ≡ queues_of script.shape
   pub moments : map length run.clients ≡ map clock_lines script.clients

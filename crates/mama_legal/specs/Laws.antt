@@ -4,7 +4,7 @@ use Rattle.mama_script.specs.Script.{ScriptData}
 use Rattle.mama_record.specs.RunData.{RunData}
 use Rattle.mama_rounds.specs.Round.{IsRound}
 use Rattle.mama_legal.specs.Edges.{AreEdges}
-use Rattle.mama_legal.specs.Calls.{IsShaped, AreCalls}
+use Rattle.mama_legal.specs.Calls.{IsShapedFor, AreCalls}
 
 -- in the record of a run in rounds every edge is whole
 abbrev pub RoundsAreWhole : Type 0
@@ -12,7 +12,7 @@ RoundsAreWhole = (script : ScriptData) (run : RunData) → IsRound script run �
 
 -- it has the journals and the moments that the script asks for
 abbrev pub RoundsAreShaped : Type 0
-RoundsAreShaped = (script : ScriptData) (run : RunData) → IsRound script run → IsShaped script run
+RoundsAreShaped = (script : ScriptData) (run : RunData) → IsRound script run → IsShapedFor script run
 
 -- and the callbacks and images are those of the journals
 abbrev pub RoundsTellCalls : Type 0
