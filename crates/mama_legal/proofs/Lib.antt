@@ -5,3 +5,5 @@ pub mod Stages
 pub mod Whole
 pub mod OneRecord
 pub mod Endings
+pub mod Heard
+pub mod Entries

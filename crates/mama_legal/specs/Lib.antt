@@ -1,3 +1,4 @@
 pub mod Edges
+pub mod Lines
 pub mod Calls
 pub mod Laws
