@@ -182,7 +182,7 @@ calm_cond n true xs ys h g = h
 calm_cond n false xs ys h g = g
 
 -- no answer has Settle or Fin in it
-calm_answer : (n : ℕ) (shape : Shape) (before : List BridgeEvent) (sofar : List BridgePut) (e : BridgeEvent) → list_any is_ending (part n (answer shape before sofar e)) ≡ false
+pub calm_answer : (n : ℕ) (shape : Shape) (before : List BridgeEvent) (sofar : List BridgePut) (e : BridgeEvent) → list_any is_ending (part n (answer shape before sofar e)) ≡ false
 calm_answer n shape before sofar (joins s terms tag) = calm_cond n (list_any (joins_sub s) before) [] _ refl (calm_image n shape s terms.kind terms.topic)
 calm_answer n shape before sofar (leaves s) = none_calm _ (part_cond n (is_live shape s before) (ended shape before sofar s) (part_ended n shape before sofar s))
 calm_answer n shape before sofar (opens i terms tag) = calm_cond n (list_any (opens_inbox i) before) [] _ refl refl
@@ -232,7 +232,7 @@ late_answer n shape before sofar no_event settling other = refl
 
 -- ---- one event more
 
-part_reaction : (n : ℕ) (shape : Shape) (before : List BridgeEvent) (sofar : List BridgePut) (e : BridgeEvent) → n < publishers_of shape
+pub part_reaction : (n : ℕ) (shape : Shape) (before : List BridgeEvent) (sofar : List BridgePut) (e : BridgeEvent) → n < publishers_of shape
     → part n (bridge_reaction shape before sofar e)
     ≡ part n (answer shape before sofar e) ++ (cond (turns (is_settling shape) before e) (p.Settle ∷ []) [] ++ cond (turns (has_ending shape) before e) (p.Fin ∷ []) [])
 part_reaction n shape before sofar e small =

@@ -7,3 +7,5 @@ pub mod OneRecord
 pub mod Endings
 pub mod Heard
 pub mod Entries
+pub mod Sends
+pub mod AllSent

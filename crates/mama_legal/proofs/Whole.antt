@@ -32,12 +32,12 @@ use Rattle.mama_legal.proofs.Worlds.{Holds, bridge_turn_keeps, timers_turn_keeps
 use Rattle.mama_legal.proofs.Stages.{IsKept, drain_keeps, IsKeptByRounds, rounds_keep}
 
 -- an entry that a publisher makes of its own accord
-abbrev is_own : PublisherEntry → Bool
+abbrev pub is_own : PublisherEntry → Bool
 is_own Send = true
 is_own Done = true
 is_own (Took n) = false
 
-abbrev are_own : List (List PublisherEntry) → Bool
+abbrev pub are_own : List (List PublisherEntry) → Bool
 are_own steps = list_all (list_all is_own) steps
 
 -- a run between two steps: what the clients put so far and have still to put, and what holds of every lane
@@ -58,7 +58,7 @@ kept setting done = record {
   queue = queue_turn_keeps setting done;
 }
 
-drained : (setting : Setting) (total : ℕ → List QueuePut) (s after : Stage) → Running setting total s → IsStageDrained setting s after → Running setting total after
+pub drained : (setting : Setting) (total : ℕ → List QueuePut) (s after : Stage) → Running setting total s → IsStageDrained setting s after → Running setting total after
 drained setting total s after r is = record {
   done = r.done;
   steps = λ c. ap (λ (steps : List (List (List QueuePut))). r.done c ++ all_steps (slice_index_or steps c [])) is.clients ∙ r.steps c;
@@ -69,7 +69,7 @@ drained setting total s after r is = record {
 
 -- ---- a client's step
 
-client_runs : (setting : Setting) (total : ℕ → List QueuePut) (c : ℕ) (s : Stage) → c < clients_of setting.shape → Running setting total s → Running setting total (client_step setting c s)
+pub client_runs : (setting : Setting) (total : ℕ → List QueuePut) (c : ℕ) (s : Stage) → c < clients_of setting.shape → Running setting total s → Running setting total (client_step setting c s)
 client_runs setting total c s small r = go (slice_index_or s.clients c []) refl
   where
     go : (left : List (List QueuePut)) → slice_index_or s.clients c [] ≡ left → Running setting total (client_stepped setting c s left)
@@ -110,7 +110,7 @@ entries_keep setting done p w (e ∷ es) small inside own h =
     let parts = and_parts (is_own e) (list_all is_own es) own in
     entries_keep setting done p (publisher_did setting p w e) es small inside parts.1 (own_keeps setting done p w e small inside (takes_none e parts.0) h)
 
-publisher_runs : (setting : Setting) (total : ℕ → List QueuePut) (p : ℕ) (s : Stage) → p < publishers_of setting.shape → Running setting total s → Running setting total (publisher_step setting p s)
+pub publisher_runs : (setting : Setting) (total : ℕ → List QueuePut) (p : ℕ) (s : Stage) → p < publishers_of setting.shape → Running setting total s → Running setting total (publisher_step setting p s)
 publisher_runs setting total p s small r = go (slice_index_or s.publishers p []) refl
   where
     go : (left : List (List PublisherEntry)) → slice_index_or s.publishers p [] ≡ left → Running setting total (publisher_stepped setting p s left)
@@ -132,7 +132,7 @@ publisher_runs setting total p s small r = go (slice_index_or s.publishers p [])
 
 -- ---- the start
 
-nothing_at : {X Y : Type 0} (xs : List X) (k : ℕ) → slice_index_or (map (λ (x : X). let none : List Y = [] in none) xs) k [] ≡ []
+pub nothing_at : {X Y : Type 0} (xs : List X) (k : ℕ) → slice_index_or (map (λ (x : X). let none : List Y = [] in none) xs) k [] ≡ []
 nothing_at [] k = refl
 nothing_at (x ∷ xs) zero = refl
 nothing_at (x ∷ xs) (suc k) = nothing_at xs k
@@ -153,7 +153,7 @@ own_all [] p = refl
 own_all (s ∷ sections) zero = own_steps s.lines
 own_all (s ∷ sections) (suc p) = own_all sections p
 
-sections_len : (n : ℕ) (sections : List PublisherPart) → length (publishers_from n sections) ≡ length sections
+pub sections_len : (n : ℕ) (sections : List PublisherPart) → length (publishers_from n sections) ≡ length sections
 sections_len n [] = refl
 sections_len n (s ∷ sections) = ap suc (sections_len (suc n) sections)
 
@@ -203,7 +203,7 @@ kept_by_rounds setting total = record {
   publisher = λ p s after small r is. record { running = drained setting total (publisher_step setting p s) after (publisher_runs setting total p s small r.running) is; quiet = is.world.quiet };
 }
 
-resting_at_start : (script : ScriptData) (moments : List (List ℕ)) → Resting (setting_of script) (client_puts script moments) (start script moments)
+pub resting_at_start : (script : ScriptData) (moments : List (List ℕ)) → Resting (setting_of script) (client_puts script moments) (start script moments)
 resting_at_start script moments = record {
   running = record {
     done = λ c. [];

@@ -1,9 +1,11 @@
 -- What the laws of this crate say.
 use Rattle.std.specs.Prelude.{◌≡◌}
 use Rattle.mama_script.specs.Script.{ScriptData}
+use Rattle.mama_script.specs.Tree.{IsShaped}
 use Rattle.mama_record.specs.RunData.{RunData}
 use Rattle.mama_rounds.specs.Round.{IsRound}
 use Rattle.mama_legal.specs.Edges.{AreEdges}
+use Rattle.mama_legal.specs.Lines.{AreLines}
 use Rattle.mama_legal.specs.Calls.{IsShapedFor, AreCalls}
 
 -- in the record of a run in rounds every edge is whole
@@ -21,3 +23,8 @@ RoundsTellCalls = (script : ScriptData) (run : RunData) → IsRound script run �
 -- a script and the moments that its clients read have one record
 abbrev pub RoundsGiveOneRecord : Type 0
 RoundsGiveOneRecord = (script : ScriptData) (run other : RunData) → IsRound script run → IsRound script other → run.clients ≡ other.clients → run ≡ other
+
+-- where the shape of the script counts what the script has, as it does of every script that a text spells, each client
+-- and each publisher has done all its lines
+abbrev pub RoundsDoAllLines : Type 0
+RoundsDoAllLines = (script : ScriptData) (run : RunData) → IsShaped script → IsRound script run → AreLines script run

@@ -1,4 +1,4 @@
-ghost use Rattle.mama_legal.specs.Laws.{RoundsAreWhole, RoundsAreShaped, RoundsTellCalls, RoundsGiveOneRecord};
+ghost use Rattle.mama_legal.specs.Laws.{RoundsAreWhole, RoundsAreShaped, RoundsTellCalls, RoundsGiveOneRecord, RoundsDoAllLines};
 
 /// A law: in the record of a run in rounds every edge is whole: what each actor took by each port is all that was put
 /// there, in order.
@@ -20,4 +20,10 @@ pub fn rounds_tell_calls()
 /// A law: a script and the moments that its clients read have one record, however many rounds and passes are counted.
 pub fn one_record()
     ensures { RoundsGiveOneRecord }
+{}
+
+/// A law: each client read a moment for each of its lines that read the clock, and the journal of each publisher has
+/// all its sends, one `Done` after the last of them, and `Settle` and `Fin` at its end.
+pub fn rounds_do_all_lines()
+    ensures { RoundsDoAllLines }
 {}

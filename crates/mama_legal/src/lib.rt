@@ -4,4 +4,6 @@
 
 mod laws;
 
-pub use laws::{one_record, rounds_are_shaped, rounds_are_whole, rounds_tell_calls};
+pub use laws::{
+    one_record, rounds_are_shaped, rounds_are_whole, rounds_do_all_lines, rounds_tell_calls,
+};
