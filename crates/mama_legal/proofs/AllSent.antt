@@ -53,7 +53,7 @@ sending_at_start script moments p small =
     }
 
 -- how many publishers there are
-count_publishers : (script : ScriptData) → IsShaped script → publishers_of script.shape ≡ length script.publishers
+pub count_publishers : (script : ScriptData) → IsShaped script → publishers_of script.shape ≡ length script.publishers
 count_publishers script shaped = ap length shaped.publishers ∙ length-map script.publishers topic_of_part
 
 lines_at : ScriptData → ℕ → List SendLine
@@ -81,18 +81,18 @@ sent script run p shaped is small =
 
 -- ---- what each client said last
 
-record AsSteps (queues : ℕ) (steps : List (List QueuePut)) : Type 0 where
-  number : ℕ
-  standing : Standing
-  lines : List ClientLine
-  same : steps ≡ steps_from queues number standing lines
+pub record AsSteps (queues : ℕ) (steps : List (List QueuePut)) : Type 0 where
+  pub number : ℕ
+  pub standing : Standing
+  pub lines : List ClientLine
+  pub same : steps ≡ steps_from queues number standing lines
 
-steps_at : (queues n : ℕ) (moments : List (List ℕ)) (clients : List (List ClientLine)) (c : ℕ) → c < length clients → AsSteps queues (slice_index_or (all_client_steps queues n moments clients) c [])
+pub steps_at : (queues n : ℕ) (moments : List (List ℕ)) (clients : List (List ClientLine)) (c : ℕ) → c < length clients → AsSteps queues (slice_index_or (all_client_steps queues n moments clients) c [])
 steps_at queues n moments [] c small = absurd (omega arith)
 steps_at queues n moments (lines ∷ rest) zero small = record { number = n; standing = at_first (slice_index_or moments n []); lines = lines; same = refl }
 steps_at queues n moments (lines ∷ rest) (suc c) small = steps_at queues (suc n) moments rest c (omega arith)
 
-said : (script : ScriptData) (run : RunData) → IsShaped script → AreEdges script run → (c : ℕ) → c < clients_of script.shape → SaidLast is_client_done (by_port c run.bridge)
+pub said : (script : ScriptData) (run : RunData) → IsShaped script → AreEdges script run → (c : ℕ) → c < clients_of script.shape → SaidLast is_client_done (by_port c run.bridge)
 said script run shaped edges c small =
     let steps = steps_at (queues_of script.shape) 0 run.clients script.clients c (subst (λ (n : ℕ). c < n) shaped.clients small) in
     subst (SaidLast is_client_done) (sym (edges.bridge c ∙ ap (put_on_bridge (setting_of script) (client_puts script run.clients) run.publishers run.queues) (putter_client script.shape c small)))
@@ -100,7 +100,7 @@ said script run shaped edges c small =
 
 -- ---- the ending comes
 
-below_from : (n : ℕ) (f : ℕ → Bool) → ((k : ℕ) → k < n → f k ≡ true) → all_below n f ≡ true
+pub below_from : (n : ℕ) (f : ℕ → Bool) → ((k : ℕ) → k < n → f k ≡ true) → all_below n f ≡ true
 below_from zero f each = refl
 below_from (suc n) f each = and_from (all_below n f) (f n) (below_from n f (λ k small. each k (omega arith))) (each n (omega arith))
 
@@ -154,23 +154,28 @@ settle_taken (Took Fin ∷ es) = settle_taken es
 settle_taken (Took (Want s k) ∷ es) = settle_taken es
 settle_taken (Took (Ask i fids) ∷ es) = settle_taken es
 
-pub ending_came : (script : ScriptData) (run : RunData) → IsShaped script → IsRound script run → has_ending script.shape (heard script.shape run.bridge) ≡ true
-ending_came script run shaped is =
+-- each publisher has said that it has settled
+pub publisher_settled : (script : ScriptData) (run : RunData) → IsShaped script → IsRound script run → (p : ℕ) → p < publishers_of script.shape
+    → list_any is_settled (by_port (clients_of script.shape + p) run.bridge) ≡ true
+publisher_settled script run shaped is p small =
     let shape : Shape = script.shape in
     let edges = whole_edges script run is in
     let es : List BridgeEvent = heard shape run.bridge in
-    let settling : is_settling shape es ≡ true = settling_came script run shaped is in
-    and_from (is_settling shape es) (all_below (publishers_of shape) (λ p. list_any (settles p) es)) settling
-    (below_from (publishers_of shape) (λ p. list_any (settles p) es) (λ p small.
     let journal : List PublisherEntry = slice_index_or run.publishers p [] in
     let told = told_end script run shaped edges p small in
     let taken : taken_by journal ≡ told.front ++ tail true (has_ending shape es) =
-    edges.publishers p (subst (λ (n : ℕ). p < n) (count_publishers script shaped) small) ∙ told.whole ∙ ap (λ (b : Bool). told.front ++ tail b (has_ending shape es)) settling in
+    edges.publishers p (subst (λ (n : ℕ). p < n) (count_publishers script shaped) small) ∙ told.whole ∙ ap (λ (b : Bool). told.front ++ tail b (has_ending shape es)) (settling_came script run shaped is) in
     let settles : list_any takes_settle journal ≡ true =
     sym (settle_taken journal) ∙ ap (list_any is_settle) taken ∙ list_any-append is_settle told.front (tail true (has_ending shape es))
     ∙ or_right (list_any is_settle told.front) (list_any is_settle (tail true (has_ending shape es))) refl in
-    hears_settled shape p run.bridge small (ap (list_any is_settled) (put_by_publisher script run edges p small)
-    ∙ says_settled (slice_index_or (setting_of script).publishers p no_section) journal settles)))
+    ap (list_any is_settled) (put_by_publisher script run edges p small) ∙ says_settled (slice_index_or (setting_of script).publishers p no_section) journal settles
+
+pub ending_came : (script : ScriptData) (run : RunData) → IsShaped script → IsRound script run → has_ending script.shape (heard script.shape run.bridge) ≡ true
+ending_came script run shaped is =
+    let es : List BridgeEvent = heard script.shape run.bridge in
+    and_from (is_settling script.shape es) (all_below (publishers_of script.shape) (λ p. list_any (settles p) es)) (settling_came script run shaped is)
+    (below_from (publishers_of script.shape) (λ p. list_any (settles p) es)
+    (λ p small. hears_settled script.shape p run.bridge small (publisher_settled script run shaped is p small)))
 
 pub lines_done : RoundsDoAllLines
 lines_done script run shaped is =

@@ -9,3 +9,5 @@ pub mod Heard
 pub mod Entries
 pub mod Sends
 pub mod AllSent
+pub mod Turns
+pub mod LastEvents

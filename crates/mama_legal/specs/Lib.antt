@@ -1,4 +1,5 @@
 pub mod Edges
 pub mod Lines
+pub mod Last
 pub mod Calls
 pub mod Laws

@@ -1,4 +1,4 @@
-ghost use Rattle.mama_legal.specs.Laws.{RoundsAreWhole, RoundsAreShaped, RoundsTellCalls, RoundsGiveOneRecord, RoundsDoAllLines};
+ghost use Rattle.mama_legal.specs.Laws.{RoundsAreWhole, RoundsAreShaped, RoundsTellCalls, RoundsGiveOneRecord, RoundsDoAllLines, RoundsHaveLast};
 
 /// A law: in the record of a run in rounds every edge is whole: what each actor took by each port is all that was put
 /// there, in order.
@@ -26,4 +26,9 @@ pub fn one_record()
 /// all its sends, one `Done` after the last of them, and `Settle` and `Fin` at its end.
 pub fn rounds_do_all_lines()
     ensures { RoundsDoAllLines }
+{}
+
+/// A law: by every port of every lane the last event was taken that the port puts, where the script has a client.
+pub fn rounds_have_last()
+    ensures { RoundsHaveLast }
 {}
