@@ -1,0 +1,13 @@
+pub mod Elements
+pub mod Carried
+pub mod Linked
+pub mod Bridging
+pub mod Timing
+pub mod Serving
+pub mod Sending
+pub mod Pinned
+pub mod Lines
+pub mod Edged
+pub mod Images
+pub mod Telling
+pub mod Gapless

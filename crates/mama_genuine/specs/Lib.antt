@@ -1,0 +1,4 @@
+pub mod Sent
+pub mod Records
+pub mod Told
+pub mod Gaps
