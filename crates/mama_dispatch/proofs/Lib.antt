@@ -1,0 +1,10 @@
+pub mod DeedLemmas
+pub mod SeatLemmas
+pub mod PlaceLemmas
+pub mod CallBound
+pub mod CallLemmas
+pub mod Ids
+pub mod ArmLemmas
+pub mod BirthLemmas
+pub mod ServeLemmas
+pub mod JournalLaws

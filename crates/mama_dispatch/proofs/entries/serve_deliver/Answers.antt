@@ -1,0 +1,5 @@
+use Rattle.mama_dispatch.proofs.ServeLemmas.{serves_delivered}
+use Rattle.mama_dispatch.proofs.entries.serve_deliver.Goals as goal
+
+pub returns-in-Ok-clause-ok : goal.returns-in-Ok-clause-ok
+returns-in-Ok-clause-ok g c = serves_delivered c.args.slot c.args.sub c.args.msg c.args.seats.now c.deliver.new.self _ _ c.in-Ok.count c.in-Ok.ensures.ok c.requires.here c.requires.unmuted

@@ -1,0 +1,9 @@
+use Rattle.std.proofs.Common.{refl, sym, ◌∙◌}
+use Rattle.mama_event.specs.declared.ids.ObjectId.TheVariants.{Timer, Inbox}
+use Rattle.mama_event.specs.declared.callback.Callback.TheVariants as on
+use Rattle.mama_event.specs.declared.to_queue.QueueNote.TheVariants as q
+use Rattle.mama_dispatch.proofs.ServeLemmas.{serves_undelivered, serves_untold}
+use Rattle.mama_dispatch.proofs.entries.take_deliver.Goals as goal
+
+pub returns-then-is_muted-clause-ok : goal.returns-then-is_muted-clause-ok
+returns-then-is_muted-clause-ok g c = serves_undelivered c.args.slot c.args.sub c.args.msg c.args.seats.now _ c.requires (sym c.is_muted.ensures ∙ c.if-is_muted.true)

@@ -1,0 +1,9 @@
+use Rattle.std.proofs.Common.{refl, sym, ◌∙◌}
+use Rattle.mama_event.specs.declared.ids.ObjectId.TheVariants.{Timer, Inbox}
+use Rattle.mama_event.specs.declared.callback.Callback.TheVariants as on
+use Rattle.mama_event.specs.declared.to_queue.QueueNote.TheVariants as q
+use Rattle.mama_dispatch.proofs.ServeLemmas.{serves_undelivered, serves_untold}
+use Rattle.mama_dispatch.proofs.entries.take_tick.Goals as goal
+
+pub returns-then-is_muted-clause-ok : goal.returns-then-is_muted-clause-ok
+returns-then-is_muted-clause-ok g c = serves_untold (q.Tick c.args.slot c.args.timer c.args.moment) (Timer c.args.timer) (on.Tick c.args.moment) c.args.seats.now _ (record { middle = record { none = refl; lives = λ x live. refl }; serves = λ orders journal ds. refl; plain = refl }) c.requires (sym c.is_muted.ensures ∙ c.if-is_muted.true)

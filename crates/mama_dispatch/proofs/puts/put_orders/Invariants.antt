@@ -1,0 +1,10 @@
+use Rattle.std.proofs.Common.{◌≡◌, ◌+◌, ◌++◌, map, length, take}
+use Rattle.mama_queue_rules.specs.Queue.{order_put}
+use Rattle.mama_dispatch.specs.Turns.{put_note}
+use Rattle.mama_dispatch.proofs.puts.put_orders.Given as goal
+
+abbrev pub invariant-loop-order : goal.invariant-loop-order
+invariant-loop-order g l = record {
+  puts : map (put_note g.M.Tagged.tagged) l.out.items ≡ map (put_note g.M.Tagged.tagged) l.initial.out.items ++ map order_put (take l.order-index l.order-items);
+  spare : l.out.spare + l.order-index ≡ l.initial.out.spare;
+}

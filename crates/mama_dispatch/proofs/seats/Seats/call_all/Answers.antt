@@ -1,0 +1,45 @@
+use Rattle.std.specs.Prelude.{map, length, drop, Option, Some, None, is_some}
+use Rattle.std.specs.List.{list_all}
+use Rattle.std.proofs.Common.{◌≡◌, ℕ, ◌+◌, ◌*◌, ◌<◌, ◌≤◌, Bool, true, false, List, [], ◌∷◌, ◌++◌, take, refl, ap, sym, ◌∙◌, subst, arith}
+use Rattle.std.proofs.lemmas.Bool.{and_parts}
+use Rattle.std.proofs.lemmas.List.{take_more, take_all, drop_more}
+use Rattle.mama_event.specs.declared.ids.ObjectId.{ObjectId}
+use Rattle.mama_event.specs.declared.callback.Callback.{Callback}
+use Rattle.mama_event.specs.declared.order.Order.{Order}
+use Rattle.mama_listener.specs.Listener.{ListenerData}
+use Rattle.mama_queue_rules.specs.Queue.{Deed, QueuePut, order_put, made}
+use Rattle.mama_dispatch.specs.Journals.{Born}
+use Rattle.mama_dispatch.specs.Seats.{SeatData, listener_in, room_in, at, called_with, muted_by_all, Fits}
+use Rattle.mama_dispatch.specs.Seating.{is_live, is_plain, Seated, CallsMade}
+use Rattle.mama_dispatch.specs.Turns.{put_note}
+use Rattle.mama_dispatch.proofs.PlaceLemmas.{heard_is, heard_same}
+use Rattle.mama_dispatch.proofs.CallLemmas.{once_fits, once_made, none_made, nothing_made, calls_joined, room_after, next_of, drop_drop, calls_same}
+use Rattle.mama_dispatch.proofs.seats.Seats.call_all.Goals as goal
+
+pub loop-i-preserved : goal.loop-i-preserved
+loop-i-preserved g c =
+    let inv = c.loop-i.invariant in
+    let i : ℕ = c.loop-i._i in
+    let all : List Callback = c.args.pending.now in
+    let within : i < length all = omega (arith, c.len-i-end.ensures) in
+    record {
+      rest = c.call_next-count.ensures.rest ∙ ap (drop 1) inv.rest ∙ drop_drop i all;
+      here = c.call_next-count.ensures.here;
+      room = c.call_next-count.ensures.room;
+      spare = c.call_next-count.ensures.spare;
+      plain = c.call_next-count.ensures.plain;
+      few = omega (arith, c.call_next-count.ensures.few, inv.few);
+      fits = λ orders fits. inv.fits orders (c.call_next-count.ensures.fits orders fits);
+      made = λ orders bs ds fits seated.
+          let first = inv.made orders bs ds (c.call_next-count.ensures.fits orders fits) seated in
+          let head = next_of i all within in
+          calls_same orders bs ds c.args.object.now (take i all ++ head.0 ∷ []) (take (i + 1) all) c.call_next-count.new.self _ _ (c.loop-i.count + c.call_next-count.result) (sym head.1)
+          (calls_joined orders bs ds c.args.object.now (take i all) head.0 c.loop-i.self c.call_next-count.new.self _ _ _ c.loop-i.count c.call_next-count.result first
+          (c.call_next-count.ensures.made orders bs (ds ++ made orders c.args.object.now ds (take i all)) head.0 (inv.rest ∙ head.2 ∙ ap (λ (cs : List Callback). head.0 ∷ cs) (sym (c.call_next-count.ensures.rest ∙ ap (drop 1) (inv.rest ∙ head.2)))) fits first.seated));
+    }
+
+pub returns-clause-made : goal.returns-clause-made
+returns-clause-made g c = λ orders bs ds fits seated.
+    calls_same orders bs ds c.args.object.now (take c.loop-i._i c.args.pending.now) c.args.pending.now c.loop-i.self _ _ c.loop-i.count
+    (take_all c.loop-i._i c.args.pending.now (omega (arith, c.len-i-end.ensures, c.loop-i-test.false)))
+    (c.loop-i.invariant.made orders bs ds fits seated)

@@ -1,0 +1,31 @@
+use Rattle.std.specs.Prelude.{map, length, drop, Option, Some, None, is_some}
+use Rattle.std.specs.List.{list_all}
+use Rattle.std.proofs.Common.{◌≡◌, ℕ, ◌+◌, ◌*◌, ◌<◌, ◌≤◌, Bool, true, false, List, [], ◌∷◌, ◌++◌, take, refl, ap, sym, ◌∙◌, subst, arith}
+use Rattle.std.proofs.lemmas.Bool.{and_parts}
+use Rattle.std.proofs.lemmas.List.{take_more, take_all, drop_more}
+use Rattle.mama_event.specs.declared.ids.ObjectId.{ObjectId}
+use Rattle.mama_event.specs.declared.callback.Callback.{Callback}
+use Rattle.mama_event.specs.declared.order.Order.{Order}
+use Rattle.mama_listener.specs.Listener.{ListenerData}
+use Rattle.mama_queue_rules.specs.Queue.{Deed, QueuePut, order_put, made}
+use Rattle.mama_dispatch.specs.Journals.{Born}
+use Rattle.mama_dispatch.specs.Seats.{SeatData, listener_in, room_in, at, called_with, muted_by_all, Fits}
+use Rattle.mama_dispatch.specs.Seating.{is_live, is_plain, Seated, CallsMade}
+use Rattle.mama_dispatch.specs.Turns.{put_note}
+use Rattle.mama_dispatch.proofs.PlaceLemmas.{heard_is, heard_same}
+use Rattle.mama_dispatch.proofs.CallLemmas.{once_fits, once_made, none_made, nothing_made, calls_joined, room_after}
+use Rattle.mama_dispatch.proofs.seats.Seats.call_unmuted.Goals as goal
+
+pub returns-then-is_muted-clause-made : goal.returns-then-is_muted-clause-made
+returns-then-is_muted-clause-made g c = λ orders bs ds fits seated.
+    none_made orders bs ds c.args.object.now c.args.call c.args.self.now _ c.requires.here c.requires.plain (sym c.is_muted.ensures ∙ c.if-is_muted.true) seated
+
+pub returns-clause-fits : goal.returns-clause-fits
+returns-clause-fits g c = λ orders fits. once_fits c.args.object.now c.args.call c.args.self.now c.call_put.new.self _ _ c.call_put.ensures.once orders fits
+
+pub returns-clause-made : goal.returns-clause-made
+returns-clause-made g c = λ orders bs ds fits seated.
+    once_made orders bs ds c.args.object.now c.args.call c.args.self.now c.call_put.new.self _ _ c.call_put.ensures.once c.requires.here c.requires.plain (sym c.is_muted.ensures ∙ c.if-is_muted.false) fits seated
+
+pub returns-clause-here : goal.returns-clause-here
+returns-clause-here g c = ap is_some c.call_put.ensures.once.here

@@ -1,0 +1,37 @@
+use Rattle.std.specs.List.{position, list_any}
+use Rattle.std.proofs.Common.{rules, ◌≡◌, Bool, List, refl, ap, sym, ◌∙◌, map}
+use Rattle.mama_event.specs.contracts.ids.ObjectIdPartialEq.TheImpl.{eq-value}
+use Rattle.mama_event.specs.declared.ids.ObjectId.{ObjectId}
+use Rattle.mama_event.specs.declared.ids.ObjectId.TheVariants.{Sub, Timer, Inbox}
+use Rattle.mama_event.specs.Object.{same_object}
+use Rattle.mama_dispatch.specs.Seats.{SeatData}
+use Rattle.mama_dispatch.proofs.PlaceLemmas.{position_same, list_any_same, place_some, place_none}
+use Rattle.mama_dispatch.proofs.seats.Seats.place.Goals as goal
+
+-- ids are compared by kind and numbers
+same : (a b : ObjectId) → eq-value.it a b ≡ same_object a b
+same (Sub a) (Sub b) = refl
+same (Sub a) (Timer b) = refl
+same (Sub a) (Inbox b) = refl
+same (Timer a) (Sub b) = refl
+same (Timer a) (Timer b) = refl
+same (Timer a) (Inbox b) = refl
+same (Inbox a) (Sub b) = refl
+same (Inbox a) (Timer b) = refl
+same (Inbox a) (Inbox b) = refl
+
+pub returns-clause-some : goal.returns-clause-some
+returns-clause-some g c =
+    let o = c.args.object.now in
+    place_some o c.get_index_of.result c.args.self.now
+    (c.get_index_of.ensures.index ∙ position_same (eq-value.it o) (same_object o) _ (same o)
+    ∙ ap (position (same_object o)) c.self.invariant.keys
+    ∙ ap (λ (ss : List SeatData). position (same_object o) (map (λ (s : SeatData). s.object) ss)) c.self.view_is)
+
+pub returns-clause-none : goal.returns-clause-none
+returns-clause-none g c =
+    let o = c.args.object.now in
+    place_none o c.get_index_of.result c.args.self.now
+    (c.get_index_of.ensures.found ∙ list_any_same (eq-value.it o) (same_object o) _ (same o)
+    ∙ ap (list_any (same_object o)) c.self.invariant.keys
+    ∙ ap (λ (ss : List SeatData). list_any (same_object o) (map (λ (s : SeatData). s.object) ss)) c.self.view_is)

@@ -1,0 +1,33 @@
+use Rattle.std.specs.Prelude.{map, length, Option, Some, None, is_some, IfSome}
+use Rattle.std.specs.Option.{option_and_then, option_map_or, option_map}
+use Rattle.std.proofs.Common.{◌≡◌, ℕ, ◌+◌, ◌-◌, ◌<◌, ◌≤◌, List, ◌++◌, true, false, refl, ap, sym, ◌∙◌, subst, arith}
+use Rattle.std.proofs.lemmas.Bool.{false≢true}
+use Rattle.std.proofs.lemmas.Result.{on_ok_weaker}
+use Rattle.std.specs.Vec.{vec_len, vec_capacity}
+use Rattle.mama_dq.specs.Context.{ContextData, new_context}
+use Rattle.mama_event.specs.declared.market.SubKind.TheVariants.{Basic}
+use Rattle.mama_dq.specs.Strategy.{callbacks_of}
+use Rattle.mama_event.specs.declared.market.MarketMsg.{MarketMsg}
+use Rattle.mama_event.specs.declared.callback.Callback.{Callback}
+use Rattle.mama_listener.specs.Listener.{told, ListenerData}
+use Rattle.mama_dispatch.specs.Seats.{SeatData, seat_of, listener_in, room_in, context_in, at, stepped, with_room, with_context}
+use Rattle.mama_dispatch.specs.Rows.{row_data}
+use Rattle.mama_dispatch.proofs.PlaceLemmas.{changed, row_there, none_changed, none_seated, unchanged}
+use Rattle.mama_dispatch.proofs.seats.Seats.reserve.Goals as goal
+
+pub invariant_of-self : goal.invariant_of-self
+invariant_of-self g c = (changed (row_data (told g.L.Tagged.tagged g.L.Listener.calls g.L.Listener.heard g.L.Listener.plan)) c.self.inside.rows.items c.self.inside.places.keys c.in-Some.place c.index_mut.result.now c.reserve_at.new.row c.args.object.now (with_room (vec_capacity c.reserve_at.new.row.calls - vec_len c.reserve_at.new.row.calls)) c.args.self.now (λ x. refl) c.self.view_is c.self.invariant c.in-Some.ensures.some c.index_mut.ensures.value c.reserve_at.ensures.row).kept
+
+pub returns-in-Some-clause-seats : goal.returns-in-Some-clause-seats
+returns-in-Some-clause-seats g c =
+    let change = changed (row_data (told g.L.Tagged.tagged g.L.Listener.calls g.L.Listener.heard g.L.Listener.plan)) c.self.inside.rows.items c.self.inside.places.keys c.in-Some.place c.index_mut.result.now c.reserve_at.new.row c.args.object.now (with_room (vec_capacity c.reserve_at.new.row.calls - vec_len c.reserve_at.new.row.calls)) c.args.self.now (λ x. refl) c.self.view_is c.self.invariant c.in-Some.ensures.some c.index_mut.ensures.value c.reserve_at.ensures.row in
+    change.seats ∙ ap (λ (n : ℕ). map (at c.args.object.now (with_room n)) c.args.self.now) (sym (ap (λ (s : Option SeatData). option_map_or (λ (x : SeatData). x.room) s 0) change.is))
+
+pub returns-in-Some-clause-ok : goal.returns-in-Some-clause-ok
+returns-in-Some-clause-ok g c =
+    let change = changed (row_data (told g.L.Tagged.tagged g.L.Listener.calls g.L.Listener.heard g.L.Listener.plan)) c.self.inside.rows.items c.self.inside.places.keys c.in-Some.place c.index_mut.result.now c.reserve_at.new.row c.args.object.now (with_room (vec_capacity c.reserve_at.new.row.calls - vec_len c.reserve_at.new.row.calls)) c.args.self.now (λ x. refl) c.self.view_is c.self.invariant c.in-Some.ensures.some c.index_mut.ensures.value c.reserve_at.ensures.row in
+    let is = ap (λ (s : Option SeatData). option_map_or (λ (x : SeatData). x.room) s 0) change.is in
+    on_ok_weaker c.reserve_at.result (λ enough. subst (λ (n : ℕ). c.args.more ≤ n) (sym is) enough) c.reserve_at.ensures.ok
+
+pub returns-in-None-clause-seats : goal.returns-in-None-clause-seats
+returns-in-None-clause-seats g c = absurd (false≢true (sym (ap (λ (s : Option SeatData). is_some (option_and_then (λ (x : SeatData). x.listener) s)) (none_seated c.args.object.now c.args.self.now c.in-None.ensures.none)) ∙ c.requires))

@@ -1,0 +1,41 @@
+use Rattle.std.specs.Prelude.{map, length, Option, Some, None, is_some}
+use Rattle.std.specs.List.{list_all}
+use Rattle.std.specs.Option.{option_map_or, option_and_then}
+use Rattle.std.proofs.Common.{◌≡◌, ℕ, ◌+◌, ◌*◌, ◌<◌, ◌≤◌, true, false, List, [], ◌∷◌, ◌++◌, refl, ap, sym, ◌∙◌, subst, arith}
+use Rattle.mama_event.specs.declared.ids.ObjectId.{ObjectId}
+use Rattle.mama_event.specs.declared.ids.ObjectId.TheVariants.{Sub}
+use Rattle.mama_event.specs.declared.callback.Callback.{Callback}
+use Rattle.mama_event.specs.declared.callback.Callback.TheVariants as on
+use Rattle.mama_dq.specs.Context.{ContextData}
+use Rattle.mama_dq.specs.Strategy.{callbacks_of}
+use Rattle.mama_queue_rules.specs.Queue.{handled}
+use Rattle.mama_dispatch.specs.Seats.{SeatData, listener_in, room_in, context_in, at, stepped, is_muted_in, with_room, Fits}
+use Rattle.mama_dispatch.specs.Seating.{is_live, is_plain, Seated}
+use Rattle.mama_dispatch.proofs.CallBound.{calls_plain}
+use Rattle.mama_dispatch.proofs.CallLemmas.{once_fits, once_made, calls_same, calls_after}
+use Rattle.mama_dispatch.specs.Turns.{put_note}
+use Rattle.mama_dispatch.proofs.PlaceLemmas.{on_ok}
+use Rattle.mama_dispatch.proofs.ServeLemmas.{fits_change, seated_room, seated_stepped, listener_room, muted_room, context_room, listener_stepped, room_stepped, same_room, on_err, seat_new}
+use Rattle.mama_dispatch.proofs.seats.Seats.tell.Goals as goal
+
+pub call_put-requires-clause-here : goal.call_put-requires-clause-here
+call_put-requires-clause-here g c =
+    ap is_some (ap (listener_in c.args.object.now) c.reserve-2.ensures.seats ∙ listener_room c.args.object.now _ c.args.self.now) ∙ c.requires.here
+
+pub returns-clause-fits : goal.returns-clause-fits
+returns-clause-fits g c = λ orders fits.
+    fits_change orders c.args.object.now (with_room _) c.args.self.now (λ s. refl) (λ s. refl) (subst (Fits orders) c.reserve-2.ensures.seats
+    (once_fits c.args.object.now c.args.call c.reserve-2.new.self c.call_put.new.self _ _ c.call_put.ensures.once orders fits))
+
+pub returns-clause-made : goal.returns-clause-made
+returns-clause-made g c = λ orders bs ds fits seated.
+    let o : ObjectId = c.args.object.now in
+    calls_after orders bs ds o (c.args.call ∷ []) c.call_put.new.self _ _ _ 1 (ap (map (put_note g.M.Tagged.tagged)) c.reserve.ensures.items)
+    (once_made orders bs ds o c.args.call c.reserve-2.new.self c.call_put.new.self _ _ c.call_put.ensures.once
+    (ap is_some (ap (listener_in o) c.reserve-2.ensures.seats ∙ listener_room o _ c.args.self.now) ∙ c.requires.here)
+    c.requires.plain
+    (ap (is_muted_in o) c.reserve-2.ensures.seats ∙ muted_room o _ c.args.self.now ∙ c.requires.unmuted)
+    fits (subst (Seated (is_live ds) ds bs) (sym c.reserve-2.ensures.seats) (seated_room (is_live ds) ds o _ bs c.args.self.now seated)))
+
+pub returns-then-is_err-2-clause-err : goal.returns-then-is_err-2-clause-err
+returns-then-is_err-2-clause-err g c = ap (map (with_room 0)) c.reserve-2.ensures.seats ∙ same_room c.args.object.now _ c.args.self.now

@@ -1,0 +1,140 @@
+ghost use Rattle.std.specs.Prelude.{◌≡◌, ℕ, ◌*◌, ◌^◌, ◌<◌, ◌≤◌, List, true, false, [], ◌∷◌, ◌++◌, map, is_some, OnOk, OnErr, IfOk, IfErr, IfSome, MatchOption};
+ghost use Rattle.mama_event.specs.declared.ids.ObjectId.TheVariants.{Sub};
+ghost use Rattle.mama_listener.specs.Listener.{told};
+ghost use Rattle.mama_dispatch.specs.Seats.{has_seat, listener_in, is_muted_in, with_room, Fits};
+ghost use Rattle.mama_event.specs.declared.ids.ObjectId.{ObjectId};
+ghost use Rattle.mama_event.specs.declared.order.Order.{Order};
+ghost use Rattle.mama_queue_rules.specs.Queue.{Deed};
+ghost use Rattle.mama_dispatch.specs.Journals.{Born};
+ghost use Rattle.mama_dispatch.specs.Seating.{is_live, is_plain, Seated, CallsMade};
+ghost use Rattle.mama_dispatch.specs.Standing.{Created, Ended, Delivered};
+ghost use Rattle.mama_dispatch.specs.Turns.{put_note};
+
+use crate::seats::Seats;
+use crate::turn::QueueOut;
+use mama_dq::Calls;
+use mama_event::{Callback, Make, MarketMsg, ObjectId, SubId, Tagged};
+use mama_link::Outbox;
+use mama_listener::Listener;
+use mama_memory::OutOfMemory;
+use std::alloc::Global;
+
+/// The most events that one callback puts: a wish and 8 orders.
+const MOST_PUTS: usize = 9;
+
+impl<L: Listener> Seats<L> {
+    /// Makes an object, and its first callback. Where no memory is found the listener is given back, and nothing has
+    /// changed.
+    pub(crate) fn create<M: Tagged>(
+        &mut self,
+        alloc: Global,
+        object: ObjectId,
+        make: Make,
+        listener: L,
+        out: &mut Outbox<QueueOut<M>>,
+    ) -> Result<(), L>
+        requires { has_seat object self.old ≡ false }
+        ensures ok { OnOk result (Created object make (told L.tagged L.calls L.heard L.plan listener) self.old self.new (map (put_note M.tagged) out.old.items) (map (put_note M.tagged) out.new.items)) }
+        ensures err { OnErr result (self.new ≡ self.old) }
+        ensures puts_err { OnErr result (out.new.items ≡ out.old.items) }
+        ensures back { IfErr result (λ given. given ≡ listener) }
+    {
+        if out.reserve(MOST_PUTS).is_err() {
+            return Err(listener);
+        }
+        match self.open(alloc, object, make, listener) {
+            Ok(()) => {
+                self.call_put(&object, Callback::Create, out);
+                Ok(())
+            }
+            Err(listener) => Err(listener),
+        }
+    }
+
+    /// Makes the last callback of an object, and hands its listener back. Where no memory is found nothing has changed
+    /// but the room.
+    pub(crate) fn end<M: Tagged>(
+        &mut self,
+        object: &ObjectId,
+        out: &mut Outbox<QueueOut<M>>,
+    ) -> Result<L, OutOfMemory>
+        requires { is_some (listener_in object.now self.old) ≡ true }
+        ensures ok { IfOk result (λ l. Ended object.now (told L.tagged L.calls L.heard L.plan l) self.old self.new (map (put_note M.tagged) out.old.items) (map (put_note M.tagged) out.new.items)) }
+        ensures err { OnErr result (map (with_room 0) self.new ≡ map (with_room 0) self.old) }
+        ensures puts_err { OnErr result (out.new.items ≡ out.old.items) }
+    {
+        out.reserve(MOST_PUTS)?;
+        self.reserve(object, 1)?;
+        self.call_put(object, Callback::Destroy, out);
+        match self.close(object) {
+            Some(listener) => Ok(listener),
+            None => Err(OutOfMemory),
+        }
+    }
+
+    /// Takes a message of a subscription that is not muted, and makes its callbacks. The answer is how many were made.
+    /// Where no memory is found nothing has changed but the room.
+    pub(crate) fn deliver<M: Tagged>(
+        &mut self,
+        alloc: Global,
+        sub: SubId,
+        msg: &MarketMsg,
+        out: &mut Outbox<QueueOut<M>>,
+    ) -> Result<u32, OutOfMemory>
+        requires { is_some (listener_in (Sub sub) self.old) ≡ true }
+        ensures ok { IfOk result (λ count. Delivered sub msg.now self.old self.new (map (put_note M.tagged) out.old.items) (map (put_note M.tagged) out.new.items) count) }
+        ensures err { OnErr result (map (with_room 0) self.new ≡ map (with_room 0) self.old) }
+        ensures puts_err { OnErr result (out.new.items ≡ out.old.items) }
+    {
+        let object = ObjectId::Sub(sub);
+        let Some(most) = self.most_calls(&object) else {
+            return Err(OutOfMemory);
+        };
+        let Some(puts) = most_puts(most) else {
+            return Err(OutOfMemory);
+        };
+        out.reserve(puts)?;
+        self.reserve(&object, most)?;
+        let mut pending = Calls::new(alloc);
+        self.step(&object, msg, &mut pending)?;
+        Ok(self.call_all(&object, &mut pending, out))
+    }
+
+    /// Makes one callback of an object that is not muted. The answer is how many were made. Where no memory is found
+    /// nothing has changed but the room.
+    pub(crate) fn tell<M: Tagged>(
+        &mut self,
+        object: &ObjectId,
+        call: Callback,
+        out: &mut Outbox<QueueOut<M>>,
+    ) -> Result<(), Callback>
+        requires here { is_some (listener_in object.now self.old) ≡ true }
+        requires plain { is_plain call ≡ true }
+        requires unmuted { is_muted_in object.now self.old ≡ false }
+        ensures fits { OnOk result ((orders : ObjectId → ℕ → List Order) → Fits orders self.new → Fits orders self.old) }
+        ensures made { OnOk result ((orders : ObjectId → ℕ → List Order) (bs : List Born) (ds : List Deed) → Fits orders self.new → Seated (is_live ds) ds bs self.old → CallsMade orders bs ds object.now (call ∷ []) self.new (map (put_note M.tagged) out.old.items) (map (put_note M.tagged) out.new.items) 1) }
+        ensures err { OnErr result (map (with_room 0) self.new ≡ map (with_room 0) self.old) }
+        ensures puts_err { OnErr result (out.new.items ≡ out.old.items) }
+        ensures back { IfErr result (λ given. given ≡ call) }
+    {
+        if out.reserve(MOST_PUTS).is_err() {
+            return Err(call);
+        }
+        if self.reserve(object, 1).is_err() {
+            return Err(call);
+        }
+        self.call_put(object, call, out);
+        Ok(())
+    }
+}
+
+/// The most events that so many callbacks put, where both are numbers in range.
+fn most_puts(most: usize) -> Option<usize>
+    ensures puts { IfSome result (λ puts. 9 * most ≤ puts) }
+    ensures few { IfSome result (λ puts. most < 2 ^ 32) }
+{
+    if most > u32::MAX as usize {
+        return None;
+    }
+    Some(MOST_PUTS * most)
+}

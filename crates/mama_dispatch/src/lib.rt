@@ -1,0 +1,18 @@
+//! Serving a queue: the callbacks of its objects, one by one, and what follows from them.
+#![tactic(auto)]
+
+mod arms;
+mod calling;
+mod entries;
+mod laws;
+mod puts;
+mod row;
+mod seats;
+mod serve;
+mod turn;
+
+pub use laws::{no_objects_at_first, serving_an_entry};
+pub use mama_event::{CallNote, Callback, ImageHead, ObjectId, Order, Orders, QueueNote, ToQueue};
+pub use mama_listener::Listener;
+pub use seats::Seats;
+pub use turn::{QueueOut, Turn};

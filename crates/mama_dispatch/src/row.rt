@@ -1,0 +1,134 @@
+ghost use Rattle.std.specs.Prelude.{◌≡◌, ◌+◌, ◌<◌, ◌||◌, [], ◌∷◌, ◌++◌, true, is_some, ◌-◌, ◌≤◌, ◌*◌, length, vec_len, vec_capacity, Some, None, OnOk, OnErr, IfSome};
+ghost use Rattle.std.specs.Option.{option_map};
+ghost use Rattle.mama_dq.specs.Strategy.{callbacks_of};
+ghost use Rattle.mama_listener.specs.Listener.{told};
+ghost use Rattle.mama_dispatch.specs.Seats.{HeardIn, called_with, muted_where_live, with_listener, stepped, with_context, with_room, new_seat};
+ghost use Rattle.mama_queue_rules.specs.Queue.{context_of};
+ghost use Rattle.mama_event.specs.declared.market.MarketMsg.{MarketMsg};
+ghost use Rattle.mama_dispatch.specs.Rows.{row_data};
+
+use crate::calling::make;
+use mama_dq::{Calls, DqContext};
+use mama_event::{CallNote, Callback, Make, MarketMsg, ObjectId, Orders, SubKind};
+use mama_listener::Listener;
+use mama_memory::OutOfMemory;
+use std::alloc::Global;
+
+/// An object that was made on a queue: the count that its listener came with, its listener until that is handed
+/// back, whether it is muted, what it knows of its image, and its callbacks.
+#[derive(Drop)]
+pub(crate) struct Row<L> {
+    pub(crate) object: ObjectId,
+    pub(crate) came: u64,
+    pub(crate) listener: Option<L>,
+    pub(crate) muted: bool,
+    pub(crate) context: DqContext,
+    pub(crate) calls: Vec<CallNote>,
+}
+
+/// Makes a callback of the object's listener, if that is there. The answer is what it ordered.
+pub(crate) fn hear<L: Listener>(listener: &mut Option<L>, call: &Callback) -> Orders
+    requires { is_some listener.old ≡ true }
+    ensures { HeardIn call.now (option_map (told L.tagged L.calls L.heard L.plan) listener.old) (option_map (told L.tagged L.calls L.heard L.plan) listener.new) result }
+{
+    match listener {
+        Some(listener) => make(listener, call),
+        None => Orders::new(),
+    }
+}
+
+/// Makes a callback of a row, and notes it. The answer is what was ordered.
+pub(crate) fn make_at<L: Listener>(row: &mut Row<L>, call: Callback) -> Orders
+    requires here { is_some row.old.listener ≡ true }
+    requires room { vec_len row.old.calls < vec_capacity row.old.calls }
+    ensures heard { HeardIn call (option_map (told L.tagged L.calls L.heard L.plan) row.old.listener) (option_map (told L.tagged L.calls L.heard L.plan) row.new.listener) result }
+    ensures row { row_data (told L.tagged L.calls L.heard L.plan) row.new ≡ called_with call result (option_map (told L.tagged L.calls L.heard L.plan) row.new.listener) (row_data (told L.tagged L.calls L.heard L.plan) row.old) }
+{
+    let orders = hear(&mut row.listener, &call);
+    row.calls.push_reserved(CallNote {
+        call,
+        orders: orders.copied(),
+    });
+    orders
+}
+
+/// Mutes the object of a row, if it is live.
+pub(crate) fn mute_at<L: Listener>(row: &mut Row<L>)
+    ensures { row_data (told L.tagged L.calls L.heard L.plan) row.new ≡ muted_where_live (row_data (told L.tagged L.calls L.heard L.plan) row.old) }
+{
+    row.muted = row.muted || row.listener.is_some();
+}
+
+/// Takes the listener of a row out.
+pub(crate) fn take_at<L: Listener>(row: &mut Row<L>) -> Option<L>
+    ensures listener { result ≡ row.old.listener }
+    ensures row { row_data (told L.tagged L.calls L.heard L.plan) row.new ≡ with_listener None (row_data (told L.tagged L.calls L.heard L.plan) row.old) }
+{
+    row.listener.take()
+}
+
+/// Takes a message at a row: its context changes, and the callbacks of the message are added. After want of memory
+/// nothing has changed.
+pub(crate) fn step_at<L: Listener>(
+    row: &mut Row<L>,
+    msg: &MarketMsg,
+    pending: &mut Calls,
+) -> Result<(), OutOfMemory>
+    ensures row { OnOk result (row_data (told L.tagged L.calls L.heard L.plan) row.new ≡ stepped msg.now (row_data (told L.tagged L.calls L.heard L.plan) row.old)) }
+    ensures pending { OnOk result (pending.new ≡ pending.old ++ callbacks_of row.old.context msg.now) }
+    ensures err { OnErr result (row.new ≡ row.old) }
+    ensures others { row_data (told L.tagged L.calls L.heard L.plan) row.new ≡ with_context row.new.context (row_data (told L.tagged L.calls L.heard L.plan) row.old) }
+{
+    row.context.step(msg, pending)
+}
+
+/// Makes room for more callbacks at a row.
+pub(crate) fn reserve_at<L: Listener>(row: &mut Row<L>, more: usize) -> Result<(), OutOfMemory>
+    ensures row { row_data (told L.tagged L.calls L.heard L.plan) row.new ≡ with_room (vec_capacity row.new.calls - vec_len row.new.calls) (row_data (told L.tagged L.calls L.heard L.plan) row.old) }
+    ensures ok { OnOk result (more ≤ vec_capacity row.new.calls - vec_len row.new.calls) }
+{
+    Ok(row.calls.reserve(more)?)
+}
+
+/// The context of a new object.
+fn context_for(alloc: Global, make: Make) -> DqContext
+    ensures { result ≡ context_of (Some make) [] }
+{
+    match make {
+        Make::Sub { kind, cache } => DqContext::new(alloc, kind, cache),
+        Make::Timer => DqContext::new(alloc, SubKind::Basic, 0),
+        Make::Inbox => DqContext::new(alloc, SubKind::Basic, 0),
+    }
+}
+
+/// The row of a new object.
+pub(crate) fn new_row<L: Listener>(
+    alloc: Global,
+    object: ObjectId,
+    make: Make,
+    listener: L,
+    calls: Vec<CallNote>,
+) -> Row<L>
+    requires { calls.items ≡ [] }
+    ensures { row_data (told L.tagged L.calls L.heard L.plan) result ≡ new_seat object make (told L.tagged L.calls L.heard L.plan listener) (vec_capacity calls - vec_len calls) }
+{
+    Row {
+        object,
+        came: listener.count(),
+        listener: Some(listener),
+        muted: false,
+        context: context_for(alloc, make),
+        calls,
+    }
+}
+
+/// The most callbacks that the next message of a context can make. None where that number is out of range.
+pub(crate) fn most_calls(context: &DqContext) -> Option<usize>
+    ensures { IfSome result (λ most. (msg : MarketMsg) → length (callbacks_of context.now msg) ≤ most) }
+{
+    if context.image().is_some() {
+        return Some(4);
+    }
+    let each = context.cached().checked_add(1)?;
+    each.checked_mul(4)
+}

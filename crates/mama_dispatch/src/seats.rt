@@ -1,0 +1,229 @@
+ghost use Rattle.std.specs.Prelude.{◌≡◌, ◌<◌, ◌≤◌, true, false, [], ◌∷◌, ◌++◌, ◌-◌, map, length, is_some, None, OnOk, OnErr, IfOk, IfErr, IfSome, IfNone, vec_len, vec_capacity};
+ghost use Rattle.std.specs.List.{list_any};
+ghost use Rattle.mama_event.specs.Object.{same_object};
+ghost use Rattle.mama_event.specs.declared.market.MarketMsg.{MarketMsg};
+ghost use Rattle.std.specs.Option.{option_map};
+ghost use Rattle.mama_event.specs.declared.ids.ObjectId.TheVariants.{Sub};
+ghost use Rattle.mama_dq.specs.Strategy.{callbacks_of};
+ghost use Rattle.mama_listener.specs.Listener.{told};
+ghost use Rattle.mama_dispatch.specs.Seats.{has_seat, listener_in, is_muted_in, context_in, room_in, at, muted_by, muted_by_all, muted_where_live, called_with, with_listener, stepped, with_room, HeardIn};
+ghost use Rattle.mama_dispatch.specs.Places.{IsPlace, IsEnded, IsOpened};
+
+use crate::row::{Row, make_at, most_calls, mute_at, new_row, reserve_at, step_at, take_at};
+use indexmap::IndexSet;
+use mama_dq::{Calls, DqContext};
+use mama_event::{CallNote, Callback, Make, MarketMsg, ObjectId, Order, Orders, SubId, SubKind};
+use mama_listener::Listener;
+use mama_memory::OutOfMemory;
+use std::alloc::Global;
+use std::marker::Model;
+
+/// The objects that were made on a queue, in the order in which they were made. Each is found by its id.
+#[derive(Drop)]
+pub struct Seats<L: Listener> {
+    places: IndexSet<ObjectId>,
+    rows: Vec<Row<L>>,
+}
+
+impl<L: Listener> Model for Seats<L> {
+    ghost use Rattle.std.specs.Prelude.{List};
+    ghost use Rattle.mama_dispatch.specs.Seats.{SeatData};
+
+    ghost Value = { List SeatData };
+
+    ghost use Rattle.std.specs.Prelude.{map};
+    ghost use Rattle.mama_listener.specs.Listener.{told};
+    ghost use Rattle.mama_dispatch.specs.Rows.{row_data, AreKept};
+
+    ghost view = { λ s. map (row_data (told L.tagged L.calls L.heard L.plan)) s.rows.items };
+
+    ghost invariant = { λ s. AreKept s.places.keys (map (row_data (told L.tagged L.calls L.heard L.plan)) s.rows.items) };
+}
+
+/// The object that an order ends, if it ends one.
+fn ended_by(order: &Order) -> Option<ObjectId>
+    ensures { IsEnded order.now result }
+{
+    match order {
+        Order::Stop(sub) => Some(ObjectId::Sub(*sub)),
+        Order::Disarm(timer) => Some(ObjectId::Timer(*timer)),
+        Order::Close(inbox) => Some(ObjectId::Inbox(*inbox)),
+        Order::Ask {
+            inbox: _,
+            topic: _,
+            fids: _,
+        } => None,
+    }
+}
+
+impl<L: Listener> Seats<L> {
+    /// No objects. It takes no memory.
+    pub fn new(alloc: Global) -> Seats<L>
+        ensures { result ≡ [] }
+    {
+        Seats {
+            places: IndexSet::new(alloc),
+            rows: Vec::new(alloc),
+        }
+    }
+
+    /// The place of an object, if it was made here.
+    fn place(&self, object: &ObjectId) -> Option<usize>
+        ensures some { IfSome result (λ place. IsPlace object.now place self.now) }
+        ensures none { IfNone result (has_seat object.now self.now ≡ false) }
+    {
+        self.places.get_index_of(object)
+    }
+
+    /// Whether an object is muted.
+    pub(crate) fn is_muted(&self, object: &ObjectId) -> bool
+        ensures { result ≡ is_muted_in object.now self.now }
+    {
+        match self.place(object) {
+            Some(place) => self.rows[place].muted,
+            None => false,
+        }
+    }
+
+    /// Makes one callback of an object, and notes it. The answer is what was ordered.
+    fn make(&mut self, object: &ObjectId, call: Callback) -> Orders
+        requires here { is_some (listener_in object.now self.old) ≡ true }
+        requires room { 0 < room_in object.now self.old }
+        ensures heard { HeardIn call (listener_in object.now self.old) (listener_in object.now self.new) result }
+        ensures seats { self.new ≡ map (at object.now (called_with call result (listener_in object.now self.new))) self.old }
+    {
+        match self.place(object) {
+            Some(place) => make_at(&mut self.rows[place], call),
+            None => Orders::new(),
+        }
+    }
+
+    /// Mutes an object, if it is live here.
+    fn silence(&mut self, object: &ObjectId)
+        ensures { self.new ≡ map (at object.now muted_where_live) self.old }
+    {
+        match self.place(object) {
+            Some(place) => mute_at(&mut self.rows[place]),
+            None => {}
+        }
+    }
+
+    /// Mutes the object that an order ends, if it ends one that is live here.
+    fn mute(&mut self, order: &Order)
+        ensures { self.new ≡ map (muted_by order.now) self.old }
+    {
+        match ended_by(order) {
+            Some(object) => self.silence(&object),
+            None => {}
+        }
+    }
+
+    /// Makes one callback of an object, notes it, and mutes what the orders end that is live here. The answer is what
+    /// was ordered.
+    pub(crate) fn call(&mut self, object: &ObjectId, call: Callback) -> Orders
+        requires here { is_some (listener_in object.now self.old) ≡ true }
+        requires room { 0 < room_in object.now self.old }
+        ensures heard { HeardIn call (listener_in object.now self.old) (listener_in object.now self.new) result }
+        ensures seats { self.new ≡ map (muted_by_all result) (map (at object.now (called_with call result (listener_in object.now self.new))) self.old) }
+    {
+        let orders = self.make(object, call);
+        for order in orders.as_slice() {
+            self.mute(order);
+        }
+        orders
+    }
+
+    /// Takes the listener of an object out.
+    pub(crate) fn close(&mut self, object: &ObjectId) -> Option<L>
+        ensures listener { option_map (told L.tagged L.calls L.heard L.plan) result ≡ listener_in object.now self.old }
+        ensures seats { self.new ≡ map (at object.now (with_listener None)) self.old }
+    {
+        match self.place(object) {
+            Some(place) => take_at(&mut self.rows[place]),
+            None => None,
+        }
+    }
+
+    /// Gives a new object its seat, with room for one callback or more. Where no memory is found the listener is given
+    /// back, and nothing has changed.
+    pub(crate) fn open(
+        &mut self,
+        alloc: Global,
+        object: ObjectId,
+        make: Make,
+        listener: L,
+    ) -> Result<(), L>
+        requires { has_seat object self.old ≡ false }
+        ensures ok { OnOk result (IsOpened object make (told L.tagged L.calls L.heard L.plan listener) self.old self.new) }
+        ensures err { OnErr result (self.new ≡ self.old) }
+        ensures back { IfErr result (λ given. given ≡ listener) }
+    {
+        let Ok(calls) = room_for_calls(alloc) else {
+            return Err(listener);
+        };
+        if self.rows.reserve(1).is_err() || add_place(&mut self.places, object).is_err() {
+            return Err(listener);
+        }
+        self.rows
+            .push_reserved(new_row(alloc, object, make, listener, calls));
+        Ok(())
+    }
+
+    /// Makes room for more callbacks of an object.
+    pub(crate) fn reserve(&mut self, object: &ObjectId, more: usize) -> Result<(), OutOfMemory>
+        requires { is_some (listener_in object.now self.old) ≡ true }
+        ensures seats { self.new ≡ map (at object.now (with_room (room_in object.now self.new))) self.old }
+        ensures ok { OnOk result (more ≤ room_in object.now self.new) }
+    {
+        match self.place(object) {
+            Some(place) => reserve_at(&mut self.rows[place], more),
+            None => Err(OutOfMemory),
+        }
+    }
+
+    /// Takes a message of a subscription: its context changes, and the callbacks of the message are added. After want
+    /// of memory nothing has changed.
+    pub(crate) fn step(
+        &mut self,
+        object: &ObjectId,
+        msg: &MarketMsg,
+        pending: &mut Calls,
+    ) -> Result<(), OutOfMemory>
+        ensures ok { OnOk result (self.new ≡ map (at object.now (stepped msg.now)) self.old) }
+        ensures pending { OnOk result (pending.new ≡ pending.old ++ callbacks_of (context_in object.now self.old) msg.now) }
+        ensures err { OnErr result (self.new ≡ self.old) }
+    {
+        match self.place(object) {
+            Some(place) => step_at(&mut self.rows[place], msg, pending),
+            None => Err(OutOfMemory),
+        }
+    }
+
+    /// The most callbacks that the next message of a subscription can make. None where that number is out of range.
+    pub(crate) fn most_calls(&self, object: &ObjectId) -> Option<usize>
+        ensures { IfSome result (λ most. (msg : MarketMsg) → length (callbacks_of (context_in object.now self.now) msg) ≤ most) }
+    {
+        match self.place(object) {
+            Some(place) => most_calls(&self.rows[place].context),
+            None => None,
+        }
+    }
+}
+
+/// A list with room for the first callbacks of an object.
+fn room_for_calls(alloc: Global) -> Result<Vec<CallNote>, OutOfMemory>
+    ensures items { IfOk result (λ calls. calls.items ≡ []) }
+    ensures room { IfOk result (λ calls. 1 ≤ vec_capacity calls - vec_len calls) }
+{
+    Ok(Vec::with_capacity(alloc, 4)?)
+}
+
+/// Adds an object to the index.
+fn add_place(places: &mut IndexSet<ObjectId>, object: ObjectId) -> Result<(), OutOfMemory>
+    requires { list_any (same_object object) places.old.keys ≡ false }
+    ensures ok { OnOk result (places.new.keys ≡ places.old.keys ++ object ∷ []) }
+    ensures err { OnErr result (places.new.keys ≡ places.old.keys) }
+{
+    places.insert(object)?;
+    Ok(())
+}

@@ -1,0 +1,23 @@
+use mama_event::{ObjectId, ToBridge, ToTimers};
+
+/// What a queue puts: on the bridge's lane or on that of the timer service.
+#[derive(Debug, Drop)]
+pub enum QueueOut<L> {
+    Bridge(ToBridge<L>),
+    Timers(ToTimers<L>),
+}
+
+/// What a turn of a queue was.
+#[derive(Debug, Drop)]
+pub enum Turn<L> {
+    /// This many callbacks were made of an object that was not muted before.
+    Called { count: u32 },
+    /// The object was muted before: nothing was made.
+    Muted { object: ObjectId },
+    /// The object is gone, and here is the listener that came with it.
+    Ended { object: ObjectId, listener: L },
+    /// Nothing more comes by one port.
+    Running,
+    /// Nothing more comes by either port.
+    Finished,
+}

@@ -1,0 +1,3 @@
+pub mod Listener
+pub mod Plan
+pub mod PlanListener

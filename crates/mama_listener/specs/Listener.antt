@@ -1,0 +1,54 @@
+-- A listener as contracts see it, and what each of its callbacks makes of it.
+use Rattle.std.specs.Prelude.{◌≡◌, ℕ, zero, suc, ◌+◌, nat_lt, List, [], ◌∷◌, ◌++◌, Option, None, Some, if◌then◌else◌, IsSomeAnd}
+use Rattle.mama_event.specs.declared.ids.ObjectId.{ObjectId}
+use Rattle.mama_event.specs.declared.callback.Callback.{Callback}
+use Rattle.mama_event.specs.declared.order.Order.{Order}
+use Rattle.mama_event.specs.declared.order.PlanRow.{PlanRow}
+use Rattle.mama_queue_rules.specs.Queue.{planned}
+
+-- A listener: its object, how many callbacks it got, and, where it tells them, those callbacks and its plan.
+pub record ListenerData : Type 0 where
+  pub tag : ObjectId
+  pub calls : ℕ
+  pub heard : Option (List Callback)
+  pub plan : Option (List PlanRow)
+
+-- a value of any listener type, by what its type says of it
+abbrev pub told : {L : Type 0} → (L → ObjectId) → (L → ℕ) → (L → Option (List Callback)) → (L → Option (List PlanRow)) → L → ListenerData
+told tagged calls heard plan l = record { tag = tagged l; calls = calls l; heard = heard l; plan = plan l }
+
+-- the most callbacks that a listener counts
+abbrev pub most_calls : ℕ
+most_calls = 18446744073709551615
+
+-- one callback more, as far as it is counted
+abbrev pub risen : ℕ → ℕ
+risen n = if nat_lt n most_calls then n + 1 else n
+
+-- the count that a listener reaches with this many callbacks more
+abbrev pub reached : ℕ → ℕ → ℕ
+reached count zero = count
+reached count (suc more) = risen (reached count more)
+
+-- callbacks are told after one more only where they were told before it, and then it is the last
+abbrev pub HeardNext : Callback → Option (List Callback) → Option (List Callback) → Type 0
+HeardNext call before None = Unit {0}
+HeardNext call before (Some after) = IsSomeAnd before (λ calls. after ≡ calls ++ call ∷ [])
+
+-- where the plan is told, the orders are those that it has for this callback
+abbrev pub IsPlanned : Option (List PlanRow) → ℕ → List Order → Type 0
+IsPlanned None call orders = Unit {0}
+IsPlanned (Some plan) call orders = orders ≡ planned plan call
+
+-- a listener got this callback, and gave these orders in it
+pub record Heard (call : Callback) (before after : ListenerData) (given : List Order) : Type 0 where
+  pub tag : after.tag ≡ before.tag
+  pub plan : after.plan ≡ before.plan
+  pub calls : after.calls ≡ risen before.calls
+  pub heard : HeardNext call before.heard after.heard
+  pub orders : IsPlanned before.plan after.calls given
+
+-- a plan that is told has the same orders for each callback as these rows
+abbrev pub PlansAs : Option (List PlanRow) → List PlanRow → Type 0
+PlansAs None rows = ⊥
+PlansAs (Some plan) rows = (call : ℕ) → planned plan call ≡ planned rows call

@@ -1,0 +1,71 @@
+ghost use Rattle.std.specs.Prelude.{◌≡◌, ℕ, Option, List, []};
+ghost use Rattle.mama_event.specs.declared.callback.Callback.{Callback};
+ghost use Rattle.mama_event.specs.declared.callback.Callback.TheVariants as on;
+ghost use Rattle.mama_event.specs.declared.order.PlanRow.{PlanRow};
+ghost use Rattle.mama_listener.specs.Listener.{told, Heard};
+
+use mama_event::{MarketMsg, Orders, Quality, Tagged};
+use mama_msg::Msg;
+
+/// What is called back for an object. Its tag is the object.
+///
+/// Each callback leaves in `orders`, which is empty before, the orders that the listener gives in it.
+pub trait Listener: Tagged {
+    // How many callbacks it got, as far as they are counted.
+    ghost calls: { Self → ℕ };
+
+    // The callbacks that it got, where it tells them.
+    ghost heard: { Self → Option (List Callback) };
+
+    // The orders that it gives, where it tells them beforehand. They never change.
+    ghost plan: { Self → Option (List PlanRow) };
+
+    /// How many callbacks it got, up to 2^64 - 1.
+    fn count(&self) -> u64
+        ensures { result ≡ calls self.now };
+
+    /// The object is there.
+    fn on_create(&mut self, orders: &mut Orders)
+        requires { orders.old ≡ [] }
+        ensures { Heard on.Create (told Self.tagged calls heard plan self.old) (told Self.tagged calls heard plan self.new) orders.new };
+
+    /// A message, with the quality of the image after it.
+    fn on_msg(&mut self, msg: &MarketMsg, quality: Quality, orders: &mut Orders)
+        requires { orders.old ≡ [] }
+        ensures { Heard (on.Msg msg.now quality) (told Self.tagged calls heard plan self.old) (told Self.tagged calls heard plan self.new) orders.new };
+
+    /// The image's quality changed. The number is the last update in the image.
+    fn on_quality(&mut self, quality: Quality, number: u32, orders: &mut Orders)
+        requires { orders.old ≡ [] }
+        ensures { Heard (on.Quality quality number) (told Self.tagged calls heard plan self.old) (told Self.tagged calls heard plan self.new) orders.new };
+
+    /// The updates numbered `first` to `to`, both included, are missing.
+    fn on_gap(&mut self, first: u32, to: u32, orders: &mut Orders)
+        requires { orders.old ≡ [] }
+        ensures { Heard (on.Gap first to) (told Self.tagged calls heard plan self.old) (told Self.tagged calls heard plan self.new) orders.new };
+
+    /// A recap was asked of this sender.
+    fn on_recap_request(&mut self, sender: u32, orders: &mut Orders)
+        requires { orders.old ≡ [] }
+        ensures { Heard (on.RecapRequest sender) (told Self.tagged calls heard plan self.old) (told Self.tagged calls heard plan self.new) orders.new };
+
+    /// An error, by its code.
+    fn on_error(&mut self, code: u8, orders: &mut Orders)
+        requires { orders.old ≡ [] }
+        ensures { Heard (on.Error code) (told Self.tagged calls heard plan self.old) (told Self.tagged calls heard plan self.new) orders.new };
+
+    /// The object is gone. Nothing follows.
+    fn on_destroy(&mut self, orders: &mut Orders)
+        requires { orders.old ≡ [] }
+        ensures { Heard on.Destroy (told Self.tagged calls heard plan self.old) (told Self.tagged calls heard plan self.new) orders.new };
+
+    /// A timer's tick at this moment, in milliseconds.
+    fn on_tick(&mut self, moment: u64, orders: &mut Orders)
+        requires { orders.old ≡ [] }
+        ensures { Heard (on.Tick moment) (told Self.tagged calls heard plan self.old) (told Self.tagged calls heard plan self.new) orders.new };
+
+    /// A reply to an inbox.
+    fn on_reply(&mut self, body: &Msg, orders: &mut Orders)
+        requires { orders.old ≡ [] }
+        ensures { Heard (on.Reply body.now) (told Self.tagged calls heard plan self.old) (told Self.tagged calls heard plan self.new) orders.new };
+}
