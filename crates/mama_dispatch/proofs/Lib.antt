@@ -8,3 +8,6 @@ pub mod ArmLemmas
 pub mod BirthLemmas
 pub mod ServeLemmas
 pub mod JournalLaws
+pub mod KeepLemmas
+pub mod RowLemmas
+pub mod ServingLemmas

@@ -5,3 +5,5 @@ pub mod Turns
 pub mod Places
 pub mod Rows
 pub mod Standing
+pub mod Keeping
+pub mod Served

@@ -16,6 +16,7 @@ use Rattle.mama_queue_rules.specs.Queue.{Deed, QueuePut, handled, calls_of, serv
 use Rattle.mama_dispatch.specs.Journals.{Born, born, is_born, is_live_here, messages_at}
 use Rattle.mama_dispatch.specs.Seats.{SeatData, has_seat, listener_in, context_in, at, with_room, with_listener, new_seat, Fits}
 use Rattle.mama_dispatch.specs.Seating.{is_live, Seated, CalledOnce, CallsMade}
+use Rattle.mama_dispatch.specs.Keeping.{Kept}
 
 -- the seats are those of the objects that were made here, as the deeds leave them
 pub record Stands (journal : List (ℕ × QueueNote)) (ds : List Deed) (ss : List SeatData) : Type 0 where
@@ -50,6 +51,7 @@ pub record Ended (o : ObjectId) (l : ListenerData) (before after : List SeatData
 
 -- a subscription's context took a message, and the callbacks of that were made
 pub record Delivered (s : SubId) (m : MarketMsg) (before after : List SeatData) (put_before put_after : List QueuePut) (so_many : ℕ) : Type 0 where
+  pub kept : Kept before after
   pub fits : (orders : ObjectId → ℕ → List Order) → Fits orders after → Fits orders before
   pub made : (orders : ObjectId → ℕ → List Order) (bs : List Born) (ds : List Deed) → Fits orders after → Seated (is_live ds) ds bs before
       → CallsMade orders bs (ds ++ handled s m ∷ []) (Sub s) (callbacks_of (context_in (Sub s) before) m) after put_before put_after so_many

@@ -8,6 +8,7 @@ ghost use Rattle.mama_queue_rules.specs.Queue.{Deed};
 ghost use Rattle.mama_dispatch.specs.Journals.{Born};
 ghost use Rattle.mama_dispatch.specs.Seating.{is_live, is_plain, Seated, CallsMade};
 ghost use Rattle.mama_dispatch.specs.Standing.{Created, Ended, Delivered};
+ghost use Rattle.mama_dispatch.specs.Keeping.{Kept};
 ghost use Rattle.mama_dispatch.specs.Turns.{put_note};
 
 use crate::seats::Seats;
@@ -111,6 +112,7 @@ impl<L: Listener> Seats<L> {
         requires here { is_some (listener_in object.now self.old) ≡ true }
         requires plain { is_plain call ≡ true }
         requires unmuted { is_muted_in object.now self.old ≡ false }
+        ensures kept { OnOk result (Kept self.old self.new) }
         ensures fits { OnOk result ((orders : ObjectId → ℕ → List Order) → Fits orders self.new → Fits orders self.old) }
         ensures made { OnOk result ((orders : ObjectId → ℕ → List Order) (bs : List Born) (ds : List Deed) → Fits orders self.new → Seated (is_live ds) ds bs self.old → CallsMade orders bs ds object.now (call ∷ []) self.new (map (put_note M.tagged) out.old.items) (map (put_note M.tagged) out.new.items) 1) }
         ensures err { OnErr result (map (with_room 0) self.new ≡ map (with_room 0) self.old) }

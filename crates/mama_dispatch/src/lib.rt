@@ -9,10 +9,12 @@ mod puts;
 mod row;
 mod seats;
 mod serve;
+mod serving;
 mod turn;
 
 pub use laws::{no_objects_at_first, serving_an_entry};
 pub use mama_event::{CallNote, Callback, ImageHead, ObjectId, Order, Orders, QueueNote, ToQueue};
 pub use mama_listener::Listener;
 pub use seats::Seats;
+pub use serving::Serving;
 pub use turn::{QueueOut, Turn};

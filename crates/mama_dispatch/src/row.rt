@@ -1,4 +1,4 @@
-ghost use Rattle.std.specs.Prelude.{◌≡◌, ◌+◌, ◌<◌, ◌||◌, [], ◌∷◌, ◌++◌, true, is_some, ◌-◌, ◌≤◌, ◌*◌, length, vec_len, vec_capacity, Some, None, OnOk, OnErr, IfSome};
+ghost use Rattle.std.specs.Prelude.{◌≡◌, ◌+◌, ◌<◌, ◌||◌, [], ◌∷◌, ◌++◌, true, is_some, ◌-◌, ◌≤◌, ◌*◌, length, vec_len, vec_capacity, Some, None, OnOk, OnErr, IfOk, IfSome};
 ghost use Rattle.std.specs.Option.{option_map};
 ghost use Rattle.mama_dq.specs.Strategy.{callbacks_of};
 ghost use Rattle.mama_listener.specs.Listener.{told};
@@ -6,12 +6,14 @@ ghost use Rattle.mama_dispatch.specs.Seats.{HeardIn, called_with, muted_where_li
 ghost use Rattle.mama_queue_rules.specs.Queue.{context_of};
 ghost use Rattle.mama_event.specs.declared.market.MarketMsg.{MarketMsg};
 ghost use Rattle.mama_dispatch.specs.Rows.{row_data};
+ghost use Rattle.mama_dispatch.specs.Journals.{image_in};
 
 use crate::calling::make;
 use mama_dq::{Calls, DqContext};
-use mama_event::{CallNote, Callback, Make, MarketMsg, ObjectId, Orders, SubKind};
+use mama_event::{CallNote, Callback, ImageHead, Make, MarketMsg, ObjectId, Orders, SubKind};
 use mama_listener::Listener;
-use mama_memory::OutOfMemory;
+use mama_memory::{Duplicate, OutOfMemory};
+use mama_msg::Msg;
 use std::alloc::Global;
 
 /// An object that was made on a queue: the count that its listener came with, its listener until that is handed
@@ -131,4 +133,20 @@ pub(crate) fn most_calls(context: &DqContext) -> Option<usize>
     }
     let each = context.cached().checked_add(1)?;
     each.checked_mul(4)
+}
+
+/// The image of a context, if it has one.
+pub(crate) fn image_of(context: &DqContext) -> Result<Option<(ImageHead, Msg)>, OutOfMemory>
+    ensures { IfOk result (λ found. found ≡ image_in context.now) }
+{
+    let Some(image) = context.image() else {
+        return Ok(None);
+    };
+    let body = image.try_clone()?;
+    let head = ImageHead {
+        sender: context.sender(),
+        last: context.last(),
+        quality: context.quality(),
+    };
+    Ok(Some((head, body)))
 }

@@ -6,15 +6,23 @@ ghost use Rattle.std.specs.Option.{option_map};
 ghost use Rattle.mama_event.specs.declared.ids.ObjectId.TheVariants.{Sub};
 ghost use Rattle.mama_dq.specs.Strategy.{callbacks_of};
 ghost use Rattle.mama_listener.specs.Listener.{told};
-ghost use Rattle.mama_dispatch.specs.Seats.{has_seat, listener_in, is_muted_in, context_in, room_in, at, muted_by, muted_by_all, muted_where_live, called_with, with_listener, stepped, with_room, HeardIn};
+ghost use Rattle.mama_dispatch.specs.Seats.{has_seat, AreApart, listener_in, is_muted_in, context_in, room_in, at, muted_by, muted_by_all, muted_where_live, called_with, with_listener, stepped, with_room, HeardIn};
 ghost use Rattle.mama_dispatch.specs.Places.{IsPlace, IsEnded, IsOpened};
+ghost use Rattle.mama_dispatch.specs.Journals.{image_in};
+ghost use Rattle.mama_dispatch.specs.Keeping.{AreFew};
+ghost use Rattle.mama_dispatch.specs.Served.{calls_at};
 
-use crate::row::{Row, make_at, most_calls, mute_at, new_row, reserve_at, step_at, take_at};
+use crate::row::{
+    Row, image_of, make_at, most_calls, mute_at, new_row, reserve_at, step_at, take_at,
+};
 use indexmap::IndexSet;
 use mama_dq::{Calls, DqContext};
-use mama_event::{CallNote, Callback, Make, MarketMsg, ObjectId, Order, Orders, SubId, SubKind};
+use mama_event::{
+    CallNote, Callback, ImageHead, Make, MarketMsg, ObjectId, Order, Orders, SubId, SubKind,
+};
 use mama_listener::Listener;
 use mama_memory::OutOfMemory;
+use mama_msg::Msg;
 use std::alloc::Global;
 use std::marker::Model;
 
@@ -73,6 +81,57 @@ impl<L: Listener> Seats<L> {
         ensures none { IfNone result (has_seat object.now self.now ≡ false) }
     {
         self.places.get_index_of(object)
+    }
+
+    /// A fact about any seats: no two are of one object.
+    pub(crate) fn apart(&self)
+        ensures { AreApart self.now }
+    {
+        let _ = &self.places;
+    }
+
+    /// A fact about any seats: none has had more callbacks than a listener counts.
+    pub(crate) fn few(&self)
+        ensures { AreFew self.now }
+    {
+        let _ = &self.rows;
+    }
+
+    /// Whether an object was made here.
+    pub(crate) fn has(&self, object: &ObjectId) -> bool
+        ensures { result ≡ has_seat object.now self.now }
+    {
+        self.place(object).is_some()
+    }
+
+    /// Whether an object is live here.
+    pub(crate) fn is_here(&self, object: &ObjectId) -> bool
+        ensures { result ≡ is_some (listener_in object.now self.now) }
+    {
+        match self.place(object) {
+            Some(place) => self.rows[place].listener.is_some(),
+            None => false,
+        }
+    }
+
+    /// The callbacks of an object.
+    pub(crate) fn calls(&self, object: &ObjectId) -> &[CallNote]
+        ensures { result.now ≡ calls_at object.now self.now }
+    {
+        match self.place(object) {
+            Some(place) => self.rows[place].calls.as_slice(),
+            None => &[],
+        }
+    }
+
+    /// The image of a subscription, if it has one.
+    pub(crate) fn image(&self, object: &ObjectId) -> Result<Option<(ImageHead, Msg)>, OutOfMemory>
+        ensures { IfOk result (λ found. found ≡ image_in (context_in object.now self.now)) }
+    {
+        match self.place(object) {
+            Some(place) => image_of(&self.rows[place].context),
+            None => Ok(None),
+        }
     }
 
     /// Whether an object is muted.

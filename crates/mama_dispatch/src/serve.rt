@@ -7,6 +7,7 @@ ghost use Rattle.mama_queue_rules.specs.Queue.{Deed};
 ghost use Rattle.mama_dispatch.specs.Journals.{Born};
 ghost use Rattle.mama_dispatch.specs.Seats.{listener_in, room_in, Fits};
 ghost use Rattle.mama_dispatch.specs.Seating.{is_live, is_plain, Seated, CalledOnce, CallsMade};
+ghost use Rattle.mama_dispatch.specs.Keeping.{Kept};
 ghost use Rattle.mama_dispatch.specs.Turns.{put_note};
 
 use crate::puts::{put_orders, put_wish};
@@ -50,6 +51,7 @@ impl<L: Listener> Seats<L> {
         requires room { 0 < room_in object.now self.old }
         requires spare { 9 ≤ out.old.spare }
         requires plain { is_plain call ≡ true }
+        ensures kept { Kept self.old self.new }
         ensures fits { (orders : ObjectId → ℕ → List Order) → Fits orders self.new → Fits orders self.old }
         ensures made { (orders : ObjectId → ℕ → List Order) (bs : List Born) (ds : List Deed) → Fits orders self.new → Seated (is_live ds) ds bs self.old → CallsMade orders bs ds object.now (call ∷ []) self.new (map (put_note M.tagged) out.old.items) (map (put_note M.tagged) out.new.items) result }
         ensures here { is_some (listener_in object.now self.new) ≡ true }
@@ -77,6 +79,7 @@ impl<L: Listener> Seats<L> {
         requires spare { 9 * length pending.old ≤ out.old.spare }
         requires plain { list_all is_plain pending.old ≡ true }
         ensures rest { pending.new ≡ drop 1 pending.old }
+        ensures kept { Kept self.old self.new }
         ensures fits { (orders : ObjectId → ℕ → List Order) → Fits orders self.new → Fits orders self.old }
         ensures made { (orders : ObjectId → ℕ → List Order) (bs : List Born) (ds : List Deed) (call : Callback) → pending.old ≡ call ∷ pending.new → Fits orders self.new → Seated (is_live ds) ds bs self.old → CallsMade orders bs ds object.now (call ∷ []) self.new (map (put_note M.tagged) out.old.items) (map (put_note M.tagged) out.new.items) result }
         ensures here { is_some (listener_in object.now self.new) ≡ true }
@@ -104,6 +107,7 @@ impl<L: Listener> Seats<L> {
         requires spare { 9 * length pending.old ≤ out.old.spare }
         requires plain { list_all is_plain pending.old ≡ true }
         requires few { length pending.old < 2 ^ 32 }
+        ensures kept { Kept self.old self.new }
         ensures fits { (orders : ObjectId → ℕ → List Order) → Fits orders self.new → Fits orders self.old }
         ensures made { (orders : ObjectId → ℕ → List Order) (bs : List Born) (ds : List Deed) → Fits orders self.new → Seated (is_live ds) ds bs self.old → CallsMade orders bs ds object.now pending.old self.new (map (put_note M.tagged) out.old.items) (map (put_note M.tagged) out.new.items) result }
     {

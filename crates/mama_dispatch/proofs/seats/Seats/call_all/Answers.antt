@@ -14,6 +14,7 @@ use Rattle.mama_dispatch.specs.Seating.{is_live, is_plain, Seated, CallsMade}
 use Rattle.mama_dispatch.specs.Turns.{put_note}
 use Rattle.mama_dispatch.proofs.PlaceLemmas.{heard_is, heard_same}
 use Rattle.mama_dispatch.proofs.CallLemmas.{once_fits, once_made, none_made, nothing_made, calls_joined, room_after, next_of, drop_drop, calls_same}
+use Rattle.mama_dispatch.proofs.KeepLemmas.{kept_same, kept_then}
 use Rattle.mama_dispatch.proofs.seats.Seats.call_all.Goals as goal
 
 pub loop-i-preserved : goal.loop-i-preserved
@@ -29,6 +30,7 @@ loop-i-preserved g c =
       spare = c.call_next-count.ensures.spare;
       plain = c.call_next-count.ensures.plain;
       few = omega (arith, c.call_next-count.ensures.few, inv.few);
+      kept = kept_then c.args.self.now c.loop-i.self c.call_next-count.new.self inv.kept c.call_next-count.ensures.kept;
       fits = λ orders fits. inv.fits orders (c.call_next-count.ensures.fits orders fits);
       made = λ orders bs ds fits seated.
           let first = inv.made orders bs ds (c.call_next-count.ensures.fits orders fits) seated in
@@ -43,3 +45,16 @@ returns-clause-made g c = λ orders bs ds fits seated.
     calls_same orders bs ds c.args.object.now (take c.loop-i._i c.args.pending.now) c.args.pending.now c.loop-i.self _ _ c.loop-i.count
     (take_all c.loop-i._i c.args.pending.now (omega (arith, c.len-i-end.ensures, c.loop-i-test.false)))
     (c.loop-i.invariant.made orders bs ds fits seated)
+
+pub loop-i-init : goal.loop-i-init
+loop-i-init g c = record {
+  rest = refl;
+  here = c.requires.here;
+  room = c.requires.room;
+  spare = c.requires.spare;
+  plain = c.requires.plain;
+  few = omega arith;
+  kept = kept_same c.args.self.now;
+  fits = λ orders fits. fits;
+  made = λ orders bs ds fits seated. nothing_made orders bs ds c.args.object.now c.args.self.now _ seated;
+}

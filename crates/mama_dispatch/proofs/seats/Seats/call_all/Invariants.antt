@@ -6,6 +6,7 @@ use Rattle.mama_queue_rules.specs.Queue.{Deed}
 use Rattle.mama_dispatch.specs.Journals.{Born}
 use Rattle.mama_dispatch.specs.Seats.{listener_in, room_in, Fits}
 use Rattle.mama_dispatch.specs.Seating.{is_live, is_plain, Seated, CallsMade}
+use Rattle.mama_dispatch.specs.Keeping.{Kept}
 use Rattle.mama_dispatch.specs.Turns.{put_note}
 use Rattle.mama_dispatch.proofs.seats.Seats.call_all.Given as goal
 
@@ -17,6 +18,7 @@ invariant-loop-i g l = record {
   spare : 9 * length l.pending ≤ l.out.spare;
   plain : list_all is_plain l.pending ≡ true;
   few : l.count ≤ l._i;
+  kept : Kept l.initial.self l.self;
   fits : (orders : ObjectId → ℕ → List Order) → Fits orders l.self → Fits orders l.initial.self;
   made : (orders : ObjectId → ℕ → List Order) (bs : List Born) (ds : List Deed) → Fits orders l.self → Seated (is_live ds) ds bs l.initial.self
       → CallsMade orders bs ds l.object (take l._i l.initial.pending) l.self (map (put_note g.M.Tagged.tagged) l.initial.out.items) (map (put_note g.M.Tagged.tagged) l.out.items) l.count;

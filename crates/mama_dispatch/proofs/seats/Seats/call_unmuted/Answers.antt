@@ -14,6 +14,7 @@ use Rattle.mama_dispatch.specs.Seating.{is_live, is_plain, Seated, CallsMade}
 use Rattle.mama_dispatch.specs.Turns.{put_note}
 use Rattle.mama_dispatch.proofs.PlaceLemmas.{heard_is, heard_same}
 use Rattle.mama_dispatch.proofs.CallLemmas.{once_fits, once_made, none_made, nothing_made, calls_joined, room_after}
+use Rattle.mama_dispatch.proofs.KeepLemmas.{kept_same, kept_once}
 use Rattle.mama_dispatch.proofs.seats.Seats.call_unmuted.Goals as goal
 
 pub returns-then-is_muted-clause-made : goal.returns-then-is_muted-clause-made
@@ -29,3 +30,9 @@ returns-clause-made g c = λ orders bs ds fits seated.
 
 pub returns-clause-here : goal.returns-clause-here
 returns-clause-here g c = ap is_some c.call_put.ensures.once.here
+
+pub returns-then-is_muted-clause-kept : goal.returns-then-is_muted-clause-kept
+returns-then-is_muted-clause-kept g c = kept_same c.args.self.now
+
+pub returns-clause-kept : goal.returns-clause-kept
+returns-clause-kept g c = kept_once c.args.object.now c.args.call c.args.self.now c.call_put.new.self _ _ c.call_put.ensures.once

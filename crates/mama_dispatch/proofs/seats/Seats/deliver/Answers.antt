@@ -16,6 +16,7 @@ use Rattle.mama_dispatch.proofs.CallLemmas.{once_fits, once_made, calls_same, ca
 use Rattle.mama_dispatch.specs.Turns.{put_note}
 use Rattle.mama_dispatch.proofs.PlaceLemmas.{on_ok}
 use Rattle.mama_dispatch.proofs.ServeLemmas.{fits_change, seated_room, seated_stepped, listener_room, muted_room, context_room, listener_stepped, room_stepped, same_room, on_err, seat_new}
+use Rattle.mama_dispatch.proofs.KeepLemmas.{kept_then, kept_to, kept_room, kept_stepped}
 use Rattle.mama_dispatch.proofs.seats.Seats.deliver.Goals as goal
 
 pub returns-in_err-reserve-2-clause-err : goal.returns-in_err-reserve-2-clause-err
@@ -66,6 +67,9 @@ returns-clause-ok g c =
     let context = ap (context_in o) c.reserve-2.ensures.seats ∙ context_room o _ c.args.self.now in
     let pending = c.in_ok-step.ensures.pending ∙ ap (λ (cs : List Callback). cs ++ callbacks_of (context_in o c.reserve-2.new.self) m) c.new-pending.ensures ∙ ap (λ (x : ContextData). callbacks_of x m) context in
     record {
+      kept =
+          kept_then c.args.self.now c.reserve-2.new.self c.call_all.new.self (kept_to c.args.self.now _ c.reserve-2.new.self c.reserve-2.ensures.seats (kept_room o _ c.args.self.now))
+          (kept_then c.reserve-2.new.self c.step.new.self c.call_all.new.self (kept_to c.reserve-2.new.self _ c.step.new.self c.in_ok-step.ensures.ok (kept_stepped o m c.reserve-2.new.self)) c.call_all.ensures.kept);
       fits = λ orders fits.
           fits_change orders o (with_room _) c.args.self.now (λ s. refl) (λ s. refl) (subst (Fits orders) c.reserve-2.ensures.seats
           (fits_change orders o (stepped m) c.reserve-2.new.self (λ s. refl) (λ s. refl) (subst (Fits orders) c.in_ok-step.ensures.ok (c.call_all.ensures.fits orders fits))));

@@ -16,6 +16,7 @@ use Rattle.mama_dispatch.proofs.CallLemmas.{once_fits, once_made, calls_same, ca
 use Rattle.mama_dispatch.specs.Turns.{put_note}
 use Rattle.mama_dispatch.proofs.PlaceLemmas.{on_ok}
 use Rattle.mama_dispatch.proofs.ServeLemmas.{fits_change, seated_room, seated_stepped, listener_room, muted_room, context_room, listener_stepped, room_stepped, same_room, on_err, seat_new}
+use Rattle.mama_dispatch.proofs.KeepLemmas.{kept_then, kept_to, kept_room, kept_once}
 use Rattle.mama_dispatch.proofs.seats.Seats.tell.Goals as goal
 
 pub call_put-requires-clause-here : goal.call_put-requires-clause-here
@@ -39,3 +40,9 @@ returns-clause-made g c = λ orders bs ds fits seated.
 
 pub returns-then-is_err-2-clause-err : goal.returns-then-is_err-2-clause-err
 returns-then-is_err-2-clause-err g c = ap (map (with_room 0)) c.reserve-2.ensures.seats ∙ same_room c.args.object.now _ c.args.self.now
+
+pub returns-clause-kept : goal.returns-clause-kept
+returns-clause-kept g c =
+    let o : ObjectId = c.args.object.now in
+    kept_then c.args.self.now c.reserve-2.new.self c.call_put.new.self (kept_to c.args.self.now _ c.reserve-2.new.self c.reserve-2.ensures.seats (kept_room o _ c.args.self.now))
+    (kept_once o c.args.call c.reserve-2.new.self c.call_put.new.self _ _ c.call_put.ensures.once)

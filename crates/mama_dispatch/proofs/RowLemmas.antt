@@ -1,0 +1,31 @@
+-- What rows are of the seats that they stand for.
+use Rattle.std.specs.Prelude.{map, Option, Some, None, is_some, IfSome, IfNone}
+use Rattle.std.specs.Option.{option_map}
+use Rattle.std.proofs.Common.{◌≡◌, ℕ, Bool, true, false, List, [], ◌∷◌, refl, ap, sym, ◌∙◌, arith}
+use Rattle.mama_event.specs.declared.ids.ObjectId.{ObjectId}
+use Rattle.mama_listener.specs.Listener.{ListenerData}
+use Rattle.mama_dispatch.specs.declared.row.Row.{Row}
+use Rattle.mama_dispatch.specs.Seats.{SeatData, seat_of, has_seat}
+use Rattle.mama_dispatch.specs.Places.{IsPlace}
+use Rattle.mama_dispatch.specs.Rows.{row_data}
+use Rattle.mama_dispatch.specs.Keeping.{AreFew}
+use Rattle.mama_dispatch.proofs.PlaceLemmas.{none_seated, seat_at}
+
+-- a list in memory has no more notes than a listener counts
+pub rows_few : {L : Type 0} (view : L → ListenerData) (rows : List (Row L)) → AreFew (map (row_data view) rows)
+rows_few view [] = tt
+rows_few view (r ∷ rows) = (omega (arith, r.calls.ok.0, r.calls.ok.1, r.calls.small), rows_few view rows)
+
+pub some_map : {A B : Type 0} (f : A → B) (x : Option A) → is_some (option_map f x) ≡ is_some x
+some_map f None = refl
+some_map f (Some a) = refl
+
+-- a place that is found is that of a seat
+pub has_at : (o : ObjectId) (place : Option ℕ) (ss : List SeatData) → IfSome place (λ i. IsPlace o i ss) → IfNone place (has_seat o ss ≡ false) → is_some place ≡ has_seat o ss
+has_at o None ss some none = sym none
+has_at o (Some i) [] some none = absurd (omega (arith, some.within))
+has_at o (Some i) (s ∷ ss) some none =
+    elim (has_seat o (s ∷ ss)) as (λ b. has_seat o (s ∷ ss) ≡ b → true ≡ b) [
+      | true ↦ λ is. refl
+      | false ↦ λ is. cc (seat_at o i (s ∷ ss) s some, none_seated o (s ∷ ss) is)
+    ] refl

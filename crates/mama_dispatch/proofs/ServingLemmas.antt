@@ -1,0 +1,271 @@
+-- What the seats say of a journal, and what serving an entry makes of both.
+use Rattle.std.specs.Prelude.{not, map, Option, Some, None, is_some, if◌then◌else◌, slice_index_or, ◌-◌, ◌==◌}
+use Rattle.std.specs.List.{list_any}
+use Rattle.std.specs.Option.{option_and_then, option_map_or}
+use Rattle.std.proofs.Common.{◌≡◌, ℕ, zero, suc, ◌+◌, ◌<◌, get_or, Bool, true, false, ◌&&◌, ◌||◌, List, [], ◌∷◌, ◌++◌, length, refl, ap, sym, ◌∙◌, subst, append-nil, append_assoc, arith}
+use Rattle.std.proofs.lemmas.Bool.{true≢false, false≢true, or_from, or_parts}
+use Rattle.mama_journal.specs.Journal.{first_said, count_of}
+use Rattle.mama_event.specs.declared.ids.SubId.{SubId}
+use Rattle.mama_event.specs.declared.ids.ObjectId.{ObjectId}
+use Rattle.mama_event.specs.declared.ids.ObjectId.TheVariants.{Sub, Timer, Inbox}
+use Rattle.mama_event.specs.declared.callback.CallNote.{CallNote}
+use Rattle.mama_event.specs.declared.callback.Callback.TheVariants as on
+use Rattle.mama_event.specs.declared.market.MarketMsg.{MarketMsg}
+use Rattle.mama_event.specs.declared.market.SubKind.TheVariants.{Basic}
+use Rattle.mama_event.specs.declared.order.Order.{Order}
+use Rattle.mama_event.specs.declared.to_bridge.BridgeNote.TheVariants as bridge_note
+use Rattle.mama_event.specs.declared.to_timers.TimersNote.TheVariants as timers_note
+use Rattle.mama_event.specs.declared.to_queue.Make.{Make}
+use Rattle.mama_event.specs.declared.to_queue.QueueNote.{QueueNote}
+use Rattle.mama_event.specs.declared.to_queue.QueueNote.TheVariants as q
+use Rattle.mama_event.specs.Object.{same_object}
+use Rattle.mama_dq.specs.Context.{ContextData, new_context}
+use Rattle.mama_listener.specs.Listener.{ListenerData}
+use Rattle.mama_queue_rules.specs.Queue.{Deed, QueuePut, to_bridge, to_timers, make_in, context_of, messages_of, deeds, is_fin, bye_put, queue_puts_at}
+use Rattle.mama_dispatch.specs.Journals.{Born, born, is_born, is_live_here, may_come, messages_at, noted, notes_of, context_after}
+use Rattle.mama_dispatch.specs.Seats.{SeatData, has_seat, AreApart, seat_of, listener_in, context_in, with_room, AreOrders, Fits}
+use Rattle.mama_dispatch.specs.Seating.{is_live, SeatAt, Seated}
+use Rattle.mama_dispatch.specs.Standing.{Stands, Serves, MayServe}
+use Rattle.mama_dispatch.specs.Keeping.{IsPlannedSeat, ArePlanned, IsCounted, AreCounted, KeptWith}
+use Rattle.mama_dispatch.specs.Served.{told_seats, IsServed, calls_at}
+use Rattle.mama_dispatch.proofs.DeedLemmas.{same_object-true, same_object-refl}
+use Rattle.mama_dispatch.proofs.PlaceLemmas.{none_seated}
+use Rattle.mama_dispatch.proofs.SeatLemmas.{seated_map, make_among, found}
+use Rattle.mama_dispatch.proofs.ArmLemmas.{first_make}
+use Rattle.mama_dispatch.proofs.BirthLemmas.{seated_has, unbegun}
+use Rattle.mama_dispatch.proofs.ServeLemmas.{serves_fin}
+use Rattle.mama_dispatch.proofs.JournalLaws.{standing, stands_at_first}
+use Rattle.mama_dispatch.proofs.KeepLemmas.{all_map, all_back}
+
+-- SEATS WITHOUT THEIR ROOM
+
+pub fits_told : (orders : ObjectId → ℕ → List Order) (ss : List SeatData) → Fits orders ss → Fits orders (told_seats ss)
+fits_told orders [] fits = tt
+fits_told orders (s ∷ ss) fits = (fits.0, fits_told orders ss fits.1)
+
+pub fits_untold : (orders : ObjectId → ℕ → List Order) (ss : List SeatData) → Fits orders (told_seats ss) → Fits orders ss
+fits_untold orders [] fits = tt
+fits_untold orders (s ∷ ss) fits = (fits.0, fits_untold orders ss fits.1)
+
+pub planned_told : (orders : ObjectId → ℕ → List Order) (ss : List SeatData) → ArePlanned orders ss → ArePlanned orders (told_seats ss)
+planned_told orders ss planned =
+    all_map (λ s. IsPlannedSeat (orders s.object) s) (λ s. IsPlannedSeat (orders s.object) s) (with_room 0) (λ s p. record { listener = p.listener; orders = p.orders }) ss planned
+
+pub planned_untold : (orders : ObjectId → ℕ → List Order) (ss : List SeatData) → ArePlanned orders (told_seats ss) → ArePlanned orders ss
+planned_untold orders ss planned =
+    all_back (λ s. IsPlannedSeat (orders s.object) s) (λ s. IsPlannedSeat (orders s.object) s) (with_room 0) (λ s p. record { listener = p.listener; orders = p.orders }) ss planned
+
+seated_told : (h : ObjectId → Bool) (ds : List Deed) (bs : List Born) (ss : List SeatData) → Seated h ds bs ss → Seated h ds bs (told_seats ss)
+seated_told h ds bs ss seated =
+    seated_map h h ds ds (with_room 0) (λ b s at. record { object = at.object; listener = at.listener; muted = at.muted; context = at.context; calls = at.calls }) bs ss seated
+
+seated_untold : (h : ObjectId → Bool) (ds : List Deed) (bs : List Born) (ss : List SeatData) → Seated h ds bs (told_seats ss) → Seated h ds bs ss
+seated_untold h ds [] [] seated = tt
+seated_untold h ds [] (s ∷ ss) seated = absurd seated
+seated_untold h ds (b ∷ bs) [] seated = absurd seated
+seated_untold h ds (b ∷ bs) (s ∷ ss) seated = (
+  record { object = seated.0.object; listener = seated.0.listener; muted = seated.0.muted; context = seated.0.context; calls = seated.0.calls },
+  seated_untold h ds bs ss seated.1,
+)
+
+served_told : (journal : List (ℕ × QueueNote)) (fins : ℕ) (ss : List SeatData) → IsServed journal fins ss → IsServed journal fins (told_seats ss)
+served_told journal fins ss served = record {
+  fins = served.fins;
+  stands = λ orders fits.
+      let stands = served.stands orders (fits_untold orders ss fits) in
+      record { seated = seated_told (is_live (deeds orders journal)) (deeds orders journal) (born journal) ss stands.seated; live = stands.live; quiet = stands.quiet; silent = stands.silent };
+  counted = all_map IsCounted IsCounted (with_room 0) (λ s p. p) ss served.counted;
+}
+
+served_untold : (journal : List (ℕ × QueueNote)) (fins : ℕ) (ss : List SeatData) → IsServed journal fins (told_seats ss) → IsServed journal fins ss
+served_untold journal fins ss served = record {
+  fins = served.fins;
+  stands = λ orders fits.
+      let stands = served.stands orders (fits_told orders ss fits) in
+      record { seated = seated_untold (is_live (deeds orders journal)) (deeds orders journal) (born journal) ss stands.seated; live = stands.live; quiet = stands.quiet; silent = stands.silent };
+  counted = all_back IsCounted IsCounted (with_room 0) (λ s p. p) ss served.counted;
+}
+
+-- only the room changed
+pub served_roomy : (journal : List (ℕ × QueueNote)) (fins : ℕ) (before after : List SeatData) → told_seats after ≡ told_seats before → IsServed journal fins before → IsServed journal fins after
+served_roomy journal fins before after same served =
+    served_untold journal fins after (subst (IsServed journal fins) (sym same) (served_told journal fins before served))
+
+-- ORDERS THAT FIT
+
+pub no_note : CallNote
+no_note = record { call = on.Create; orders = [] }
+
+-- the orders that were given in an object's callbacks
+pub given_at : ObjectId → List SeatData → ℕ → List Order
+given_at o ss call = (get_or (calls_at o ss) (call - 1) no_note).orders
+
+are_orders : (f : ℕ → List Order) (k : ℕ) (ns : List CallNote) → ((i : ℕ) → i < length ns → f (k + i + 1) ≡ (get_or ns i no_note).orders) → AreOrders f k ns
+are_orders f k [] each = tt
+are_orders f k (n ∷ ns) each = (
+  sym (each 0 (omega arith)) ∙ ap f (omega arith),
+  are_orders f (k + 1) ns (λ i below. ap f (omega arith) ∙ each (suc i) (omega (arith, below))),
+)
+
+fits_each : (f : ObjectId → ℕ → List Order) (ss : List SeatData) → AreApart ss
+    → ((o : ObjectId) (s : SeatData) → seat_of o ss ≡ Some s → (call : ℕ) → f o call ≡ (get_or s.calls (call - 1) no_note).orders) → Fits f ss
+fits_each f [] apart each = tt
+fits_each f (s ∷ ss) apart each =
+    let here : seat_of s.object (s ∷ ss) ≡ Some s = ap (λ (b : Bool). if b then Some s else seat_of s.object ss) (same_object-refl s.object) in (
+      are_orders (f s.object) 0 s.calls (λ i below. each s.object s here (0 + i + 1) ∙ ap (λ (n : ℕ). (get_or s.calls n no_note).orders) (omega arith)),
+      fits_each f ss apart.1 (λ o x is. each o x (later o x is)),
+    )
+  where
+    later : (o : ObjectId) (x : SeatData) → seat_of o ss ≡ Some x → seat_of o (s ∷ ss) ≡ Some x
+    later o x is =
+        elim (same_object o s.object) as (λ t. same_object o s.object ≡ t → (if t then Some s else seat_of o ss) ≡ Some x) [
+          | true ↦ λ same.
+              let none : seat_of o ss ≡ None = none_seated o ss (ap (λ (y : ObjectId). has_seat y ss) (same_object-true o s.object same) ∙ apart.0) in
+              cc (none, is)
+          | false ↦ λ other. is
+        ] refl
+
+-- the orders that were given fit
+pub given_fits : (ss : List SeatData) → AreApart ss → Fits (λ o. given_at o ss) ss
+unfolding given_at
+given_fits ss apart =
+    fits_each (λ o. given_at o ss) ss apart
+    (λ o s is call. ap (λ (x : Option SeatData). (get_or (option_map_or (λ (y : SeatData). y.calls) x []) (call - 1) no_note).orders) is)
+
+-- WHAT SEATS SAY OF A JOURNAL
+
+seat_none : (o : ObjectId) (ss : List SeatData) → seat_of o ss ≡ None → has_seat o ss ≡ false
+seat_none o [] none = refl
+seat_none o (s ∷ ss) none =
+    elim (same_object o s.object) as (λ t. (if t then Some s else seat_of o ss) ≡ None → (t || has_seat o ss) ≡ false) [
+      | true ↦ λ none. cc
+      | false ↦ λ none. seat_none o ss none
+    ] none
+
+unborn : (journal : List (ℕ × QueueNote)) (ds : List Deed) (ss : List SeatData) (o : ObjectId) → Stands journal ds ss → seat_of o ss ≡ None → is_born o journal ≡ false
+unborn journal ds ss o stands none = sym (seated_has (is_live ds) ds o (born journal) ss stands.seated) ∙ seat_none o ss none
+
+pub live_there : (journal : List (ℕ × QueueNote)) (ds : List Deed) (ss : List SeatData) (o : ObjectId) → Stands journal ds ss → is_some (listener_in o ss) ≡ is_live_here o journal
+live_there journal ds ss o stands = go (seat_of o ss) refl
+  where
+    go : (x : Option SeatData) → seat_of o ss ≡ x → is_some (option_and_then (λ (s : SeatData). s.listener) (seat_of o ss)) ≡ is_live_here o journal
+    go None is =
+        ap (λ (y : Option SeatData). is_some (option_and_then (λ (s : SeatData). s.listener) y)) is
+        ∙ sym (unbegun o ds (stands.quiet o (unborn journal ds ss o stands is))).0 ∙ stands.live o
+    go (Some s) is =
+        ap (λ (y : Option SeatData). is_some (option_and_then (λ (z : SeatData). z.listener) y)) is
+        ∙ (found (is_live ds) ds (born journal) ss o s stands.seated is).listener ∙ stands.live o
+
+pub calls_there : (journal : List (ℕ × QueueNote)) (ds : List Deed) (ss : List SeatData) (o : ObjectId) → Stands journal ds ss → calls_at o ss ≡ notes_of o ds
+calls_there journal ds ss o stands = go (seat_of o ss) refl
+  where
+    go : (x : Option SeatData) → seat_of o ss ≡ x → option_map_or (λ (s : SeatData). s.calls) (seat_of o ss) [] ≡ notes_of o ds
+    go None is =
+        ap (λ (y : Option SeatData). option_map_or (λ (s : SeatData). s.calls) y []) is
+        ∙ sym (ap (map noted) (stands.quiet o (unborn journal ds ss o stands is)))
+    go (Some s) is =
+        ap (λ (y : Option SeatData). option_map_or (λ (z : SeatData). z.calls) y []) is
+        ∙ (found (is_live ds) ds (born journal) ss o s stands.seated is).calls
+
+never : (o : ObjectId) (bs : List Born) → list_any (λ (b : Born). same_object o b.object) bs ≡ false → make_among o bs ≡ None
+never o [] none = refl
+never o (b ∷ bs) none =
+    let parts = or_parts (same_object o b.object) (list_any (λ (c : Born). same_object o c.object) bs) none in
+    ap (λ (t : Bool). if t then Some b.make else make_among o bs) parts.0 ∙ never o bs parts.1
+
+context_unborn : (make : Option Make) → make ≡ None → context_of make [] ≡ new_context Basic 0
+context_unborn None none = refl
+context_unborn (Some k) none = cc
+
+pub context_there : (orders : ObjectId → ℕ → List Order) (journal : List (ℕ × QueueNote)) (ss : List SeatData) (o : SubId)
+    → Stands journal (deeds orders journal) ss → context_in (Sub o) ss ≡ context_after orders journal o
+context_there orders journal ss o stands = go (seat_of (Sub o) ss) refl
+  where
+    ds : List Deed
+    ds = deeds orders journal
+
+    go : (x : Option SeatData) → seat_of (Sub o) ss ≡ x
+        → option_map_or (λ (s : SeatData). s.context) (seat_of (Sub o) ss) (new_context Basic 0)
+        ≡ context_of (first_said (λ (e : ℕ × QueueNote). make_in (Sub o) e.1) journal) (messages_of o ds)
+    go None is =
+        let gone : is_born (Sub o) journal ≡ false = unborn journal ds ss (Sub o) stands is in
+        ap (λ (y : Option SeatData). option_map_or (λ (s : SeatData). s.context) y (new_context Basic 0)) is
+        ∙ sym (context_unborn (first_said (λ (e : ℕ × QueueNote). make_in (Sub o) e.1) journal) (first_make (Sub o) journal ∙ never (Sub o) (born journal) gone))
+        ∙ ap (context_of (first_said (λ (e : ℕ × QueueNote). make_in (Sub o) e.1) journal)) (sym (stands.silent (Sub o) gone))
+    go (Some s) is =
+        let f = found (is_live ds) ds (born journal) ss (Sub o) s stands.seated is in
+        ap (λ (y : Option SeatData). option_map_or (λ (z : SeatData). z.context) y (new_context Basic 0)) is
+        ∙ f.context ∙ sym (ap (λ (k : Option Make). context_of k (messages_of o ds)) (first_make (Sub o) journal ∙ f.made))
+
+-- AN ENTRY THAT MAY COME
+
+pub born_there : (journal : List (ℕ × QueueNote)) (fins : ℕ) (ss : List SeatData) (o : ObjectId) → IsServed journal fins ss → AreApart ss → has_seat o ss ≡ is_born o journal
+born_there journal fins ss o served apart =
+    let stands = served.stands (λ x. given_at x ss) (given_fits ss apart) in
+    let ds : List Deed = deeds (λ x. given_at x ss) journal in
+    seated_has (is_live ds) ds o (born journal) ss stands.seated
+
+pub here_there : (journal : List (ℕ × QueueNote)) (fins : ℕ) (ss : List SeatData) (o : ObjectId) → IsServed journal fins ss → AreApart ss → is_some (listener_in o ss) ≡ is_live_here o journal
+here_there journal fins ss o served apart =
+    live_there journal (deeds (λ x. given_at x ss) journal) ss o (served.stands (λ x. given_at x ss) (given_fits ss apart))
+
+not_true : (b : Bool) → not b ≡ true → b ≡ false
+not_true true h = cc
+not_true false h = refl
+
+pub may_serve : (journal : List (ℕ × QueueNote)) (fins : ℕ) (ss : List SeatData) (note : QueueNote) → IsServed journal fins ss → AreApart ss → may_come journal note ≡ true → MayServe note ss
+may_serve journal fins ss (q.Create slot object make tag) served apart may = born_there journal fins ss object served apart ∙ not_true (is_born object journal) may
+may_serve journal fins ss (q.Deliver slot sub msg) served apart may = here_there journal fins ss (Sub sub) served apart ∙ may
+may_serve journal fins ss (q.Reply slot inbox body) served apart may = here_there journal fins ss (Inbox inbox) served apart ∙ may
+may_serve journal fins ss (q.Tick slot timer moment) served apart may = here_there journal fins ss (Timer timer) served apart ∙ may
+may_serve journal fins ss (q.Gone slot object) served apart may = here_there journal fins ss object served apart ∙ may
+may_serve journal fins ss q.Fin served apart may = tt
+
+-- AN ENTRY THAT CAME
+
+pub count_more : {E : Type 0} (test : E → Bool) (es : List E) (e : E) → count_of test (es ++ e ∷ []) ≡ (if test e then suc (count_of test es) else count_of test es)
+count_more test [] e = refl
+count_more test (x ∷ es) e =
+    ap (λ (n : ℕ). if test x then suc n else n) (count_more test es e)
+    ∙ elim (test x) as (λ t. (if t then suc (if test e then suc (count_of test es) else count_of test es) else (if test e then suc (count_of test es) else count_of test es)) ≡ (if test e then suc (if t then suc (count_of test es) else count_of test es) else (if t then suc (count_of test es) else count_of test es))) [
+      | true ↦ elim (test e) as (λ u. suc (if u then suc (count_of test es) else count_of test es) ≡ (if u then suc (suc (count_of test es)) else suc (count_of test es))) [ true ↦ refl | false ↦ refl ]
+      | false ↦ refl
+    ]
+
+pub no_journal : IsServed [] 0 []
+no_journal = record { fins = refl; stands = λ orders fits. stands_at_first; counted = tt }
+
+pub served_next : (journal : List (ℕ × QueueNote)) (fins : ℕ) (comes : Option (ObjectId × ListenerData)) (port : ℕ) (note : QueueNote) (before after : List SeatData) (pb pa : List QueuePut)
+    → IsServed journal fins before → AreApart before → is_fin (port, note) ≡ false → Serves note before after pb pa → KeptWith comes before after
+    → IsServed (journal ++ (port, note) ∷ []) fins after
+served_next journal fins comes port note before after pb pa served apart middle serves kept = record {
+  fins = served.fins ∙ sym (count_more is_fin journal (port, note) ∙ ap (λ (b : Bool). if b then suc (count_of is_fin journal) else count_of is_fin journal) middle);
+  stands = λ orders fits. (standing orders journal port note before after pb pa serves fits (served.stands orders (serves.fits orders fits))).stands;
+  counted = kept.counted apart served.counted;
+}
+
+pub served_as : (journal : List (ℕ × QueueNote)) (fins : ℕ) (comes : Option (ObjectId × ListenerData)) (port : ℕ) (note of : QueueNote) (before after : List SeatData) (pb pa : List QueuePut)
+    → note ≡ of → IsServed journal fins before → AreApart before → is_fin (port, note) ≡ false → Serves of before after pb pa → KeptWith comes before after
+    → IsServed (journal ++ (port, note) ∷ []) fins after
+served_as journal fins comes port note of before after pb pa noted served apart middle serves kept =
+    subst (λ (n : QueueNote). IsServed (journal ++ (port, n) ∷ []) fins after) (sym noted)
+    (served_next journal fins comes port of before after pb pa served apart (ap (λ (n : QueueNote). is_fin (port, n)) (sym noted) ∙ middle) serves kept)
+
+pub puts_next : (journal : List (ℕ × QueueNote)) (fins : ℕ) (port : ℕ) (note : QueueNote) (before after : List SeatData) (pb pa : List QueuePut)
+    → IsServed journal fins before → is_fin (port, note) ≡ false → Serves note before after pb pa
+    → (orders : ObjectId → ℕ → List Order) → Fits orders after → pa ≡ pb ++ queue_puts_at orders journal (port, note)
+puts_next journal fins port note before after pb pa served middle serves orders fits =
+    let none : bye_put journal (port, note) ≡ [] =
+    ap (λ (b : Bool). if b && count_of is_fin journal == 1 then to_bridge bridge_note.Bye ∷ to_timers timers_note.Bye ∷ [] else []) middle in
+    sym (append-nil pa) ∙ ap (λ (ps : List QueuePut). pa ++ ps) (sym none)
+    ∙ (standing orders journal port note before after pb pa serves fits (served.stands orders (serves.fits orders fits))).puts
+
+-- a Fin
+pub served_fin : (journal : List (ℕ × QueueNote)) (fins : ℕ) (port : ℕ) (ss : List SeatData) → IsServed journal fins ss → IsServed (journal ++ (port, q.Fin) ∷ []) (suc fins) ss
+served_fin journal fins port ss served =
+    let serves = serves_fin ss [] in
+    record {
+      fins = ap suc served.fins ∙ sym (count_more is_fin journal (port, q.Fin));
+      stands = λ orders fits. (standing orders journal port q.Fin ss ss [] [] serves fits (served.stands orders fits)).stands;
+      counted = served.counted;
+    }

@@ -1,0 +1,64 @@
+use Rattle.std.specs.Prelude.{map, Option, Some, None, is_some, not, IfOk, OnErr, ◌-◌}
+use Rattle.std.proofs.Common.{◌≡◌, ℕ, suc, ◌+◌, Bool, true, false, List, [], ◌∷◌, ◌++◌, refl, ap, sym, ◌∙◌, subst, arith}
+use Rattle.mama_event.specs.declared.ids.ObjectId.{ObjectId}
+use Rattle.mama_event.specs.declared.ids.ObjectId.TheVariants.{Sub, Timer, Inbox}
+use Rattle.mama_event.specs.declared.order.Order.{Order}
+use Rattle.mama_event.specs.declared.to_queue.QueueNote.{QueueNote}
+use Rattle.mama_event.specs.declared.to_queue.QueueNote.TheVariants as note
+use Rattle.mama_event.specs.ToQueue.{note_of}
+use Rattle.mama_listener.specs.Listener.{told}
+use Rattle.mama_queue_rules.specs.Queue.{QueuePut, deeds, is_fin, queue_puts_at}
+use Rattle.mama_dispatch.specs.Journals.{is_born, is_live_here, may_come, notes_of, context_after, image_in}
+use Rattle.mama_dispatch.specs.Seats.{SeatData, Fits}
+use Rattle.mama_dispatch.specs.Standing.{Serves}
+use Rattle.mama_dispatch.specs.Keeping.{brought, ComesPlanned, ArePlanned, KeptWith}
+use Rattle.mama_dispatch.specs.Served.{Served, told_seats, IsServed}
+use Rattle.mama_dispatch.specs.Turns.{put_note}
+use Rattle.mama_dispatch.proofs.ServingLemmas.{fits_told, fits_untold, planned_told, planned_untold, served_roomy, served_next, served_fin, puts_next, may_serve, born_there, here_there, served_as, no_journal, calls_there, context_there}
+use Rattle.mama_dispatch.proofs.serving.Serving.serve.Goals as goal
+
+pub serve-requires : goal.serve-requires
+serve-requires g c =
+    may_serve c.self.inside.journal.items c.self.inside.fins c.self.inside.seats (note_of g.L.Tagged.tagged c.args.event) c.self.invariant c.apart.ensures
+    (ap (λ (s : Served). may_come s.journal (note_of g.L.Tagged.tagged c.args.event)) c.self.view_is ∙ c.requires.may)
+
+pub invariant_of-self-in-Ok : goal.invariant_of-self-in-Ok
+invariant_of-self-in-Ok g c =
+    let grown : c.push_reserved.new.self.items ≡ c.self.inside.journal.items ++ (c.args.port, c.args.note) ∷ [] =
+    c.push_reserved.ensures.items ∙ ap (λ (es : List (ℕ × QueueNote)). es ++ (c.args.port, c.args.note) ∷ []) c.reserve.ensures.items in
+    subst (λ (j : List (ℕ × QueueNote)). IsServed j c.self.inside.fins c.serve.new.self) (sym grown)
+    (served_as c.self.inside.journal.items c.self.inside.fins (brought (told g.L.Tagged.tagged g.L.Listener.calls g.L.Listener.heard g.L.Listener.plan) c.args.event)
+    c.args.port c.args.note (note_of g.L.Tagged.tagged c.args.event) c.self.inside.seats c.serve.new.self _ _
+    c.requires.noted c.self.invariant c.apart.ensures c.requires.middle c.in-Ok.ensures.ok c.in-Ok.ensures.kept)
+
+pub invariant_of-self-in-Err : goal.invariant_of-self-in-Err
+invariant_of-self-in-Err g c =
+    subst (λ (j : List (ℕ × QueueNote)). IsServed j c.self.inside.fins c.serve.new.self) (sym c.reserve.ensures.items)
+    (served_roomy c.self.inside.journal.items c.self.inside.fins c.self.inside.seats c.serve.new.self c.in-Err.ensures.err c.self.invariant)
+
+pub invariant_of-self-in-Err-2 : goal.invariant_of-self-in-Err-2
+invariant_of-self-in-Err-2 g c =
+    subst (λ (j : List (ℕ × QueueNote)). IsServed j c.self.inside.fins c.serve.new.self) (sym c.reserve.ensures.items)
+    (served_roomy c.self.inside.journal.items c.self.inside.fins c.self.inside.seats c.serve.new.self c.in-Err.ensures.err c.self.invariant)
+
+pub invariant_of-self-in-Err-3 : goal.invariant_of-self-in-Err-3
+invariant_of-self-in-Err-3 g c =
+    subst (λ (j : List (ℕ × QueueNote)). IsServed j c.self.inside.fins c.serve.new.self) (sym c.reserve.ensures.items)
+    (served_roomy c.self.inside.journal.items c.self.inside.fins c.self.inside.seats c.serve.new.self c.in-Err.ensures.err c.self.invariant)
+
+pub returns-in-Ok-clause-puts : goal.returns-in-Ok-clause-puts
+returns-in-Ok-clause-puts g c = λ orders fits.
+    let of : QueueNote = note_of g.L.Tagged.tagged c.args.event in
+    puts_next c.self.inside.journal.items c.self.inside.fins c.args.port of c.self.inside.seats c.serve.new.self _ _ c.self.invariant
+    (ap (λ (n : QueueNote). is_fin (c.args.port, n)) (sym c.requires.noted) ∙ c.requires.middle) c.in-Ok.ensures.ok orders (fits_untold orders c.serve.new.self fits)
+    ∙ ap (λ (s : Served). map (put_note g.M.Tagged.tagged) c.args.out.now.items ++ queue_puts_at orders s.journal (c.args.port, of)) c.self.view_is
+
+pub returns-in-Ok-clause-fits : goal.returns-in-Ok-clause-fits
+returns-in-Ok-clause-fits g c = λ orders fits.
+    subst (λ (s : Served). Fits orders s.seats) c.self.view_is (fits_told orders c.self.inside.seats (c.in-Ok.ensures.ok.fits orders (fits_untold orders c.serve.new.self fits)))
+
+pub returns-in-Ok-clause-planned : goal.returns-in-Ok-clause-planned
+returns-in-Ok-clause-planned g c = λ orders comes planned.
+    planned_told orders c.serve.new.self
+    (c.in-Ok.ensures.kept.planned orders c.apart.ensures c.few.ensures comes
+    (planned_untold orders c.self.inside.seats (subst (λ (s : Served). ArePlanned orders s.seats) (sym c.self.view_is) planned)))

@@ -1,0 +1,253 @@
+ghost use Rattle.std.specs.Prelude.{◌≡◌, ℕ, ◌==◌, ◌≤◌, Bool, true, false, List, [], ◌∷◌, ◌++◌, map, OnOk, OnErr, IfOk, IfErr, if◌then◌else◌};
+ghost use Rattle.mama_event.specs.declared.ids.ObjectId.{ObjectId};
+ghost use Rattle.mama_event.specs.declared.order.Order.{Order};
+ghost use Rattle.mama_event.specs.declared.to_bridge.BridgeNote.TheVariants as bridge_note;
+ghost use Rattle.mama_event.specs.declared.to_timers.TimersNote.TheVariants as timers_note;
+ghost use Rattle.mama_event.specs.declared.to_queue.ToQueue.TheVariants as event;
+ghost use Rattle.mama_event.specs.declared.to_queue.QueueNote.TheVariants as note;
+ghost use Rattle.mama_event.specs.ToQueue.{note_of};
+ghost use Rattle.mama_listener.specs.Listener.{told};
+ghost use Rattle.mama_queue_rules.specs.Queue.{deeds, is_fin, to_bridge, to_timers, queue_puts_at};
+ghost use Rattle.mama_dispatch.specs.Journals.{may_come, notes_of, context_after, image_in};
+ghost use Rattle.mama_dispatch.specs.Seats.{Fits};
+ghost use Rattle.mama_dispatch.specs.Keeping.{brought, ComesPlanned, ArePlanned};
+ghost use Rattle.mama_dispatch.specs.Turns.{put_note};
+
+use crate::seats::Seats;
+use crate::turn::{QueueOut, Turn};
+use mama_event::{
+    CallNote, ImageHead, ObjectId, QueueNote, Stream, SubId, Tagged, ToBridge, ToQueue, ToTimers,
+};
+use mama_link::Outbox;
+use mama_listener::Listener;
+use mama_memory::{Duplicate, OutOfMemory};
+use mama_msg::Msg;
+use std::alloc::Global;
+use std::marker::Model;
+
+/// A queue with its dispatcher: what it took, and its objects. Each turn serves one event.
+#[derive(Drop)]
+pub struct Serving<L: Listener> {
+    alloc: Global,
+    queue: u32,
+    seats: Seats<L>,
+    journal: Vec<(u32, QueueNote)>,
+    fins: usize,
+}
+
+impl<L: Listener> Model for Serving<L> {
+    ghost use Rattle.mama_dispatch.specs.Served.{Served};
+
+    ghost Value = { Served };
+
+    ghost use Rattle.mama_dispatch.specs.Served.{told_seats, IsServed};
+
+    ghost view = { λ s. record { queue = s.queue; journal = s.journal.items; seats = told_seats s.seats } };
+
+    ghost invariant = { λ s. IsServed s.journal.items s.fins s.seats };
+}
+
+impl<L: Listener> Serving<L> {
+    /// A queue of this number, which has taken nothing yet. It takes no memory.
+    pub fn new(alloc: Global, queue: u32) -> Serving<L>
+        ensures { result ≡ record { queue = queue; journal = []; seats = [] } }
+    {
+        Serving {
+            alloc,
+            queue,
+            seats: Seats::new(alloc),
+            journal: Vec::new(alloc),
+            fins: 0,
+        }
+    }
+
+    /// The queue's number.
+    pub fn queue(&self) -> u32
+        ensures { result ≡ self.now.queue }
+    {
+        self.queue
+    }
+
+    /// Whether an event may come: a Create is the first of its object, and else the object is live here.
+    pub fn may_take(&self, event: &ToQueue<L>) -> bool
+        ensures { result ≡ may_come self.now.journal (note_of L.tagged event.now) }
+    {
+        self.seats.apart();
+        match event {
+            ToQueue::Create {
+                slot: _,
+                object,
+                make: _,
+                listener: _,
+            } => !self.seats.has(object),
+            ToQueue::Deliver {
+                slot: _,
+                sub,
+                msg: _,
+            } => self.seats.is_here(&ObjectId::Sub(*sub)),
+            ToQueue::Reply {
+                slot: _,
+                inbox,
+                body: _,
+            } => self.seats.is_here(&ObjectId::Inbox(*inbox)),
+            ToQueue::Tick {
+                slot: _,
+                timer,
+                moment: _,
+            } => self.seats.is_here(&ObjectId::Timer(*timer)),
+            ToQueue::Gone { slot: _, object } => self.seats.is_here(object),
+            ToQueue::Fin => true,
+        }
+    }
+
+    /// Takes the next event of a port: makes its callbacks one by one, and puts what follows from them at the end of
+    /// `out`. The second Fin says Bye to the bridge and to the timer service.
+    ///
+    /// All memory is taken before the first callback. Where none is found the event is given back, no callback was
+    /// made, and all is as before.
+    pub fn turn<M: Tagged>(
+        &mut self,
+        port: u32,
+        event: ToQueue<L>,
+        out: &mut Outbox<QueueOut<M>>,
+    ) -> Result<Turn<L>, ToQueue<L>>
+        requires { may_come self.old.journal (note_of L.tagged event) ≡ true }
+        ensures journal { OnOk result (self.new.journal ≡ self.old.journal ++ (port, note_of L.tagged event) ∷ []) }
+        ensures queue { self.new.queue ≡ self.old.queue }
+        ensures puts { OnOk result ((orders : ObjectId → ℕ → List Order) → Fits orders self.new.seats → map (put_note M.tagged) out.new.items ≡ map (put_note M.tagged) out.old.items ++ queue_puts_at orders self.old.journal (port, note_of L.tagged event)) }
+        ensures fits { OnOk result ((orders : ObjectId → ℕ → List Order) → Fits orders self.new.seats → Fits orders self.old.seats) }
+        ensures planned { OnOk result ((orders : ObjectId → ℕ → List Order) → ComesPlanned orders (brought (told L.tagged L.calls L.heard L.plan) event) → ArePlanned orders self.old.seats → ArePlanned orders self.new.seats) }
+        ensures err { OnErr result (self.new ≡ self.old) }
+        ensures puts_err { OnErr result (out.new.items ≡ out.old.items) }
+        ensures back { IfErr result (λ given. given ≡ event) }
+    {
+        let Ok(note) = event.note() else {
+            return Err(event);
+        };
+        match event {
+            ToQueue::Fin => self.finish(port, out),
+            event => self.serve(port, note, event, out),
+        }
+    }
+
+    /// Takes an event that is no Fin.
+    fn serve<M: Tagged>(
+        &mut self,
+        port: u32,
+        note: QueueNote,
+        event: ToQueue<L>,
+        out: &mut Outbox<QueueOut<M>>,
+    ) -> Result<Turn<L>, ToQueue<L>>
+        requires may { may_come self.old.journal (note_of L.tagged event) ≡ true }
+        requires noted { note ≡ note_of L.tagged event }
+        requires middle { is_fin (port, note) ≡ false }
+        ensures journal { OnOk result (self.new.journal ≡ self.old.journal ++ (port, note_of L.tagged event) ∷ []) }
+        ensures queue { self.new.queue ≡ self.old.queue }
+        ensures puts { OnOk result ((orders : ObjectId → ℕ → List Order) → Fits orders self.new.seats → map (put_note M.tagged) out.new.items ≡ map (put_note M.tagged) out.old.items ++ queue_puts_at orders self.old.journal (port, note_of L.tagged event)) }
+        ensures fits { OnOk result ((orders : ObjectId → ℕ → List Order) → Fits orders self.new.seats → Fits orders self.old.seats) }
+        ensures planned { OnOk result ((orders : ObjectId → ℕ → List Order) → ComesPlanned orders (brought (told L.tagged L.calls L.heard L.plan) event) → ArePlanned orders self.old.seats → ArePlanned orders self.new.seats) }
+        ensures err { OnErr result (self.new ≡ self.old) }
+        ensures puts_err { OnErr result (out.new.items ≡ out.old.items) }
+        ensures back { IfErr result (λ given. given ≡ event) }
+    {
+        if self.journal.reserve(1).is_err() {
+            return Err(event);
+        }
+        self.seats.apart();
+        match self.seats.serve(self.alloc, event, out) {
+            Ok(turn) => {
+                self.seats.few();
+                self.journal.push_reserved((port, note));
+                Ok(turn)
+            }
+            Err(event) => Err(event),
+        }
+    }
+
+    /// Takes a Fin.
+    fn finish<M: Tagged>(
+        &mut self,
+        port: u32,
+        out: &mut Outbox<QueueOut<M>>,
+    ) -> Result<Turn<L>, ToQueue<L>>
+        ensures journal { OnOk result (self.new.journal ≡ self.old.journal ++ (port, note.Fin) ∷ []) }
+        ensures queue { self.new.queue ≡ self.old.queue }
+        ensures seats { self.new.seats ≡ self.old.seats }
+        ensures puts { OnOk result ((orders : ObjectId → ℕ → List Order) → map (put_note M.tagged) out.new.items ≡ map (put_note M.tagged) out.old.items ++ queue_puts_at orders self.old.journal (port, note.Fin)) }
+        ensures err { OnErr result (self.new ≡ self.old) }
+        ensures puts_err { OnErr result (out.new.items ≡ out.old.items) }
+        ensures back { IfErr result (λ given. given ≡ event.Fin) }
+    {
+        let Some(fins) = self.fins.checked_add(1) else {
+            return Err(ToQueue::Fin);
+        };
+        if self.journal.reserve(1).is_err() || out.reserve(2).is_err() {
+            return Err(ToQueue::Fin);
+        }
+        let is_second = self.fins == 1;
+        self.journal.push_reserved((port, QueueNote::Fin));
+        self.fins = fins;
+        put_byes(is_second, out);
+        Ok(ended(is_second))
+    }
+
+    /// The callbacks that were made of an object, with the orders that its listener gave in them; none for an object
+    /// that never came.
+    pub fn calls_of(&self, object: &ObjectId) -> Result<Vec<CallNote>, OutOfMemory>
+        ensures { IfOk result (λ calls. (orders : ObjectId → ℕ → List Order) → Fits orders self.now.seats → calls.items ≡ notes_of object.now (deeds orders self.now.journal)) }
+    {
+        copies_of(self.alloc, self.seats.calls(object))
+    }
+
+    /// The image of a subscription, if it has one.
+    pub fn image_of(&self, sub: SubId) -> Result<Option<(ImageHead, Msg)>, OutOfMemory>
+        ensures { IfOk result (λ found. (orders : ObjectId → ℕ → List Order) → Fits orders self.now.seats → found ≡ image_in (context_after orders self.now.journal sub)) }
+    {
+        self.seats.image(&ObjectId::Sub(sub))
+    }
+
+    /// What it took, each event with its port.
+    pub fn into_journal(self) -> Vec<(u32, QueueNote)>
+        ensures { result.items ≡ self.journal }
+    {
+        let Serving {
+            alloc: _,
+            queue: _,
+            seats: _,
+            journal,
+            fins: _,
+        } = self;
+        journal
+    }
+}
+
+/// Says Bye to the bridge, and then to the timer service, if it is time.
+fn put_byes<M: Tagged>(is_time: bool, out: &mut Outbox<QueueOut<M>>)
+    requires { 2 ≤ out.old.spare }
+    ensures { map (put_note M.tagged) out.new.items ≡ map (put_note M.tagged) out.old.items ++ (if is_time then to_bridge bridge_note.Bye ∷ to_timers timers_note.Bye ∷ [] else []) }
+{
+    if is_time {
+        out.push_reserved(QueueOut::Bridge(ToBridge::Bye));
+        out.push_reserved(QueueOut::Timers(ToTimers::Bye));
+    }
+}
+
+/// What a turn with a Fin was.
+fn ended<L>(is_second: bool) -> Turn<L> {
+    if is_second {
+        Turn::Finished
+    } else {
+        Turn::Running
+    }
+}
+
+/// A copy of some notes.
+fn copies_of(alloc: Global, notes: &[CallNote]) -> Result<Vec<CallNote>, OutOfMemory>
+    ensures { IfOk result (λ copies. copies.items ≡ notes.now) }
+{
+    let mut copies = Vec::with_capacity(alloc, notes.len())?;
+    for note in notes {
+        copies.push(note.try_clone()?)?;
+    }
+    Ok(copies)
+}
