@@ -4,12 +4,14 @@
 //! [`PlanListener`] is a listener whose orders were planned.
 #![tactic(auto)]
 
+mod few;
 mod listener;
 mod plan_listener;
 mod planned;
 #[cfg(test)]
 mod tests;
 
+pub use few::has_few_rows;
 pub use listener::Listener;
 pub use mama_event::{Callback, MarketMsg, ObjectId, Orders, PlanRow, Quality, Tagged};
 pub use mama_msg::Msg;

@@ -15,7 +15,7 @@ fn disarm(number: u32) -> Order {
     Order::Disarm(TimerId { client: 0, number })
 }
 
-// A listener with these rows, of which there are at most 8.
+// A listener with these rows, of which at most 8 are for one call.
 fn planned(rt: &HostRuntime, rows: &[(u32, Order)]) -> Result<PlanListener, Fail> {
     let alloc = rt.alloc();
     let mut plan = Vec::new(alloc);
@@ -25,7 +25,7 @@ fn planned(rt: &HostRuntime, rows: &[(u32, Order)]) -> Result<PlanListener, Fail
             order: *order,
         })?;
     }
-    assert!(rt; plan.len() <= 8);
+    assert!(rt; has_few_rows(alloc, &plan)?);
     Ok(PlanListener::new(alloc, ObjectId::Sub(SUB), plan))
 }
 
