@@ -1,0 +1,84 @@
+ghost use Rattle.std.specs.Prelude.{◌≡◌, Some, IfOk};
+ghost use Rattle.mama_event.specs.declared.to_queue.QueueNote.TheVariants as note;
+ghost use Rattle.mama_event.specs.ToQueue.{note_of};
+ghost use Rattle.mama_dispatch.specs.Keeping.{brought, ListensAs, ComesPlanned};
+ghost use Rattle.mama_queue_seat.specs.Put.{own_tag};
+ghost use Rattle.mama_queue_seat.specs.Server.{orders_in};
+ghost use Rattle.mama_queue_seat.specs.Listening.{tag_of, data_of};
+
+use crate::plans::Plans;
+use mama_event::{Make, ObjectId, ToQueue};
+use mama_listener::{PlanListener, has_few_rows};
+use mama_memory::OutOfMemory;
+use std::alloc::Global;
+
+/// The listener of an object, which gives the orders of the object's plan. The error is want of memory, or that the
+/// plan has more orders for a call than a callback can give; no accepted script has such a plan.
+fn listener_of(
+    alloc: Global,
+    plans: &Plans,
+    object: &ObjectId,
+    tag: ObjectId,
+) -> Result<PlanListener, OutOfMemory>
+    ensures tag { IfOk result (λ listener. tag_of listener ≡ tag) }
+    ensures planned { IfOk result (λ listener. ListensAs (orders_in plans.now object.now) 0 (Some (data_of listener))) }
+{
+    let plan = Vec::from_slice(alloc, plans.plan(object))?;
+    if !has_few_rows(alloc, &plan)? {
+        return Err(OutOfMemory);
+    }
+    Ok(PlanListener::new(alloc, tag, plan))
+}
+
+/// The event of a created object with the listener that gives the orders of its plan.
+fn created(
+    alloc: Global,
+    plans: &Plans,
+    slot: u32,
+    object: ObjectId,
+    make: Make,
+    tag: ObjectId,
+) -> Result<ToQueue<PlanListener>, OutOfMemory>
+    ensures noted { IfOk result (λ given. note_of tag_of given ≡ note.Create slot object make tag) }
+    ensures planned { IfOk result (λ given. ComesPlanned (orders_in plans.now) (brought data_of given)) }
+{
+    let listener = listener_of(alloc, plans, &object, tag)?;
+    Ok(ToQueue::Create {
+        slot,
+        object,
+        make,
+        listener,
+    })
+}
+
+/// The same event, where a listener that comes gives the orders of its object's plan.
+pub(crate) fn with_plan(
+    alloc: Global,
+    plans: &Plans,
+    event: ToQueue<ObjectId>,
+) -> Result<ToQueue<PlanListener>, OutOfMemory>
+    ensures noted { IfOk result (λ given. note_of tag_of given ≡ note_of own_tag event) }
+    ensures planned { IfOk result (λ given. ComesPlanned (orders_in plans.now) (brought data_of given)) }
+{
+    match event {
+        ToQueue::Create {
+            slot,
+            object,
+            make,
+            listener,
+        } => created(alloc, plans, slot, object, make, listener),
+        ToQueue::Deliver { slot, sub, msg } => Ok(ToQueue::Deliver { slot, sub, msg }),
+        ToQueue::Reply { slot, inbox, body } => Ok(ToQueue::Reply { slot, inbox, body }),
+        ToQueue::Tick {
+            slot,
+            timer,
+            moment,
+        } => Ok(ToQueue::Tick {
+            slot,
+            timer,
+            moment,
+        }),
+        ToQueue::Gone { slot, object } => Ok(ToQueue::Gone { slot, object }),
+        ToQueue::Fin => Ok(ToQueue::Fin),
+    }
+}

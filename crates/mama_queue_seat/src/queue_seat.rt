@@ -1,0 +1,132 @@
+ghost use Rattle.std.specs.Prelude.{◌≡◌, ◌++◌, ◌∷◌, [], OnOk, IfOk, map};
+ghost use Rattle.mama_event.specs.ToQueue.{note_of};
+ghost use Rattle.mama_queue_rules.specs.Queue.{deeds, calls_of, queue_puts_at};
+ghost use Rattle.mama_rounds.specs.World.{is_empty};
+ghost use Rattle.mama_rounds.specs.Round.{noted};
+ghost use Rattle.mama_queue_seat.specs.Put.{own_tag, notes_of};
+ghost use Rattle.mama_queue_seat.specs.Server.{served, served_puts, orders_in};
+ghost use Rattle.mama_queue_seat.specs.Image.{found_image, image_of};
+
+use crate::planning::with_plan;
+use crate::plans::Plans;
+use crate::put::Put;
+use crate::puts::puts_from;
+use mama_dispatch::{QueueOut, Serving};
+use mama_event::{CallNote, ImageHead, ObjectId, QueueNote, SubId, ToQueue};
+use mama_link::Outbox;
+use mama_listener::PlanListener;
+use mama_memory::OutOfMemory;
+use mama_msg::Msg;
+use std::alloc::Global;
+use std::collections::VecDeque;
+use std::marker::Model;
+
+/// A queue with its journal, and what waits on its lane.
+#[derive(Drop)]
+pub struct QueueSeat<'a> {
+    alloc: Global,
+    plans: &'a Plans,
+    serving: Serving<PlanListener>,
+    lane: VecDeque<(u32, ToQueue<ObjectId>)>,
+}
+
+impl<'a> Model for QueueSeat<'a> {
+    ghost use Rattle.mama_queue_seat.specs.Server.{Server};
+
+    ghost Value = { Server };
+
+    ghost use Rattle.mama_dispatch.specs.Keeping.{ArePlanned};
+    ghost use Rattle.mama_queue_seat.specs.Server.{orders_in};
+    ghost use Rattle.mama_queue_seat.specs.Lane.{lane_notes};
+
+    ghost view = { λ s. record { objects = s.plans.now; journal = s.serving.journal; lane = lane_notes s.lane.items } };
+
+    ghost invariant = { λ s. ArePlanned (orders_in s.plans.now) s.serving.seats };
+}
+
+impl<'a> QueueSeat<'a> {
+    /// A queue that has done nothing yet.
+    pub fn new(alloc: Global, plans: &'a Plans) -> QueueSeat<'a>
+        ensures { result ≡ record { objects = plans.now; journal = []; lane = [] } }
+    {
+        QueueSeat {
+            alloc,
+            plans,
+            serving: Serving::new(alloc, 0),
+            lane: VecDeque::new(alloc),
+        }
+    }
+
+    /// Whether nothing waits on its lane.
+    pub fn is_quiet(&self) -> bool
+        ensures { result ≡ is_empty self.now.lane }
+    {
+        self.lane.is_empty()
+    }
+
+    /// Puts an event of a port at the end of the lane.
+    pub fn put(&mut self, port: u32, event: ToQueue<ObjectId>) -> Result<(), OutOfMemory>
+        ensures lane { OnOk result (self.new ≡ record self.old { lane = self.old.lane ++ (port, note_of own_tag event) ∷ [] }) }
+        ensures objects { self.new.objects ≡ self.old.objects }
+    {
+        self.lane.push_back((port, event))?;
+        Ok(())
+    }
+
+    /// Takes the first event of the lane, if there is one, makes its callbacks, and gives what they put. The error is
+    /// want of memory, or an event that may not come, which no run has.
+    pub fn turn(&mut self) -> Result<Outbox<Put>, OutOfMemory>
+        ensures seat { OnOk result (self.new ≡ served self.old self.old.lane) }
+        ensures puts { IfOk result (λ out. notes_of out.items ≡ served_puts self.old self.old.lane) }
+        ensures objects { self.new.objects ≡ self.old.objects }
+    {
+        match self.lane.pop_front() {
+            Some((port, event)) => self.take(port, event),
+            None => Ok(Outbox::new(self.alloc)),
+        }
+    }
+
+    /// Takes an event that was the first of the lane.
+    fn take(&mut self, port: u32, event: ToQueue<ObjectId>) -> Result<Outbox<Put>, OutOfMemory>
+        ensures seat { OnOk result (self.new ≡ record self.old { journal = self.old.journal ++ (port, note_of own_tag event) ∷ [] }) }
+        ensures puts { IfOk result (λ out. notes_of out.items ≡ queue_puts_at (orders_in self.old.objects) self.old.journal (port, note_of own_tag event)) }
+        ensures objects { self.new.objects ≡ self.old.objects }
+    {
+        let event = with_plan(self.alloc, self.plans, event)?;
+        if !self.serving.may_take(&event) {
+            return Err(OutOfMemory);
+        }
+        let mut outs: Outbox<QueueOut<ObjectId>> = Outbox::new(self.alloc);
+        if self.serving.turn(port, event, &mut outs).is_err() {
+            return Err(OutOfMemory);
+        }
+        puts_from(self.alloc, outs)
+    }
+
+    /// The callbacks of an object.
+    pub fn calls(&self, object: &ObjectId) -> Result<Vec<CallNote>, OutOfMemory>
+        ensures { IfOk result (λ calls. calls.items ≡ map noted (calls_of object.now (deeds (orders_in self.now.objects) self.now.journal))) }
+    {
+        self.serving.calls_of(object)
+    }
+
+    /// The last image of a subscription.
+    pub fn image(&self, sub: SubId) -> Result<Option<(ImageHead, Msg)>, OutOfMemory>
+        ensures { IfOk result (λ found. found_image sub found ≡ image_of self.now sub) }
+    {
+        self.serving.image_of(sub)
+    }
+
+    /// The journal.
+    pub fn into_journal(self) -> Vec<(u32, QueueNote)>
+        ensures { result.items ≡ self.entry.journal }
+    {
+        let QueueSeat {
+            alloc: _,
+            plans: _,
+            serving,
+            lane: _,
+        } = self;
+        serving.into_journal()
+    }
+}
