@@ -11,3 +11,7 @@ pub mod Sends
 pub mod AllSent
 pub mod Turns
 pub mod LastEvents
+pub mod Links
+pub mod Lives
+pub mod Deliveries
+pub mod SubStreams

@@ -1,5 +1,12 @@
 -- What the laws of this crate say.
-use Rattle.std.specs.Prelude.{◌≡◌, ◌<◌, length}
+use Rattle.std.specs.Prelude.{◌≡◌, ℕ, ◌<◌, Bool, false, List, length, Option, Some}
+use Rattle.mama_journal.specs.Journal.{first_said}
+use Rattle.mama_event.specs.declared.ids.SubId.{SubId}
+use Rattle.mama_event.specs.declared.ids.ObjectId.TheVariants.{Sub}
+use Rattle.mama_event.specs.declared.shape.Shape.{Shape}
+use Rattle.mama_event.specs.declared.to_bridge.SubTerms.{SubTerms}
+use Rattle.mama_event.specs.declared.to_bridge.BridgeNote.{BridgeNote}
+use Rattle.mama_rules.specs.Bridge.{heard, is_live, terms_in, window, bridge_puts}
 use Rattle.mama_script.specs.Script.{ScriptData}
 use Rattle.mama_script.specs.Tree.{IsShaped}
 use Rattle.mama_record.specs.RunData.{RunData}
@@ -7,6 +14,7 @@ use Rattle.mama_rounds.specs.Round.{IsRound}
 use Rattle.mama_legal.specs.Edges.{AreEdges}
 use Rattle.mama_legal.specs.Lines.{AreLines}
 use Rattle.mama_legal.specs.Last.{HaveLast}
+use Rattle.mama_legal.specs.Streams.{WasLive, IsSubStream, stream_of}
 use Rattle.mama_legal.specs.Calls.{IsShapedFor, AreCalls}
 
 -- in the record of a run in rounds every edge is whole
@@ -38,3 +46,9 @@ pub record IsOrderly (script : ScriptData) : Type 0 where
 -- the last event of every port was taken
 abbrev pub RoundsHaveLast : Type 0
 RoundsHaveLast = (script : ScriptData) (run : RunData) → IsOrderly script → IsRound script run → HaveLast script run
+
+-- Of the bridge's rules alone, for every journal: a subscription that was live and is so no more has had its Create, what
+-- its link lets through of its window, and its Gone, and nothing else.
+abbrev pub SubsGetTheirStreams : Type 0
+SubsGetTheirStreams = (shape : Shape) (journal : List (ℕ × BridgeNote)) (s : SubId) (terms : SubTerms) → WasLive shape s (heard shape journal) → is_live shape s (heard shape journal) ≡ false
+    → first_said (terms_in s) (heard shape journal) ≡ Some terms → IsSubStream s terms (window shape s (heard shape journal)) (stream_of (Sub s) (bridge_puts shape journal))

@@ -1,4 +1,4 @@
-ghost use Rattle.mama_legal.specs.Laws.{RoundsAreWhole, RoundsAreShaped, RoundsTellCalls, RoundsGiveOneRecord, RoundsDoAllLines, RoundsHaveLast};
+ghost use Rattle.mama_legal.specs.Laws.{RoundsAreWhole, RoundsAreShaped, RoundsTellCalls, RoundsGiveOneRecord, RoundsDoAllLines, RoundsHaveLast, SubsGetTheirStreams};
 
 /// A law: in the record of a run in rounds every edge is whole: what each actor took by each port is all that was put
 /// there, in order.
@@ -31,4 +31,10 @@ pub fn rounds_do_all_lines()
 /// A law: by every port of every lane the last event was taken that the port puts, where the script has a client.
 pub fn rounds_have_last()
     ensures { RoundsHaveLast }
+{}
+
+/// A law of the bridge's rules alone, for every journal: of a subscription that was live and is so no more, all that goes
+/// to its queue is its `Create`, what its link lets through of its window, and its `Gone`, in one slot.
+pub fn subs_get_their_streams()
+    ensures { SubsGetTheirStreams }
 {}
