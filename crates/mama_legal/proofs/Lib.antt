@@ -15,3 +15,4 @@ pub mod Links
 pub mod Lives
 pub mod Deliveries
 pub mod SubStreams
+pub mod SubJournals

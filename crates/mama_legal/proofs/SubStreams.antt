@@ -50,7 +50,7 @@ emitted_few rows x ms is = ⊎_elim
 
 -- ---- what was said first
 
-said_came : (s : SubId) (es : List BridgeEvent) (terms : SubTerms) → first_said (terms_in s) es ≡ Some terms → list_any (joins_sub s) es ≡ true
+pub said_came : (s : SubId) (es : List BridgeEvent) (terms : SubTerms) → first_said (terms_in s) es ≡ Some terms → list_any (joins_sub s) es ≡ true
 said_came s [] terms h = absurd (both_ways false refl (ap is_some h))
 said_came s (e ∷ es) terms h = by_case (terms_in s e) h (said_came s es terms)
   where

@@ -14,7 +14,7 @@ use Rattle.mama_rounds.specs.Round.{IsRound}
 use Rattle.mama_legal.specs.Edges.{AreEdges}
 use Rattle.mama_legal.specs.Lines.{AreLines}
 use Rattle.mama_legal.specs.Last.{HaveLast}
-use Rattle.mama_legal.specs.Streams.{WasLive, IsSubStream, stream_of}
+use Rattle.mama_legal.specs.Streams.{WasLive, IsSubStream, stream_of, AreSubStreams}
 use Rattle.mama_legal.specs.Calls.{IsShapedFor, AreCalls}
 
 -- in the record of a run in rounds every edge is whole
@@ -52,3 +52,7 @@ RoundsHaveLast = (script : ScriptData) (run : RunData) → IsOrderly script → 
 abbrev pub SubsGetTheirStreams : Type 0
 SubsGetTheirStreams = (shape : Shape) (journal : List (ℕ × BridgeNote)) (s : SubId) (terms : SubTerms) → WasLive shape s (heard shape journal) → is_live shape s (heard shape journal) ≡ false
     → first_said (terms_in s) (heard shape journal) ≡ Some terms → IsSubStream s terms (window shape s (heard shape journal)) (stream_of (Sub s) (bridge_puts shape journal))
+
+-- in the record of a run in rounds the journals of queues have the streams of the subscriptions
+abbrev pub RoundsGiveSubsTheirStreams : Type 0
+RoundsGiveSubsTheirStreams = (script : ScriptData) (run : RunData) → IsOrderly script → IsRound script run → AreSubStreams script run

@@ -1,6 +1,7 @@
 -- What goes to the queue of one subscription or inbox.
-use Rattle.std.specs.Prelude.{◌≡◌, ℕ, Bool, true, false, List, [], ◌∷◌, ◌++◌, map, if◌then◌else◌}
+use Rattle.std.specs.Prelude.{◌≡◌, ℕ, Bool, true, false, List, [], ◌∷◌, ◌++◌, ◌<◌, map, filter, slice_index_or, Option, None, Some, if◌then◌else◌}
 use Rattle.std.specs.List.{flat_map}
+use Rattle.mama_journal.specs.Journal.{first_said}
 use Rattle.mama_link.specs.Link.{through}
 use Rattle.mama_event.specs.declared.ids.SubId.{SubId}
 use Rattle.mama_event.specs.declared.ids.ObjectId.{ObjectId}
@@ -11,8 +12,16 @@ use Rattle.mama_event.specs.declared.to_queue.Make.TheVariants as make
 use Rattle.mama_event.specs.declared.to_queue.QueueNote.{QueueNote}
 use Rattle.mama_event.specs.declared.to_queue.QueueNote.TheVariants as q
 use Rattle.mama_event.specs.declared.shape.Shape.{Shape}
-use Rattle.mama_event.specs.Object.{same_object}
-use Rattle.mama_rules.specs.Bridge.{BridgePut, to_publisher, to_queue, to_timers, BridgeEvent, is_live}
+use Rattle.mama_event.specs.declared.to_bridge.BridgeNote.{BridgeNote}
+use Rattle.mama_event.specs.declared.to_bridge.BridgeNote.TheVariants as b
+use Rattle.mama_event.specs.Ports.{clients_of, queues_of}
+use Rattle.mama_event.specs.Object.{same_sub, same_object}
+use Rattle.mama_rules.specs.Bridge.{BridgePut, to_publisher, to_queue, to_timers, BridgeEvent, heard, is_live, window}
+use Rattle.mama_queue_rules.specs.Queue.{QueuePut}
+use Rattle.mama_queue_rules.specs.Queue as queue
+use Rattle.mama_script.specs.Script.{ScriptData}
+use Rattle.mama_record.specs.RunData.{RunData}
+use Rattle.mama_legal.specs.Edges.{client_puts}
 
 -- an event to a queue that belongs to an object
 abbrev pub is_of : ObjectId → QueueNote → Bool
@@ -46,3 +55,34 @@ pub record WasLive (shape : Shape) (s : SubId) (es : List BridgeEvent) : Type 0 
   pub after : List BridgeEvent
   pub whole : es ≡ before ++ after
   pub live : is_live shape s before ≡ true
+
+-- THE JOURNALS OF A RECORD
+
+-- the events of an object in the journal of a queue
+abbrev pub events_of : ObjectId → List (ℕ × QueueNote) → List QueueNote
+events_of o journal = filter (is_of o) (map (λ e. e.1) journal)
+
+-- with what terms a put joins a subscription
+abbrev pub terms_noted : SubId → BridgeNote → Option SubTerms
+terms_noted s (b.Join r terms tag) = if same_sub r s then Some terms else None
+terms_noted s _ = None
+
+abbrev pub terms_put : SubId → QueuePut → Option SubTerms
+terms_put s (queue.to_bridge note) = terms_noted s note
+terms_put s (queue.to_timers note) = None
+
+-- the terms with which the lines of its client join a subscription
+abbrev pub terms_of : ScriptData → RunData → SubId → Option SubTerms
+terms_of script run s = first_said (terms_put s) (client_puts script run.clients s.client)
+
+-- A queue's journal has of a subscription its Create, what its link lets through of its window, and its Gone.
+pub record IsSubJournal (s : SubId) (terms : SubTerms) (window : List MarketMsg) (journal : List (ℕ × QueueNote)) : Type 0 where
+  pub slot : ℕ
+  pub tag : ObjectId
+  pub whole : events_of (Sub s) journal
+      ≡ q.Create slot (Sub s) (make.Sub terms.kind terms.cache) tag ∷ (map (λ m. q.Deliver slot s m) (through terms.faults window) ++ q.Gone slot (Sub s) ∷ [])
+
+-- So it is with each subscription that the script joins, in the journal of its queue.
+pub record AreSubStreams (script : ScriptData) (run : RunData) : Type 0 where
+  pub each : (s : SubId) (terms : SubTerms) → s.client < clients_of script.shape → terms_of script run s ≡ Some terms → terms.queue < queues_of script.shape
+      → IsSubJournal s terms (window script.shape s (heard script.shape run.bridge)) (slice_index_or run.queues terms.queue [])

@@ -1,4 +1,4 @@
-ghost use Rattle.mama_legal.specs.Laws.{RoundsAreWhole, RoundsAreShaped, RoundsTellCalls, RoundsGiveOneRecord, RoundsDoAllLines, RoundsHaveLast, SubsGetTheirStreams};
+ghost use Rattle.mama_legal.specs.Laws.{RoundsAreWhole, RoundsAreShaped, RoundsTellCalls, RoundsGiveOneRecord, RoundsDoAllLines, RoundsHaveLast, SubsGetTheirStreams, RoundsGiveSubsTheirStreams};
 
 /// A law: in the record of a run in rounds every edge is whole: what each actor took by each port is all that was put
 /// there, in order.
@@ -37,4 +37,10 @@ pub fn rounds_have_last()
 /// to its queue is its `Create`, what its link lets through of its window, and its `Gone`, in one slot.
 pub fn subs_get_their_streams()
     ensures { SubsGetTheirStreams }
+{}
+
+/// A law: in the record of a run in rounds the journal of its queue has, of each subscription that the script joins, its
+/// `Create`, what its link lets through of its window, and its `Gone`, and nothing else.
+pub fn rounds_give_subs_their_streams()
+    ensures { RoundsGiveSubsTheirStreams }
 {}

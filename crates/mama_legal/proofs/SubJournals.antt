@@ -1,0 +1,296 @@
+-- In the record of a run in rounds the journals of queues have the streams of the subscriptions.
+use Rattle.std.specs.Prelude.{slice_index_or, not, filter, Option, None, Some, is_some}
+use Rattle.std.specs.List.{flat_map, list_any}
+use Rattle.std.specs.Option.{option_or}
+use Rattle.std.proofs.Common.{◌≡◌, ℕ, zero, suc, ◌+◌, ◌<◌, ◌≤◌, ◌==◌, Bool, true, false, ◌&&◌, ◌||◌, cond, List, [], ◌∷◌, ◌++◌, length, map, refl, sym, ◌∙◌, ap, subst, arith, inl, inr, ⊎_elim, append-nil, append_assoc}
+use Rattle.std.proofs.lemmas.Bool.{and_parts, and_from, or_left, or_cases, or_parts, or_from, both_ways, cases_Bool, cases_eq, eqb-true, eqb-false, eq-eqb, ne_eqb, false_from_ne_true}
+use Rattle.std.proofs.lemmas.List.{map-append}
+use Rattle.std.proofs.lemmas.List.Folds.{list_any-append}
+use Rattle.mama_journal.specs.Journal.{first_said, all_puts, turns, numbers_below}
+use Rattle.mama_journal.specs.Lane.{by_port, from_port}
+use Rattle.mama_link.specs.Link.{through}
+use Rattle.mama_event.specs.declared.ids.SubId.{SubId}
+use Rattle.mama_event.specs.declared.ids.ObjectId.{ObjectId}
+use Rattle.mama_event.specs.declared.ids.ObjectId.TheVariants.{Sub, Timer, Inbox}
+use Rattle.mama_event.specs.declared.ids.TimerId.{TimerId}
+use Rattle.mama_event.specs.declared.market.MarketMsg.{MarketMsg}
+use Rattle.mama_event.specs.declared.shape.Shape.{Shape}
+use Rattle.mama_event.specs.declared.to_bridge.SubTerms.{SubTerms}
+use Rattle.mama_event.specs.declared.to_bridge.BridgeNote.{BridgeNote}
+use Rattle.mama_event.specs.declared.to_bridge.BridgeNote.TheVariants as b
+use Rattle.mama_event.specs.declared.to_queue.Make.TheVariants as make
+use Rattle.mama_event.specs.declared.to_queue.QueueNote.{QueueNote}
+use Rattle.mama_event.specs.declared.to_queue.QueueNote.TheVariants as q
+use Rattle.mama_event.specs.Ports.{clients_of, publishers_of, queues_of}
+use Rattle.mama_event.specs.Object.{same_sub, same_object}
+use Rattle.mama_rules.specs.Bridge.{BridgeEvent, joins, no_event, opens, BridgePut, to_publisher, to_queue, to_timers, from_client, from_publisher, from_queue, put_by, heard, terms_in, joins_sub, leaves_sub, lives, is_live, is_settling, has_ending, window, bridge_puts}
+use Rattle.mama_rules.specs.Timers.{TimersEvent, arms, disarms, now, timers_puts, timers_reaction, live_timers}
+use Rattle.mama_rules.specs.Timers as timing
+use Rattle.mama_rules.specs.Ports.{Putter, ByClient, bridge_putter, queue_putter}
+use Rattle.mama_queue_rules.specs.Queue.{QueuePut}
+use Rattle.mama_queue_rules.specs.Queue as queue
+use Rattle.mama_script.specs.Script.{ScriptData}
+use Rattle.mama_script.specs.Tree.{IsShaped}
+use Rattle.mama_record.specs.RunData.{RunData}
+use Rattle.mama_rounds.specs.Client.{bridge_part}
+use Rattle.mama_rounds.specs.World.{queue_part}
+use Rattle.mama_rounds.specs.Round.{setting_of, IsRound}
+use Rattle.mama_legal.specs.Edges.{client_puts, put_on_bridge, put_on_queue, AreEdges}
+use Rattle.mama_legal.specs.Streams.{is_of, put_for, stream_of, events_of, terms_noted, terms_put, terms_of, WasLive, IsSubJournal, AreSubStreams}
+use Rattle.mama_legal.specs.Laws.{RoundsGiveSubsTheirStreams}
+use Rattle.mama_legal.proofs.Lists.{by_entries, all_puts-push, by_port-append, by_port-from}
+use Rattle.mama_legal.proofs.Putters.{by_bridge_port, by_queue_port}
+use Rattle.mama_legal.proofs.Whole.{whole_edges}
+use Rattle.mama_legal.proofs.Endings.{is_joining, ending_settles}
+use Rattle.mama_legal.proofs.Heard.{is_client_done, SaidLast, putter_client, no_late_join, no_end}
+use Rattle.mama_legal.proofs.AllSent.{said, ending_came}
+use Rattle.mama_legal.proofs.Lives.{any_last, lives-push, lives_came, ending_same, is_word}
+use Rattle.mama_legal.proofs.SubStreams.{said_came, subs_streams}
+
+-- ---- which terms the bridge heard of
+
+either : {X : Type 0} (c : Bool) (x : X) → x ≡ cond c x x
+either true x = refl
+either false x = refl
+
+joins_publisher : (s : SubId) (r : ℕ) (note : BridgeNote) → terms_in s (from_publisher r note) ≡ None
+joins_publisher s r b.Bye = refl
+joins_publisher s r _ = refl
+
+joins_queue : (s : SubId) (k : ℕ) (note : BridgeNote) → terms_in s (from_queue k note) ≡ None
+joins_queue s k b.Bye = refl
+joins_queue s k _ = refl
+
+-- a client joins subscriptions of its own alone
+joins_client : (s : SubId) (d : ℕ) (note : BridgeNote) → terms_in s (from_client d note) ≡ cond (d == s.client) (terms_noted s note) None
+joins_client s d (b.Join r terms tag) = by_case (r.client == d) refl (d == s.client) refl
+  where
+    by_case : (a : Bool) → (r.client == d) ≡ a → (c : Bool) → (d == s.client) ≡ c → terms_in s (cond a (joins r terms tag) no_event) ≡ cond c (cond (same_sub r s) (Some terms) None) None
+    by_case true own true same = refl
+    by_case true own false other = ap (λ (x : Bool). cond (x && r.number == s.number) (Some terms) None)
+        (ne_eqb r.client s.client (λ is. both_ways (d == s.client) other (eq-eqb d s.client (sym (eqb-true r.client d own) ∙ is))))
+    by_case false own true same = sym (ap (λ (x : Bool). cond (x && r.number == s.number) (Some terms) None)
+        (ne_eqb r.client s.client (λ is. eqb-false r.client d own (is ∙ sym (eqb-true d s.client same)))))
+    by_case false own false other = refl
+joins_client s d (b.OpenInbox i terms tag) = by_case (i.client == d)
+  where
+    by_case : (a : Bool) → terms_in s (cond a (opens i terms tag) no_event) ≡ cond (d == s.client) None None
+    by_case true = either (d == s.client) None
+    by_case false = either (d == s.client) None
+joins_client s d (b.Leave r) = either (d == s.client) None
+joins_client s d (b.CloseInbox i) = either (d == s.client) None
+joins_client s d (b.Ask i topic fids) = either (d == s.client) None
+joins_client s d (b.Publish msg) = either (d == s.client) None
+joins_client s d (b.Image r msg) = either (d == s.client) None
+joins_client s d (b.Reply i body) = either (d == s.client) None
+joins_client s d (b.RecapWish r sender) = either (d == s.client) None
+joins_client s d b.ClientDone = either (d == s.client) None
+joins_client s d b.SendsDone = either (d == s.client) None
+joins_client s d b.Settled = either (d == s.client) None
+joins_client s d b.Bye = either (d == s.client) None
+
+terms_by : (shape : Shape) (s : SubId) → s.client < clients_of shape → (port : ℕ) (note : BridgeNote) → terms_in s (put_by (bridge_putter shape port) note) ≡ cond (port == s.client) (terms_noted s note) None
+terms_by shape s small = by_bridge_port shape (λ port who. (note : BridgeNote) → terms_in s (put_by who note) ≡ cond (port == s.client) (terms_noted s note) None)
+    (λ d within note. joins_client s d note)
+    (λ r within note. joins_publisher s r note ∙ ap (λ (c : Bool). cond c (terms_noted s note) None) (sym (ne_eqb (clients_of shape + r) s.client (λ same. absurd (omega arith)))))
+    (λ k within note. joins_queue s k note ∙ ap (λ (c : Bool). cond c (terms_noted s note) None) (sym (ne_eqb (clients_of shape + publishers_of shape + k) s.client (λ same. absurd (omega arith)))))
+    (λ n past note. ap (λ (c : Bool). cond c (terms_noted s note) None) (sym (ne_eqb n s.client (λ same. absurd (omega arith)))))
+
+terms_heard : (shape : Shape) (s : SubId) → s.client < clients_of shape → (journal : List (ℕ × BridgeNote)) → first_said (terms_in s) (heard shape journal) ≡ first_said (terms_noted s) (by_port s.client journal)
+terms_heard shape s small [] = refl
+terms_heard shape s small (e ∷ es) =
+    ap (λ (o : Option SubTerms). option_or o (first_said (terms_in s) (heard shape es))) (terms_by shape s small e.0 e.1) ∙ by_case (e.0 == s.client) (terms_heard shape s small es)
+  where
+    by_case : (c : Bool) → first_said (terms_in s) (heard shape es) ≡ first_said (terms_noted s) (by_port s.client es)
+        → option_or (cond c (terms_noted s e.1) None) (first_said (terms_in s) (heard shape es)) ≡ first_said (terms_noted s) (cond c (e.1 ∷ by_port s.client es) (by_port s.client es))
+    by_case true ih = ap (λ (o : Option SubTerms). option_or (terms_noted s e.1) o) ih
+    by_case false ih = ih
+
+terms_said : (s : SubId) (puts : List QueuePut) → first_said (terms_noted s) (flat_map bridge_part puts) ≡ first_said (terms_put s) puts
+terms_said s [] = refl
+terms_said s (queue.to_bridge note ∷ puts) = ap (λ (o : Option SubTerms). option_or (terms_noted s note) o) (terms_said s puts)
+terms_said s (queue.to_timers note ∷ puts) = terms_said s puts
+
+-- ---- what joined was live
+
+joins_is : (s : SubId) (e : BridgeEvent) → joins_sub s e ≡ true → (is_joining e ≡ true) × (is_word e ≡ false)
+joins_is s (joins r terms tag) h = (refl, refl)
+joins_is s _ h = absurd (both_ways false refl h)
+
+was_live : (shape : Shape) (s : SubId) (journal : List (ℕ × BridgeNote))
+    → ((before : List (ℕ × BridgeNote)) (e : ℕ × BridgeNote) (after : List (ℕ × BridgeNote)) → journal ≡ before ++ e ∷ after → is_settling shape (heard shape before) ≡ true → is_joining (put_by (bridge_putter shape e.0) e.1) ≡ false)
+    → list_any (joins_sub s) (heard shape journal) ≡ true → WasLive shape s (heard shape journal)
+was_live shape s journal = by_entries (λ (j : List (ℕ × BridgeNote)).
+    ((before : List (ℕ × BridgeNote)) (e : ℕ × BridgeNote) (after : List (ℕ × BridgeNote)) → j ≡ before ++ e ∷ after → is_settling shape (heard shape before) ≡ true → is_joining (put_by (bridge_putter shape e.0) e.1) ≡ false)
+    → list_any (joins_sub s) (heard shape j) ≡ true → WasLive shape s (heard shape j))
+    (λ timely came. absurd (both_ways false refl came))
+    (λ j e ih timely came.
+    let x : BridgeEvent = put_by (bridge_putter shape e.0) e.1 in
+    let grown : heard shape (j ++ e ∷ []) ≡ heard shape j ++ x ∷ [] = map-append (λ (y : ℕ × BridgeNote). put_by (bridge_putter shape y.0) y.1) j (e ∷ []) in
+    subst (WasLive shape s) (sym grown) (⊎_elim
+    (λ old. let was = ih (λ before y after same. timely before y (after ++ e ∷ []) (ap (λ (xs : List (ℕ × BridgeNote)). xs ++ e ∷ []) same ∙ append_assoc before (y ∷ after) (e ∷ []))) old in
+    record { before = was.before; after = was.after ++ x ∷ []; whole = ap (λ (xs : List BridgeEvent). xs ++ x ∷ []) was.whole ∙ append_assoc was.before was.after (x ∷ []); live = was.live })
+    (λ new. now (heard shape j) x new (λ settling. timely j e [] refl settling) (sym (ap (list_any (joins_sub s)) grown) ∙ came))
+    (cases_Bool (list_any (joins_sub s) (heard shape j))))) journal
+  where
+    now : (es : List BridgeEvent) (x : BridgeEvent) → list_any (joins_sub s) es ≡ false → (is_settling shape es ≡ true → is_joining x ≡ false) → list_any (joins_sub s) (es ++ x ∷ []) ≡ true → WasLive shape s (es ++ x ∷ [])
+    now es x new late came =
+        let joined : joins_sub s x ≡ true = ap (λ (c : Bool). c || joins_sub s x) (sym new) ∙ sym (any_last (joins_sub s) es x) ∙ came in
+        let is = joins_is s x joined in
+        let yet : has_ending shape es ≡ false = false_from_ne_true (has_ending shape es) (λ ended. both_ways (is_joining x) (late (ending_settles shape es ended)) is.0) in
+        record {
+          before = es ++ x ∷ [];
+          after = [];
+          whole = sym (append-nil (es ++ x ∷ []));
+          live = and_from (lives (joins_sub s) (leaves_sub s) (es ++ x ∷ [])) (not (has_ending shape (es ++ x ∷ [])))
+              (lives-push (joins_sub s) (leaves_sub s) es x ∙ ap (λ (c : Bool). cond c (lives (joins_sub s) (leaves_sub s) es && not (leaves_sub s x)) (joins_sub s x)) new ∙ joined)
+              (ap not (ending_same shape es x is.1 ∙ yet));
+        }
+
+-- ---- the timers put nothing for a subscription
+
+abbrev for_sub : SubId → ℕ × QueueNote → Bool
+for_sub s x = is_of (Sub s) x.1
+
+any_flat_none : {X Y : Type 0} (test : Y → Bool) (f : X → List Y) (xs : List X) → ((x : X) → list_any test (f x) ≡ false) → list_any test (flat_map f xs) ≡ false
+any_flat_none test f [] none = refl
+any_flat_none test f (x ∷ xs) none = list_any-append test (f x) (flat_map f xs) ∙ or_from (list_any test (f x)) (list_any test (flat_map f xs)) (none x) (any_flat_none test f xs none)
+
+timer_place : (s : SubId) (place : Option (ℕ × ℕ)) (event : ℕ → QueueNote) → ((slot : ℕ) → is_of (Sub s) (event slot) ≡ false) → list_any (for_sub s) (timing.to_place place event) ≡ false
+timer_place s None event none = refl
+timer_place s (Some place) event none = or_from (is_of (Sub s) (event place.1)) false (none place.1) refl
+
+timer_cond : (s : SubId) (c : Bool) (xs : List (ℕ × QueueNote)) → list_any (for_sub s) xs ≡ false → list_any (for_sub s) (cond c xs []) ≡ false
+timer_cond s true xs none = none
+timer_cond s false xs none = refl
+
+timer_gone : (s : SubId) (sofar : List (ℕ × QueueNote)) (t : TimerId) → list_any (for_sub s) (timing.gone sofar t) ≡ false
+timer_gone s sofar t = timer_place s (timing.place_of t sofar) (λ slot. q.Gone slot (Timer t)) (λ slot. refl)
+
+timer_answer : (s : SubId) (shape : Shape) (before : List TimersEvent) (sofar : List (ℕ × QueueNote)) (e : TimersEvent) → list_any (for_sub s) (timing.answer shape before sofar e) ≡ false
+timer_answer s shape before sofar (arms t of interval tag) = made (list_any (timing.arms_timer t) before)
+  where
+    made : (c : Bool) → list_any (for_sub s) (cond c [] ((of, q.Create (timing.free_slot shape before sofar of) (Timer t) make.Timer tag) ∷ [])) ≡ false
+    made true = refl
+    made false = refl
+timer_answer s shape before sofar (disarms t) = timer_cond s (timing.is_live shape t before) (timing.gone sofar t) (timer_gone s sofar t)
+timer_answer s shape before sofar (now moment) =
+    let at : ℕ = timing.clock (before ++ now moment ∷ []) in
+    any_flat_none (for_sub s) (λ t. timing.to_place (timing.place_of t sofar) (λ slot. q.Tick slot t at)) (timing.firing shape before at)
+    (λ t. timer_place s (timing.place_of t sofar) (λ slot. q.Tick slot t at) (λ slot. refl))
+timer_answer s shape before sofar (timing.client_done c) = refl
+timer_answer s shape before sofar (timing.bye k) = refl
+timer_answer s shape before sofar timing.fin = refl
+timer_answer s shape before sofar timing.no_event = refl
+
+timer_fins : (s : SubId) (ks : List ℕ) → list_any (for_sub s) (map (λ k. (k, q.Fin)) ks) ≡ false
+timer_fins s [] = refl
+timer_fins s (k ∷ ks) = timer_fins s ks
+
+timers_none : (s : SubId) (shape : Shape) (es : List TimersEvent) → list_any (for_sub s) (all_puts (timers_reaction shape) es) ≡ false
+timers_none s shape es = by_entries (λ (xs : List TimersEvent). list_any (for_sub s) (all_puts (timers_reaction shape) xs) ≡ false) refl
+    (λ xs e ih.
+    let sofar : List (ℕ × QueueNote) = all_puts (timers_reaction shape) xs in
+    let gones : List (ℕ × QueueNote) = flat_map (timing.gone sofar) (live_timers shape xs) in
+    let fins : List (ℕ × QueueNote) = map (λ k. (k, q.Fin)) (numbers_below (queues_of shape)) in
+    ap (list_any (for_sub s)) (all_puts-push (timers_reaction shape) xs e) ∙ list_any-append (for_sub s) sofar (timers_reaction shape xs sofar e)
+    ∙ or_from (list_any (for_sub s) sofar) (list_any (for_sub s) (timers_reaction shape xs sofar e)) ih
+    (list_any-append (for_sub s) (timing.answer shape xs sofar e) (timing.ending_comes shape xs sofar e)
+    ∙ or_from (list_any (for_sub s) (timing.answer shape xs sofar e)) (list_any (for_sub s) (timing.ending_comes shape xs sofar e)) (timer_answer s shape xs sofar e)
+    (timer_cond s (turns (timing.has_ending shape) xs e) (gones ++ fins)
+    (list_any-append (for_sub s) gones fins ∙ or_from (list_any (for_sub s) gones) (list_any (for_sub s) fins)
+    (any_flat_none (for_sub s) (timing.gone sofar) (live_timers shape xs) (timer_gone s sofar)) (timer_fins s (numbers_below (queues_of shape))))))) es
+
+-- ---- from the bridge's puts to a queue's journal
+
+filter_none : (s : SubId) (k : ℕ) (xs : List (ℕ × QueueNote)) → list_any (for_sub s) xs ≡ false → filter (is_of (Sub s)) (by_port k xs) ≡ []
+filter_none s k [] h = refl
+filter_none s k (x ∷ xs) h =
+    let parts = or_parts (is_of (Sub s) x.1) (list_any (for_sub s) xs) h in
+    by_case (x.0 == k) (filter_none s k xs parts.1) parts.0
+  where
+    by_case : (c : Bool) → filter (is_of (Sub s)) (by_port k xs) ≡ [] → is_of (Sub s) x.1 ≡ false → filter (is_of (Sub s)) (cond c (x.1 ∷ by_port k xs) (by_port k xs)) ≡ []
+    by_case true ih none = ap (λ (c : Bool). cond c (x.1 ∷ filter (is_of (Sub s)) (by_port k xs)) (filter (is_of (Sub s)) (by_port k xs))) none ∙ ih
+    by_case false ih none = ih
+
+-- where only port 0 has events of an object, all its events came by port 0
+one_port : (o : ObjectId) (journal : List (ℕ × QueueNote)) → ((port : ℕ) → (port ≡ 0 → ⊥) → filter (is_of o) (by_port port journal) ≡ []) → events_of o journal ≡ filter (is_of o) (by_port 0 journal)
+one_port o [] none = refl
+one_port o (e ∷ es) none = by_case (is_of o e.1) refl (e.0 == 0) refl (one_port o es rest)
+  where
+    rest : (port : ℕ) → (port ≡ 0 → ⊥) → filter (is_of o) (by_port port es) ≡ []
+    rest port apart = either_port (e.0 == port) (is_of o e.1) refl (none port apart)
+      where
+        either_port : (c d : Bool) → is_of o e.1 ≡ d → filter (is_of o) (cond c (e.1 ∷ by_port port es) (by_port port es)) ≡ [] → filter (is_of o) (by_port port es) ≡ []
+        either_port false d is h = h
+        either_port true false is h = sym (ap (λ (c : Bool). cond c (e.1 ∷ filter (is_of o) (by_port port es)) (filter (is_of o) (by_port port es))) is) ∙ h
+        either_port true true is h = absurd (no_end [] e.1 (filter (is_of o) (by_port port es)) (sym (ap (λ (c : Bool). cond c (e.1 ∷ filter (is_of o) (by_port port es)) (filter (is_of o) (by_port port es))) is) ∙ h))
+
+    by_case : (d : Bool) → is_of o e.1 ≡ d → (c : Bool) → (e.0 == 0) ≡ c → events_of o es ≡ filter (is_of o) (by_port 0 es)
+        → cond (is_of o e.1) (e.1 ∷ events_of o es) (events_of o es) ≡ filter (is_of o) (cond c (e.1 ∷ by_port 0 es) (by_port 0 es))
+    by_case d is true at ih = ap (λ (ws : List QueueNote). cond (is_of o e.1) (e.1 ∷ ws) ws) ih
+    by_case false is false at ih = ap (λ (c : Bool). cond c (e.1 ∷ events_of o es) (events_of o es)) is ∙ ih
+    by_case true is false at ih = absurd (no_end [] e.1 (filter (is_of o) (by_port e.0 es))
+        (sym (ap (λ (c : Bool). filter (is_of o) (cond c (e.1 ∷ by_port e.0 es) (by_port e.0 es))) (eq-eqb e.0 e.0 refl) ∙ ap (λ (c : Bool). cond c (e.1 ∷ filter (is_of o) (by_port e.0 es)) (filter (is_of o) (by_port e.0 es))) is)
+        ∙ none e.0 (eqb-false e.0 0 at)))
+
+-- of what goes to one queue, what is for an object is the part of its stream for that queue
+part_stream : (o : ObjectId) (k : ℕ) (puts : List BridgePut) → filter (is_of o) (flat_map (queue_part k) puts) ≡ by_port k (stream_of o puts)
+part_stream o k [] = refl
+part_stream o k (to_publisher p note ∷ puts) = part_stream o k puts
+part_stream o k (to_timers note ∷ puts) = part_stream o k puts
+part_stream o k (to_queue r note ∷ puts) = by_case (r == k) refl (is_of o note) refl (part_stream o k puts)
+  where
+    by_case : (c : Bool) → (r == k) ≡ c → (d : Bool) → is_of o note ≡ d → filter (is_of o) (flat_map (queue_part k) puts) ≡ by_port k (stream_of o puts)
+        → filter (is_of o) (cond c (note ∷ []) [] ++ flat_map (queue_part k) puts) ≡ by_port k (cond d ((r, note) ∷ []) [] ++ stream_of o puts)
+    by_case true at true is ih = ap (λ (c : Bool). cond c (note ∷ filter (is_of o) (flat_map (queue_part k) puts)) (filter (is_of o) (flat_map (queue_part k) puts))) is
+        ∙ ap (λ (ws : List QueueNote). note ∷ ws) ih ∙ ap (λ (c : Bool). cond c (note ∷ by_port k (stream_of o puts)) (by_port k (stream_of o puts))) (sym at)
+    by_case true at false is ih = ap (λ (c : Bool). cond c (note ∷ filter (is_of o) (flat_map (queue_part k) puts)) (filter (is_of o) (flat_map (queue_part k) puts))) is ∙ ih
+    by_case false at true is ih = ih ∙ ap (λ (c : Bool). cond c (note ∷ by_port k (stream_of o puts)) (by_port k (stream_of o puts))) (sym at)
+    by_case false at false is ih = ih
+
+from_map : (k : ℕ) (f : MarketMsg → QueueNote) (ms : List MarketMsg) → by_port k (map (λ m. (k, f m)) ms) ≡ map f ms
+from_map k f [] = refl
+from_map k f (m ∷ ms) = ap (λ (c : Bool). cond c (f m ∷ by_port k (map (λ m. (k, f m)) ms)) (by_port k (map (λ m. (k, f m)) ms))) (eq-eqb k k refl) ∙ ap (λ (ws : List QueueNote). f m ∷ ws) (from_map k f ms)
+
+on_one_queue : (k : ℕ) (first last : QueueNote) (f : MarketMsg → QueueNote) (ms : List MarketMsg) → by_port k ((k, first) ∷ (map (λ m. (k, f m)) ms ++ (k, last) ∷ [])) ≡ first ∷ (map f ms ++ last ∷ [])
+on_one_queue k first last f ms =
+    let rest : List (ℕ × QueueNote) = map (λ m. (k, f m)) ms ++ (k, last) ∷ [] in
+    ap (λ (c : Bool). cond c (first ∷ by_port k rest) (by_port k rest)) (eq-eqb k k refl)
+    ∙ ap (λ (ws : List QueueNote). first ∷ ws) (by_port-append k (map (λ m. (k, f m)) ms) ((k, last) ∷ [])
+    ∙ ap (λ (ws : List QueueNote). ws ++ by_port k ((k, last) ∷ [])) (from_map k f ms)
+    ∙ ap (λ (c : Bool). map f ms ++ cond c (last ∷ []) []) (eq-eqb k k refl))
+
+pub sub_journals : RoundsGiveSubsTheirStreams
+sub_journals script run orderly is = record {
+  each = λ s terms small says on.
+      let shape : Shape = script.shape in
+      let edges = whole_edges script run is in
+      let es : List BridgeEvent = heard shape run.bridge in
+      let k : ℕ = terms.queue in
+      let journal : List (ℕ × QueueNote) = slice_index_or run.queues k [] in
+      let heard_terms : first_said (terms_in s) es ≡ Some terms =
+      terms_heard shape s small run.bridge ∙ ap (first_said (terms_noted s)) (edges.bridge s.client ∙ ap (put_on_bridge (setting_of script) (client_puts script run.clients) run.publishers run.queues) (putter_client shape s.client small))
+      ∙ terms_said s (client_puts script run.clients s.client) ∙ says in
+      let was = was_live shape s run.bridge
+      (λ before e after same settling. no_late_join shape before e after (λ c less. subst (λ (j : List (ℕ × BridgeNote)). SaidLast is_client_done (by_port c j)) same (said script run orderly.shaped edges c less)) settling)
+      (said_came s es terms heard_terms) in
+      let dead : is_live shape s es ≡ false = ap (λ (c : Bool). lives (joins_sub s) (leaves_sub s) es && not c) (ending_came script run orderly.shaped is) ∙ none_and (lives (joins_sub s) (leaves_sub s) es) in
+      let stream = subs_streams shape run.bridge s terms was dead heard_terms in
+      record {
+        slot = stream.slot;
+        tag = stream.tag;
+        whole = one_port (Sub s) journal (λ port apart. other shape s k journal port apart (edges.queues k on port))
+            ∙ ap (filter (is_of (Sub s))) (edges.queues k on 0) ∙ part_stream (Sub s) k (bridge_puts shape run.bridge) ∙ ap (by_port k) stream.whole
+            ∙ on_one_queue k (q.Create stream.slot (Sub s) (make.Sub terms.kind terms.cache) stream.tag) (q.Gone stream.slot (Sub s)) (λ m. q.Deliver stream.slot s m) (through terms.faults (window shape s es));
+      };
+}
+  where
+    none_and : (c : Bool) → (c && false) ≡ false
+    none_and true = refl
+    none_and false = refl
+
+    other : (shape : Shape) (s : SubId) (k : ℕ) (journal : List (ℕ × QueueNote)) (port : ℕ) → (port ≡ 0 → ⊥) → by_port port journal ≡ put_on_queue shape run.bridge run.timers k (queue_putter port) → filter (is_of (Sub s)) (by_port port journal) ≡ []
+    other shape s k journal port apart put = ap (filter (is_of (Sub s))) put
+        ∙ by_queue_port (λ n who. (n ≡ 0 → ⊥) → filter (is_of (Sub s)) (put_on_queue shape run.bridge run.timers k who) ≡ []) (λ away. absurd (away refl))
+        (λ away. filter_none s k (timers_puts shape run.timers) (timers_none s shape (timing.heard shape run.timers))) (λ n past away. refl) port apart
