@@ -16,3 +16,6 @@ pub mod Lives
 pub mod Deliveries
 pub mod SubStreams
 pub mod SubJournals
+pub mod InboxLives
+pub mod InboxDeliveries
+pub mod InboxStreams

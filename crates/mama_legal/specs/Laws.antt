@@ -2,11 +2,13 @@
 use Rattle.std.specs.Prelude.{◌≡◌, ℕ, ◌<◌, Bool, false, List, length, Option, Some}
 use Rattle.mama_journal.specs.Journal.{first_said}
 use Rattle.mama_event.specs.declared.ids.SubId.{SubId}
-use Rattle.mama_event.specs.declared.ids.ObjectId.TheVariants.{Sub}
+use Rattle.mama_event.specs.declared.ids.InboxId.{InboxId}
+use Rattle.mama_event.specs.declared.ids.ObjectId.TheVariants.{Sub, Inbox}
 use Rattle.mama_event.specs.declared.shape.Shape.{Shape}
 use Rattle.mama_event.specs.declared.to_bridge.SubTerms.{SubTerms}
+use Rattle.mama_event.specs.declared.to_bridge.InboxTerms.{InboxTerms}
 use Rattle.mama_event.specs.declared.to_bridge.BridgeNote.{BridgeNote}
-use Rattle.mama_rules.specs.Bridge.{heard, is_live, terms_in, window, bridge_puts}
+use Rattle.mama_rules.specs.Bridge.{heard, is_live, is_open, terms_in, inbox_terms_in, window, reply_window, bridge_puts}
 use Rattle.mama_script.specs.Script.{ScriptData}
 use Rattle.mama_script.specs.Tree.{IsShaped}
 use Rattle.mama_record.specs.RunData.{RunData}
@@ -14,7 +16,7 @@ use Rattle.mama_rounds.specs.Round.{IsRound}
 use Rattle.mama_legal.specs.Edges.{AreEdges}
 use Rattle.mama_legal.specs.Lines.{AreLines}
 use Rattle.mama_legal.specs.Last.{HaveLast}
-use Rattle.mama_legal.specs.Streams.{WasLive, IsSubStream, stream_of, AreSubStreams}
+use Rattle.mama_legal.specs.Streams.{WasLive, WasOpen, IsSubStream, IsInboxStream, stream_of, AreSubStreams, AreInboxStreams}
 use Rattle.mama_legal.specs.Calls.{IsShapedFor, AreCalls}
 
 -- in the record of a run in rounds every edge is whole
@@ -56,3 +58,11 @@ SubsGetTheirStreams = (shape : Shape) (journal : List (ℕ × BridgeNote)) (s : 
 -- in the record of a run in rounds the journals of queues have the streams of the subscriptions
 abbrev pub RoundsGiveSubsTheirStreams : Type 0
 RoundsGiveSubsTheirStreams = (script : ScriptData) (run : RunData) → IsOrderly script → IsRound script run → AreSubStreams script run
+
+-- the same of inboxes, of the bridge's rules alone and of a record
+abbrev pub InboxesGetTheirStreams : Type 0
+InboxesGetTheirStreams = (shape : Shape) (journal : List (ℕ × BridgeNote)) (i : InboxId) (terms : InboxTerms) → WasOpen shape i (heard shape journal) → is_open shape i (heard shape journal) ≡ false
+    → first_said (inbox_terms_in i) (heard shape journal) ≡ Some terms → IsInboxStream i terms (reply_window shape i (heard shape journal)) (stream_of (Inbox i) (bridge_puts shape journal))
+
+abbrev pub RoundsGiveInboxesTheirStreams : Type 0
+RoundsGiveInboxesTheirStreams = (script : ScriptData) (run : RunData) → IsOrderly script → IsRound script run → AreInboxStreams script run

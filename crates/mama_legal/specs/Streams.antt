@@ -2,12 +2,15 @@
 use Rattle.std.specs.Prelude.{◌≡◌, ℕ, Bool, true, false, List, [], ◌∷◌, ◌++◌, ◌<◌, map, filter, slice_index_or, Option, None, Some, if◌then◌else◌}
 use Rattle.std.specs.List.{flat_map}
 use Rattle.mama_journal.specs.Journal.{first_said}
+use Rattle.mama_msg.specs.Field.{FieldData}
 use Rattle.mama_link.specs.Link.{through}
 use Rattle.mama_event.specs.declared.ids.SubId.{SubId}
+use Rattle.mama_event.specs.declared.ids.InboxId.{InboxId}
 use Rattle.mama_event.specs.declared.ids.ObjectId.{ObjectId}
 use Rattle.mama_event.specs.declared.ids.ObjectId.TheVariants.{Sub, Timer, Inbox}
 use Rattle.mama_event.specs.declared.market.MarketMsg.{MarketMsg}
 use Rattle.mama_event.specs.declared.to_bridge.SubTerms.{SubTerms}
+use Rattle.mama_event.specs.declared.to_bridge.InboxTerms.{InboxTerms}
 use Rattle.mama_event.specs.declared.to_queue.Make.TheVariants as make
 use Rattle.mama_event.specs.declared.to_queue.QueueNote.{QueueNote}
 use Rattle.mama_event.specs.declared.to_queue.QueueNote.TheVariants as q
@@ -15,8 +18,8 @@ use Rattle.mama_event.specs.declared.shape.Shape.{Shape}
 use Rattle.mama_event.specs.declared.to_bridge.BridgeNote.{BridgeNote}
 use Rattle.mama_event.specs.declared.to_bridge.BridgeNote.TheVariants as b
 use Rattle.mama_event.specs.Ports.{clients_of, queues_of}
-use Rattle.mama_event.specs.Object.{same_sub, same_object}
-use Rattle.mama_rules.specs.Bridge.{BridgePut, to_publisher, to_queue, to_timers, BridgeEvent, heard, is_live, window}
+use Rattle.mama_event.specs.Object.{same_sub, same_inbox, same_object}
+use Rattle.mama_rules.specs.Bridge.{BridgePut, to_publisher, to_queue, to_timers, BridgeEvent, heard, is_live, is_open, window, reply_window}
 use Rattle.mama_queue_rules.specs.Queue.{QueuePut}
 use Rattle.mama_queue_rules.specs.Queue as queue
 use Rattle.mama_script.specs.Script.{ScriptData}
@@ -56,6 +59,20 @@ pub record WasLive (shape : Shape) (s : SubId) (es : List BridgeEvent) : Type 0 
   pub whole : es ≡ before ++ after
   pub live : is_live shape s before ≡ true
 
+-- The stream of an inbox with these terms: its Create, what its link lets through of the replies, and its Gone.
+pub record IsInboxStream (i : InboxId) (terms : InboxTerms) (window : List (List FieldData)) (stream : List (ℕ × QueueNote)) : Type 0 where
+  pub slot : ℕ
+  pub tag : ObjectId
+  pub whole : stream ≡ (terms.queue, q.Create slot (Inbox i) make.Inbox tag)
+      ∷ (map (λ m. (terms.queue, q.Reply slot i m)) (through terms.faults window) ++ (terms.queue, q.Gone slot (Inbox i)) ∷ [])
+
+-- an inbox was open once
+pub record WasOpen (shape : Shape) (i : InboxId) (es : List BridgeEvent) : Type 0 where
+  pub before : List BridgeEvent
+  pub after : List BridgeEvent
+  pub whole : es ≡ before ++ after
+  pub live : is_open shape i before ≡ true
+
 -- THE JOURNALS OF A RECORD
 
 -- the events of an object in the journal of a queue
@@ -86,3 +103,29 @@ pub record IsSubJournal (s : SubId) (terms : SubTerms) (window : List MarketMsg)
 pub record AreSubStreams (script : ScriptData) (run : RunData) : Type 0 where
   pub each : (s : SubId) (terms : SubTerms) → s.client < clients_of script.shape → terms_of script run s ≡ Some terms → terms.queue < queues_of script.shape
       → IsSubJournal s terms (window script.shape s (heard script.shape run.bridge)) (slice_index_or run.queues terms.queue [])
+
+-- with what terms a put opens an inbox
+abbrev pub inbox_terms_noted : InboxId → BridgeNote → Option InboxTerms
+inbox_terms_noted i (b.OpenInbox j terms tag) = if same_inbox j i then Some terms else None
+inbox_terms_noted i _ = None
+
+abbrev pub inbox_terms_put : InboxId → QueuePut → Option InboxTerms
+inbox_terms_put i (queue.to_bridge note) = inbox_terms_noted i note
+inbox_terms_put i (queue.to_timers note) = None
+
+-- the terms with which the lines of its client open an inbox
+abbrev pub inbox_terms_of : ScriptData → RunData → InboxId → Option InboxTerms
+inbox_terms_of script run i = first_said (inbox_terms_put i) (client_puts script run.clients i.client)
+
+-- A queue's journal has of an inbox its Create, what its link lets through of the replies put while it was open, and its
+-- Gone.
+pub record IsInboxJournal (i : InboxId) (terms : InboxTerms) (window : List (List FieldData)) (journal : List (ℕ × QueueNote)) : Type 0 where
+  pub slot : ℕ
+  pub tag : ObjectId
+  pub whole : events_of (Inbox i) journal
+      ≡ q.Create slot (Inbox i) make.Inbox tag ∷ (map (λ m. q.Reply slot i m) (through terms.faults window) ++ q.Gone slot (Inbox i) ∷ [])
+
+-- So it is with each inbox that the script opens, in the journal of its queue.
+pub record AreInboxStreams (script : ScriptData) (run : RunData) : Type 0 where
+  pub each : (i : InboxId) (terms : InboxTerms) → i.client < clients_of script.shape → inbox_terms_of script run i ≡ Some terms → terms.queue < queues_of script.shape
+      → IsInboxJournal i terms (reply_window script.shape i (heard script.shape run.bridge)) (slice_index_or run.queues terms.queue [])

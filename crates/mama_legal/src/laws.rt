@@ -1,4 +1,4 @@
-ghost use Rattle.mama_legal.specs.Laws.{RoundsAreWhole, RoundsAreShaped, RoundsTellCalls, RoundsGiveOneRecord, RoundsDoAllLines, RoundsHaveLast, SubsGetTheirStreams, RoundsGiveSubsTheirStreams};
+ghost use Rattle.mama_legal.specs.Laws.{RoundsAreWhole, RoundsAreShaped, RoundsTellCalls, RoundsGiveOneRecord, RoundsDoAllLines, RoundsHaveLast, SubsGetTheirStreams, RoundsGiveSubsTheirStreams, InboxesGetTheirStreams};
 
 /// A law: in the record of a run in rounds every edge is whole: what each actor took by each port is all that was put
 /// there, in order.
@@ -43,4 +43,10 @@ pub fn subs_get_their_streams()
 /// `Create`, what its link lets through of its window, and its `Gone`, and nothing else.
 pub fn rounds_give_subs_their_streams()
     ensures { RoundsGiveSubsTheirStreams }
+{}
+
+/// A law of the bridge's rules alone, for every journal: of an inbox that was open and is so no more, all that goes to its
+/// queue is its `Create`, what its link lets through of the replies put while it was open, and its `Gone`, in one slot.
+pub fn inboxes_get_their_streams()
+    ensures { InboxesGetTheirStreams }
 {}

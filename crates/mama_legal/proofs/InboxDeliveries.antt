@@ -1,0 +1,205 @@
+-- What one entry of the bridge puts for an inbox.
+use Rattle.std.specs.Prelude.{not, filter, position, Option, None, Some, is_some, ◌-◌}
+use Rattle.std.specs.List.{flat_map, list_any}
+use Rattle.std.proofs.Common.{◌≡◌, ℕ, zero, suc, ◌+◌, ◌==◌, Bool, true, false, ◌&&◌, ◌||◌, cond, List, [], ◌∷◌, ◌++◌, length, map, refl, sym, ◌∙◌, ap, subst, inl, inr, ⊎_elim, append-nil, append_assoc}
+use Rattle.std.proofs.lemmas.Bool.{both_ways, cases_Bool}
+use Rattle.mama_journal.specs.Journal.{puts, all_puts, turns, first_said, numbers_below, count_of}
+use Rattle.mama_msg.specs.Field.{FieldData}
+use Rattle.mama_link.specs.Link.{rest}
+use Rattle.mama_event.specs.declared.ids.SubId.{SubId}
+use Rattle.mama_event.specs.declared.ids.InboxId.{InboxId}
+use Rattle.mama_event.specs.declared.ids.ObjectId.{ObjectId}
+use Rattle.mama_event.specs.declared.ids.ObjectId.TheVariants.{Sub, Timer, Inbox}
+use Rattle.mama_event.specs.declared.market.MarketMsg.{MarketMsg}
+use Rattle.mama_event.specs.declared.market.MsgKind.TheVariants.{Initial, Recap}
+use Rattle.mama_event.specs.declared.market.SubKind.{SubKind}
+use Rattle.mama_event.specs.declared.market.SubKind.TheVariants.{Market, Snapshot, Basic}
+use Rattle.mama_event.specs.declared.shape.Shape.{Shape}
+use Rattle.mama_event.specs.declared.to_bridge.InboxTerms.{InboxTerms}
+use Rattle.mama_event.specs.declared.to_publisher.PublisherNote.{PublisherNote}
+use Rattle.mama_event.specs.declared.to_publisher.PublisherNote.TheVariants as p
+use Rattle.mama_event.specs.declared.to_timers.TimersNote.TheVariants as t
+use Rattle.mama_event.specs.declared.to_queue.Make.TheVariants as make
+use Rattle.mama_event.specs.declared.to_queue.QueueNote.{QueueNote}
+use Rattle.mama_event.specs.declared.to_queue.QueueNote.TheVariants as q
+use Rattle.mama_event.specs.Ports.{publishers_of, queues_of}
+use Rattle.mama_event.specs.Object.{same_inbox, same_object}
+use Rattle.mama_rules.specs.Bridge.{BridgeEvent, joins, leaves, opens, closes, asks, publishes, images, replies, wishes, client_done, sends_done, settled, bye, no_event, BridgePut, to_publisher, to_queue, to_timers, is_settling, has_ending, is_live, is_open, terms_in, inbox_terms_in, joins_sub, opens_inbox, closes_inbox, live_subs, open_inboxes, sent_with, window, reply_window, replied_to, faults_of, inbox_faults_of, place_of, free_slot, to_found, to_first, wants_image, delivered, replied, gone, passed_on, passed, passed_reply, ended, ended_inbox, may_wish, answer, settle_begins, ending_comes, bridge_reaction}
+use Rattle.mama_legal.specs.Streams.{is_of, put_for}
+use Rattle.mama_legal.proofs.Lives.{is_word}
+use Rattle.mama_legal.proofs.InboxLives.{same_inbox-is, same_inbox-itself, stream, stream-append, stream_flat, delivered_away, replied_other, gone_other, over_open}
+
+-- ---- what is for others
+
+sub_away : (s : InboxId) (r : SubId) (shape : Shape) (es : List BridgeEvent) (sofar : List BridgePut) → stream s (ended shape es sofar r) ≡ []
+sub_away s r shape es sofar =
+    let held : List MarketMsg = rest (faults_of (first_said (terms_in r) es)) (window shape r es) in
+    stream-append s (delivered r sofar held) (gone (Sub r) sofar)
+    ∙ ap (λ (ws : List (ℕ × QueueNote)). ws ++ stream s (gone (Sub r) sofar)) (delivered_away s r sofar held) ∙ gone_other s (Sub r) sofar refl
+
+ended_other : (s i : InboxId) (shape : Shape) (es : List BridgeEvent) (sofar : List BridgePut) → same_inbox i s ≡ false → stream s (ended_inbox shape es sofar i) ≡ []
+ended_other s i shape es sofar other =
+    let held : List (List FieldData) = rest (inbox_faults_of (first_said (inbox_terms_in i) es)) (reply_window shape i es) in
+    stream-append s (replied i sofar held) (gone (Inbox i) sofar)
+    ∙ ap (λ (ws : List (ℕ × QueueNote)). ws ++ stream s (gone (Inbox i) sofar)) (replied_other s i sofar held other) ∙ gone_other s (Inbox i) sofar other
+
+passed_away : (s : InboxId) (r : SubId) (shape : Shape) (es : List BridgeEvent) (sofar : List BridgePut) (e : BridgeEvent) → stream s (passed shape es sofar e r) ≡ []
+passed_away s r shape es sofar e =
+    let terms = first_said (terms_in r) es in
+    delivered_away s r sofar (passed_on (faults_of terms) (window shape r es) (sent_with shape r terms e))
+
+passed_other : (s i : InboxId) (shape : Shape) (es : List BridgeEvent) (sofar : List BridgePut) (e : BridgeEvent) → same_inbox i s ≡ false → stream s (passed_reply shape es sofar e i) ≡ []
+passed_other s i shape es sofar e other =
+    let terms = first_said (inbox_terms_in i) es in
+    replied_other s i sofar (passed_on (inbox_faults_of terms) (reply_window shape i es) (replied_to i e)) other
+
+stream_first : (s : InboxId) (shape : Shape) (topic : ℕ) (note : PublisherNote) → stream s (to_first shape topic note) ≡ []
+stream_first s shape topic note = found (position (λ t. t == topic) shape.publisher_topics)
+  where
+    found : (o : Option ℕ) → stream s (to_found o note) ≡ []
+    found None = refl
+    found (Some r) = refl
+
+stream_wants : (s : InboxId) (r : SubId) (shape : Shape) (kind : SubKind) (topic : ℕ) → stream s (wants_image shape r kind topic) ≡ []
+stream_wants s r shape Basic topic = refl
+stream_wants s r shape Market topic = stream_first s shape topic (p.Want r Initial)
+stream_wants s r shape Snapshot topic = stream_first s shape topic (p.Want r Initial)
+
+stream_cond : (s : InboxId) (b : Bool) (xs : List BridgePut) → stream s (cond b xs []) ≡ cond b (stream s xs) []
+stream_cond s true xs = refl
+stream_cond s false xs = refl
+
+none_cond : (s : InboxId) (b : Bool) (xs : List BridgePut) → stream s xs ≡ [] → stream s (cond b xs []) ≡ []
+none_cond s true xs none = none
+none_cond s false xs none = refl
+
+-- ---- what is sent into its link
+
+pub quiet : (s : InboxId) (e : BridgeEvent) → is_word e ≡ true → replied_to s e ≡ []
+quiet s (client_done c) word = refl
+quiet s (sends_done r) word = refl
+quiet s (settled r) word = refl
+quiet s _ word = absurd (both_ways false refl word)
+
+passed_none : (s : InboxId) (shape : Shape) (es : List BridgeEvent) (sofar : List BridgePut) (e : BridgeEvent) → replied_to s e ≡ [] → stream s (passed_reply shape es sofar e s) ≡ []
+passed_none s shape es sofar e none =
+    ap (λ (ms : List (List FieldData)). stream s (replied s sofar (passed_on (inbox_faults_of (first_said (inbox_terms_in s) es)) (reply_window shape s es) ms))) none
+
+live_none : (live : Bool) (ws : List (ℕ × QueueNote)) → ws ≡ [] → [] ≡ cond live ws []
+live_none true ws none = sym none
+live_none false ws none = refl
+
+nothing_for : (shape : Shape) (s : InboxId) (es : List BridgeEvent) (sofar : List BridgePut) (e : BridgeEvent) → replied_to s e ≡ [] → [] ≡ cond (is_open shape s es) (stream s (passed_reply shape es sofar e s)) []
+nothing_for shape s es sofar e none = live_none (is_open shape s es) (stream s (passed_reply shape es sofar e s)) (passed_none s shape es sofar e none)
+
+-- ---- the answer to an event, where an opening of it is not the first
+
+pub answer_stream : (shape : Shape) (s : InboxId) (es : List BridgeEvent) (sofar : List BridgePut) (e : BridgeEvent) → (opens_inbox s e ≡ true → list_any (opens_inbox s) es ≡ true)
+    → stream s (answer shape es sofar e) ≡ cond (is_open shape s es) (cond (closes_inbox s e) (stream s (ended_inbox shape es sofar s)) (stream s (passed_reply shape es sofar e s))) []
+answer_stream shape s es sofar (opens r terms tag) again = by_case (same_inbox r s) refl ∙ nothing_for shape s es sofar (opens r terms tag) refl
+  where
+    put : List BridgePut
+    put = to_queue terms.queue (q.Create (free_slot shape es sofar terms.queue) (Inbox r) make.Inbox tag) ∷ []
+
+    known : (b : Bool) → same_inbox r s ≡ b → is_some (cond (same_inbox r s) (Some terms) None) ≡ b
+    known true same = ap (λ (b : Bool). is_some (cond b (Some terms) None)) same
+    known false same = ap (λ (b : Bool). is_some (cond b (Some terms) None)) same
+
+    either : (b : Bool) → stream s put ≡ [] → stream s (cond b [] put) ≡ []
+    either true none = refl
+    either false none = none
+
+    by_case : (b : Bool) → same_inbox r s ≡ b → stream s (cond (list_any (opens_inbox r) es) [] put) ≡ []
+    by_case true same = ap (λ (b : Bool). stream s (cond b [] put)) (ap (λ (u : InboxId). list_any (opens_inbox u) es) (same_inbox-is r s same) ∙ again (known true same))
+    by_case false same = either (list_any (opens_inbox r) es)
+        (ap (λ (b : Bool). cond b ((terms.queue, q.Create (free_slot shape es sofar terms.queue) (Inbox r) make.Inbox tag) ∷ []) [] ++ []) same)
+answer_stream shape s es sofar (closes r) again = by_case (same_inbox r s) refl
+  where
+    by_case : (b : Bool) → same_inbox r s ≡ b → stream s (cond (is_open shape r es) (ended_inbox shape es sofar r) [])
+        ≡ cond (is_open shape s es) (cond (same_inbox r s) (stream s (ended_inbox shape es sofar s)) (stream s (passed_reply shape es sofar (closes r) s))) []
+    by_case true same =
+        ap (λ (u : InboxId). stream s (cond (is_open shape u es) (ended_inbox shape es sofar u) [])) (same_inbox-is r s same) ∙ stream_cond s (is_open shape s es) (ended_inbox shape es sofar s)
+        ∙ ap (λ (b : Bool). cond (is_open shape s es) (cond b (stream s (ended_inbox shape es sofar s)) (stream s (passed_reply shape es sofar (closes r) s))) []) (sym same)
+    by_case false same = none_cond s (is_open shape r es) (ended_inbox shape es sofar r) (ended_other s r shape es sofar same)
+        ∙ nothing_for shape s es sofar (closes r) refl
+        ∙ ap (λ (b : Bool). cond (is_open shape s es) (cond b (stream s (ended_inbox shape es sofar s)) (stream s (passed_reply shape es sofar (closes r) s))) []) (sym same)
+answer_stream shape s es sofar (joins r terms tag) again =
+    either (list_any (joins_sub r) es) ∙ nothing_for shape s es sofar (joins r terms tag) refl
+  where
+    either : (b : Bool) → stream s (cond b [] (to_queue terms.queue (q.Create (free_slot shape es sofar terms.queue) (Sub r) (make.Sub terms.kind terms.cache) tag) ∷ wants_image shape r terms.kind terms.topic)) ≡ []
+    either true = refl
+    either false = stream_wants s r shape terms.kind terms.topic
+answer_stream shape s es sofar (leaves r) again = none_cond s (is_live shape r es) (ended shape es sofar r) (sub_away s r shape es sofar) ∙ nothing_for shape s es sofar (leaves r) refl
+answer_stream shape s es sofar (asks i topic fids) again =
+    none_cond s (is_open shape i es && not (is_settling shape es)) (to_first shape topic (p.Ask i fids)) (stream_first s shape topic (p.Ask i fids)) ∙ nothing_for shape s es sofar (asks i topic fids) refl
+answer_stream shape s es sofar (publishes r msg) again =
+    stream_flat s (passed shape es sofar (publishes r msg)) (live_subs shape es) (λ u. passed_away s u shape es sofar (publishes r msg)) ∙ nothing_for shape s es sofar (publishes r msg) refl
+answer_stream shape s es sofar (images r msg) again =
+    none_cond s (is_live shape r es) (passed shape es sofar (images r msg) r) (passed_away s r shape es sofar (images r msg)) ∙ nothing_for shape s es sofar (images r msg) refl
+answer_stream shape s es sofar (replies i body) again = by_case (same_inbox i s) refl
+  where
+    by_case : (b : Bool) → same_inbox i s ≡ b → stream s (cond (is_open shape i es) (passed_reply shape es sofar (replies i body) i) []) ≡ cond (is_open shape s es) (stream s (passed_reply shape es sofar (replies i body) s)) []
+    by_case true same = ap (λ (u : InboxId). stream s (cond (is_open shape u es) (passed_reply shape es sofar (replies i body) u) [])) (same_inbox-is i s same) ∙ stream_cond s (is_open shape s es) (passed_reply shape es sofar (replies i body) s)
+    by_case false same = none_cond s (is_open shape i es) (passed_reply shape es sofar (replies i body) i) (passed_other s i shape es sofar (replies i body) same)
+        ∙ nothing_for shape s es sofar (replies i body) (ap (λ (b : Bool). cond b (body ∷ []) []) same)
+answer_stream shape s es sofar (wishes r sender) again =
+    none_cond s (is_live shape r es && may_wish shape es sofar r sender (first_said (terms_in r) es)) (to_publisher (sender - 1) (p.Want r Recap) ∷ []) refl ∙ nothing_for shape s es sofar (wishes r sender) refl
+answer_stream shape s es sofar (client_done c) again = nothing_for shape s es sofar (client_done c) refl
+answer_stream shape s es sofar (sends_done r) again = nothing_for shape s es sofar (sends_done r) refl
+answer_stream shape s es sofar (settled r) again = nothing_for shape s es sofar (settled r) refl
+answer_stream shape s es sofar (bye k) again = nothing_for shape s es sofar (bye k) refl
+answer_stream shape s es sofar no_event again = nothing_for shape s es sofar no_event refl
+
+-- the first opening of it
+pub join_stream : (shape : Shape) (s : InboxId) (es : List BridgeEvent) (sofar : List BridgePut) (terms : InboxTerms) (tag : ObjectId) → list_any (opens_inbox s) es ≡ false
+    → stream s (answer shape es sofar (opens s terms tag)) ≡ (terms.queue, q.Create (free_slot shape es sofar terms.queue) (Inbox s) make.Inbox tag) ∷ []
+join_stream shape s es sofar terms tag new =
+    let made : ℕ × QueueNote = (terms.queue, q.Create (free_slot shape es sofar terms.queue) (Inbox s) make.Inbox tag) in
+    ap (λ (b : Bool). stream s (cond b [] (to_queue terms.queue (q.Create (free_slot shape es sofar terms.queue) (Inbox s) make.Inbox tag) ∷ []))) new
+    ∙ ap (λ (b : Bool). cond b (made ∷ []) [] ++ []) (same_inbox-itself s)
+
+-- ---- settling and the ending
+
+settle_stream : (shape : Shape) (s : InboxId) (es : List BridgeEvent) (e : BridgeEvent) → stream s (settle_begins shape es e) ≡ []
+settle_stream shape s es e = none_cond s (turns (is_settling shape) es e) (map (λ r. to_publisher r p.Settle) (numbers_below (publishers_of shape))) (each (numbers_below (publishers_of shape)))
+  where
+    each : (rs : List ℕ) → stream s (map (λ r. to_publisher r p.Settle) rs) ≡ []
+    each [] = refl
+    each (r ∷ rs) = each rs
+
+ending_stream : (shape : Shape) (s : InboxId) (es : List BridgeEvent) (sofar : List BridgePut) (e : BridgeEvent)
+    → stream s (ending_comes shape es sofar e) ≡ cond (turns (has_ending shape) es e) (cond (is_open shape s es) (stream s (ended_inbox shape es sofar s)) []) []
+ending_stream shape s es sofar e =
+    let subs : List BridgePut = flat_map (ended shape es sofar) (live_subs shape es) in
+    let inboxes : List BridgePut = flat_map (ended_inbox shape es sofar) (open_inboxes shape es) in
+    let service : List BridgePut = to_timers t.Fin ∷ [] in
+    let queues : List BridgePut = map (λ k. to_queue k q.Fin) (numbers_below (queues_of shape)) in
+    let publishers : List BridgePut = map (λ r. to_publisher r p.Fin) (numbers_below (publishers_of shape)) in
+    stream_cond s (turns (has_ending shape) es e) (subs ++ inboxes ++ service ++ queues ++ publishers)
+    ∙ ap (λ (ws : List (ℕ × QueueNote)). cond (turns (has_ending shape) es e) ws [])
+    (more (subs ++ inboxes ++ service ++ queues) publishers (each_publisher (numbers_below (publishers_of shape)))
+    ∙ more (subs ++ inboxes ++ service) queues (each_queue (numbers_below (queues_of shape)))
+    ∙ more (subs ++ inboxes) service refl
+    ∙ stream-append s subs inboxes
+    ∙ ap (λ (ws : List (ℕ × QueueNote)). ws ++ stream s inboxes) (stream_flat s (ended shape es sofar) (live_subs shape es) (λ r. sub_away s r shape es sofar))
+    ∙ over_open shape s (ended_inbox shape es sofar) es (λ i other. ended_other s i shape es sofar other))
+  where
+    more : (xs ys : List BridgePut) → stream s ys ≡ [] → stream s (xs ++ ys) ≡ stream s xs
+    more xs ys none = stream-append s xs ys ∙ ap (λ (ws : List (ℕ × QueueNote)). stream s xs ++ ws) none ∙ append-nil (stream s xs)
+
+    each_publisher : (rs : List ℕ) → stream s (map (λ r. to_publisher r p.Fin) rs) ≡ []
+    each_publisher [] = refl
+    each_publisher (r ∷ rs) = each_publisher rs
+
+    each_queue : (ks : List ℕ) → stream s (map (λ k. to_queue k q.Fin) ks) ≡ []
+    each_queue [] = refl
+    each_queue (k ∷ ks) = each_queue ks
+
+-- all that one event puts for it
+pub reaction_stream : (shape : Shape) (s : InboxId) (es : List BridgeEvent) (sofar : List BridgePut) (e : BridgeEvent)
+    → stream s (bridge_reaction shape es sofar e) ≡ stream s (answer shape es sofar e) ++ cond (turns (has_ending shape) es e) (cond (is_open shape s es) (stream s (ended_inbox shape es sofar s)) []) []
+reaction_stream shape s es sofar e =
+    stream-append s (answer shape es sofar e ++ settle_begins shape es e) (ending_comes shape es sofar e)
+    ∙ ap (λ (ws : List (ℕ × QueueNote)). ws ++ stream s (ending_comes shape es sofar e))
+    (stream-append s (answer shape es sofar e) (settle_begins shape es e) ∙ ap (λ (ws : List (ℕ × QueueNote)). stream s (answer shape es sofar e) ++ ws) (settle_stream shape s es e) ∙ append-nil (stream s (answer shape es sofar e)))
+    ∙ ap (λ (ws : List (ℕ × QueueNote)). stream s (answer shape es sofar e) ++ ws) (ending_stream shape s es sofar e)
