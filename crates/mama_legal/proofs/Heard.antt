@@ -259,13 +259,42 @@ settled_publisher shape es p small h =
     below_at (publishers_of shape) (λ p. list_any (ends_sends p) es) p small
     (and_parts (all_below (clients_of shape) (λ c. list_any (ends_client c) es)) (all_below (publishers_of shape) (λ r. list_any (ends_sends r) es)) h).1
 
-pub no_late_join : (shape : Shape) (before : List (ℕ × BridgeNote)) (e : ℕ × BridgeNote) (after : List (ℕ × BridgeNote))
-    → ((c : ℕ) → c < clients_of shape → SaidLast is_client_done (by_port c (before ++ e ∷ after))) → is_settling shape (heard shape before) ≡ true → is_joining (put_by (bridge_putter shape e.0) e.1) ≡ false
-no_late_join shape before e after said settling = false_from_ne_true (is_joining (put_by (bridge_putter shape e.0) e.1)) (λ joining.
-    let small : e.0 < clients_of shape = who_joins shape e.0 e.1 joining in
+no_late : (t : BridgeEvent → Bool) → ((shape : Shape) (port : ℕ) (note : BridgeNote) → t (put_by (bridge_putter shape port) note) ≡ true → port < clients_of shape) → (shape : Shape) (before : List (ℕ × BridgeNote)) (e : ℕ × BridgeNote) (after : List (ℕ × BridgeNote))
+    → ((c : ℕ) → c < clients_of shape → SaidLast is_client_done (by_port c (before ++ e ∷ after))) → is_settling shape (heard shape before) ≡ true → t (put_by (bridge_putter shape e.0) e.1) ≡ false
+no_late t who shape before e after said settling = false_from_ne_true (t (put_by (bridge_putter shape e.0) e.1)) (λ joining.
+    let small : e.0 < clients_of shape = who shape e.0 e.1 joining in
     let last = said e.0 small in
     let there : list_any is_client_done (by_port e.0 before) ≡ true =
     heard_down shape e.0 is_client_done (ends_client e.0) (λ port note. who_ends_client shape e.0 port note) before (settled_client shape (heard shape before) e.0 small settling) in
     let split : by_port e.0 before ++ e.1 ∷ by_port e.0 after ≡ last.front ++ last.last ∷ [] =
     ap (λ (b : Bool). by_port e.0 before ++ cond b (e.1 ∷ by_port e.0 after) (by_port e.0 after)) (sym (eq-eqb e.0 e.0 refl)) ∙ sym (by_port-append e.0 before (e ∷ after)) ∙ last.whole in
     both_ways (list_any is_client_done (by_port e.0 before)) (nothing_after is_client_done (by_port e.0 before) e.1 (by_port e.0 after) last.front last.last split last.before) there)
+
+pub no_late_join : (shape : Shape) (before : List (ℕ × BridgeNote)) (e : ℕ × BridgeNote) (after : List (ℕ × BridgeNote))
+    → ((c : ℕ) → c < clients_of shape → SaidLast is_client_done (by_port c (before ++ e ∷ after))) → is_settling shape (heard shape before) ≡ true → is_joining (put_by (bridge_putter shape e.0) e.1) ≡ false
+no_late_join = no_late is_joining who_joins
+
+-- ---- nor is an inbox opened
+
+abbrev pub is_opening : BridgeEvent → Bool
+is_opening (opens i terms tag) = true
+is_opening _ = false
+
+opens_publisher : (r : ℕ) (note : BridgeNote) → is_opening (from_publisher r note) ≡ false
+opens_publisher r b.Bye = refl
+opens_publisher r _ = refl
+
+opens_queue : (k : ℕ) (note : BridgeNote) → is_opening (from_queue k note) ≡ false
+opens_queue k b.Bye = refl
+opens_queue k _ = refl
+
+who_opens : (shape : Shape) (port : ℕ) (note : BridgeNote) → is_opening (put_by (bridge_putter shape port) note) ≡ true → port < clients_of shape
+who_opens shape port = by_bridge_port shape (λ port who. (note : BridgeNote) → is_opening (put_by who note) ≡ true → port < clients_of shape)
+    (λ d within note h. within)
+    (λ r within note h. absurd (both_ways (is_opening (from_publisher r note)) (opens_publisher r note) h))
+    (λ q within note h. absurd (both_ways (is_opening (from_queue q note)) (opens_queue q note) h))
+    (λ n past note h. absurd (both_ways false refl h)) port
+
+pub no_late_opening : (shape : Shape) (before : List (ℕ × BridgeNote)) (e : ℕ × BridgeNote) (after : List (ℕ × BridgeNote))
+    → ((c : ℕ) → c < clients_of shape → SaidLast is_client_done (by_port c (before ++ e ∷ after))) → is_settling shape (heard shape before) ≡ true → is_opening (put_by (bridge_putter shape e.0) e.1) ≡ false
+no_late_opening = no_late is_opening who_opens

@@ -15,7 +15,9 @@ pub mod Links
 pub mod Lives
 pub mod Deliveries
 pub mod SubStreams
+pub mod Journals
 pub mod SubJournals
 pub mod InboxLives
 pub mod InboxDeliveries
 pub mod InboxStreams
+pub mod InboxJournals

@@ -44,6 +44,7 @@ use Rattle.mama_legal.proofs.Whole.{whole_edges}
 use Rattle.mama_legal.proofs.Endings.{is_joining, ending_settles}
 use Rattle.mama_legal.proofs.Heard.{is_client_done, SaidLast, putter_client, no_late_join, no_end}
 use Rattle.mama_legal.proofs.AllSent.{said, ending_came}
+use Rattle.mama_legal.proofs.Journals.{one_port, part_stream, on_one_queue, other_ports}
 use Rattle.mama_legal.proofs.Lives.{any_last, lives-push, lives_came, ending_same, is_word}
 use Rattle.mama_legal.proofs.SubStreams.{said_came, subs_streams}
 
@@ -147,120 +148,6 @@ was_live shape s journal = by_entries (λ (j : List (ℕ × BridgeNote)).
               (ap not (ending_same shape es x is.1 ∙ yet));
         }
 
--- ---- the timers put nothing for a subscription
-
-abbrev for_sub : SubId → ℕ × QueueNote → Bool
-for_sub s x = is_of (Sub s) x.1
-
-any_flat_none : {X Y : Type 0} (test : Y → Bool) (f : X → List Y) (xs : List X) → ((x : X) → list_any test (f x) ≡ false) → list_any test (flat_map f xs) ≡ false
-any_flat_none test f [] none = refl
-any_flat_none test f (x ∷ xs) none = list_any-append test (f x) (flat_map f xs) ∙ or_from (list_any test (f x)) (list_any test (flat_map f xs)) (none x) (any_flat_none test f xs none)
-
-timer_place : (s : SubId) (place : Option (ℕ × ℕ)) (event : ℕ → QueueNote) → ((slot : ℕ) → is_of (Sub s) (event slot) ≡ false) → list_any (for_sub s) (timing.to_place place event) ≡ false
-timer_place s None event none = refl
-timer_place s (Some place) event none = or_from (is_of (Sub s) (event place.1)) false (none place.1) refl
-
-timer_cond : (s : SubId) (c : Bool) (xs : List (ℕ × QueueNote)) → list_any (for_sub s) xs ≡ false → list_any (for_sub s) (cond c xs []) ≡ false
-timer_cond s true xs none = none
-timer_cond s false xs none = refl
-
-timer_gone : (s : SubId) (sofar : List (ℕ × QueueNote)) (t : TimerId) → list_any (for_sub s) (timing.gone sofar t) ≡ false
-timer_gone s sofar t = timer_place s (timing.place_of t sofar) (λ slot. q.Gone slot (Timer t)) (λ slot. refl)
-
-timer_answer : (s : SubId) (shape : Shape) (before : List TimersEvent) (sofar : List (ℕ × QueueNote)) (e : TimersEvent) → list_any (for_sub s) (timing.answer shape before sofar e) ≡ false
-timer_answer s shape before sofar (arms t of interval tag) = made (list_any (timing.arms_timer t) before)
-  where
-    made : (c : Bool) → list_any (for_sub s) (cond c [] ((of, q.Create (timing.free_slot shape before sofar of) (Timer t) make.Timer tag) ∷ [])) ≡ false
-    made true = refl
-    made false = refl
-timer_answer s shape before sofar (disarms t) = timer_cond s (timing.is_live shape t before) (timing.gone sofar t) (timer_gone s sofar t)
-timer_answer s shape before sofar (now moment) =
-    let at : ℕ = timing.clock (before ++ now moment ∷ []) in
-    any_flat_none (for_sub s) (λ t. timing.to_place (timing.place_of t sofar) (λ slot. q.Tick slot t at)) (timing.firing shape before at)
-    (λ t. timer_place s (timing.place_of t sofar) (λ slot. q.Tick slot t at) (λ slot. refl))
-timer_answer s shape before sofar (timing.client_done c) = refl
-timer_answer s shape before sofar (timing.bye k) = refl
-timer_answer s shape before sofar timing.fin = refl
-timer_answer s shape before sofar timing.no_event = refl
-
-timer_fins : (s : SubId) (ks : List ℕ) → list_any (for_sub s) (map (λ k. (k, q.Fin)) ks) ≡ false
-timer_fins s [] = refl
-timer_fins s (k ∷ ks) = timer_fins s ks
-
-timers_none : (s : SubId) (shape : Shape) (es : List TimersEvent) → list_any (for_sub s) (all_puts (timers_reaction shape) es) ≡ false
-timers_none s shape es = by_entries (λ (xs : List TimersEvent). list_any (for_sub s) (all_puts (timers_reaction shape) xs) ≡ false) refl
-    (λ xs e ih.
-    let sofar : List (ℕ × QueueNote) = all_puts (timers_reaction shape) xs in
-    let gones : List (ℕ × QueueNote) = flat_map (timing.gone sofar) (live_timers shape xs) in
-    let fins : List (ℕ × QueueNote) = map (λ k. (k, q.Fin)) (numbers_below (queues_of shape)) in
-    ap (list_any (for_sub s)) (all_puts-push (timers_reaction shape) xs e) ∙ list_any-append (for_sub s) sofar (timers_reaction shape xs sofar e)
-    ∙ or_from (list_any (for_sub s) sofar) (list_any (for_sub s) (timers_reaction shape xs sofar e)) ih
-    (list_any-append (for_sub s) (timing.answer shape xs sofar e) (timing.ending_comes shape xs sofar e)
-    ∙ or_from (list_any (for_sub s) (timing.answer shape xs sofar e)) (list_any (for_sub s) (timing.ending_comes shape xs sofar e)) (timer_answer s shape xs sofar e)
-    (timer_cond s (turns (timing.has_ending shape) xs e) (gones ++ fins)
-    (list_any-append (for_sub s) gones fins ∙ or_from (list_any (for_sub s) gones) (list_any (for_sub s) fins)
-    (any_flat_none (for_sub s) (timing.gone sofar) (live_timers shape xs) (timer_gone s sofar)) (timer_fins s (numbers_below (queues_of shape))))))) es
-
--- ---- from the bridge's puts to a queue's journal
-
-filter_none : (s : SubId) (k : ℕ) (xs : List (ℕ × QueueNote)) → list_any (for_sub s) xs ≡ false → filter (is_of (Sub s)) (by_port k xs) ≡ []
-filter_none s k [] h = refl
-filter_none s k (x ∷ xs) h =
-    let parts = or_parts (is_of (Sub s) x.1) (list_any (for_sub s) xs) h in
-    by_case (x.0 == k) (filter_none s k xs parts.1) parts.0
-  where
-    by_case : (c : Bool) → filter (is_of (Sub s)) (by_port k xs) ≡ [] → is_of (Sub s) x.1 ≡ false → filter (is_of (Sub s)) (cond c (x.1 ∷ by_port k xs) (by_port k xs)) ≡ []
-    by_case true ih none = ap (λ (c : Bool). cond c (x.1 ∷ filter (is_of (Sub s)) (by_port k xs)) (filter (is_of (Sub s)) (by_port k xs))) none ∙ ih
-    by_case false ih none = ih
-
--- where only port 0 has events of an object, all its events came by port 0
-one_port : (o : ObjectId) (journal : List (ℕ × QueueNote)) → ((port : ℕ) → (port ≡ 0 → ⊥) → filter (is_of o) (by_port port journal) ≡ []) → events_of o journal ≡ filter (is_of o) (by_port 0 journal)
-one_port o [] none = refl
-one_port o (e ∷ es) none = by_case (is_of o e.1) refl (e.0 == 0) refl (one_port o es rest)
-  where
-    rest : (port : ℕ) → (port ≡ 0 → ⊥) → filter (is_of o) (by_port port es) ≡ []
-    rest port apart = either_port (e.0 == port) (is_of o e.1) refl (none port apart)
-      where
-        either_port : (c d : Bool) → is_of o e.1 ≡ d → filter (is_of o) (cond c (e.1 ∷ by_port port es) (by_port port es)) ≡ [] → filter (is_of o) (by_port port es) ≡ []
-        either_port false d is h = h
-        either_port true false is h = sym (ap (λ (c : Bool). cond c (e.1 ∷ filter (is_of o) (by_port port es)) (filter (is_of o) (by_port port es))) is) ∙ h
-        either_port true true is h = absurd (no_end [] e.1 (filter (is_of o) (by_port port es)) (sym (ap (λ (c : Bool). cond c (e.1 ∷ filter (is_of o) (by_port port es)) (filter (is_of o) (by_port port es))) is) ∙ h))
-
-    by_case : (d : Bool) → is_of o e.1 ≡ d → (c : Bool) → (e.0 == 0) ≡ c → events_of o es ≡ filter (is_of o) (by_port 0 es)
-        → cond (is_of o e.1) (e.1 ∷ events_of o es) (events_of o es) ≡ filter (is_of o) (cond c (e.1 ∷ by_port 0 es) (by_port 0 es))
-    by_case d is true at ih = ap (λ (ws : List QueueNote). cond (is_of o e.1) (e.1 ∷ ws) ws) ih
-    by_case false is false at ih = ap (λ (c : Bool). cond c (e.1 ∷ events_of o es) (events_of o es)) is ∙ ih
-    by_case true is false at ih = absurd (no_end [] e.1 (filter (is_of o) (by_port e.0 es))
-        (sym (ap (λ (c : Bool). filter (is_of o) (cond c (e.1 ∷ by_port e.0 es) (by_port e.0 es))) (eq-eqb e.0 e.0 refl) ∙ ap (λ (c : Bool). cond c (e.1 ∷ filter (is_of o) (by_port e.0 es)) (filter (is_of o) (by_port e.0 es))) is)
-        ∙ none e.0 (eqb-false e.0 0 at)))
-
--- of what goes to one queue, what is for an object is the part of its stream for that queue
-part_stream : (o : ObjectId) (k : ℕ) (puts : List BridgePut) → filter (is_of o) (flat_map (queue_part k) puts) ≡ by_port k (stream_of o puts)
-part_stream o k [] = refl
-part_stream o k (to_publisher p note ∷ puts) = part_stream o k puts
-part_stream o k (to_timers note ∷ puts) = part_stream o k puts
-part_stream o k (to_queue r note ∷ puts) = by_case (r == k) refl (is_of o note) refl (part_stream o k puts)
-  where
-    by_case : (c : Bool) → (r == k) ≡ c → (d : Bool) → is_of o note ≡ d → filter (is_of o) (flat_map (queue_part k) puts) ≡ by_port k (stream_of o puts)
-        → filter (is_of o) (cond c (note ∷ []) [] ++ flat_map (queue_part k) puts) ≡ by_port k (cond d ((r, note) ∷ []) [] ++ stream_of o puts)
-    by_case true at true is ih = ap (λ (c : Bool). cond c (note ∷ filter (is_of o) (flat_map (queue_part k) puts)) (filter (is_of o) (flat_map (queue_part k) puts))) is
-        ∙ ap (λ (ws : List QueueNote). note ∷ ws) ih ∙ ap (λ (c : Bool). cond c (note ∷ by_port k (stream_of o puts)) (by_port k (stream_of o puts))) (sym at)
-    by_case true at false is ih = ap (λ (c : Bool). cond c (note ∷ filter (is_of o) (flat_map (queue_part k) puts)) (filter (is_of o) (flat_map (queue_part k) puts))) is ∙ ih
-    by_case false at true is ih = ih ∙ ap (λ (c : Bool). cond c (note ∷ by_port k (stream_of o puts)) (by_port k (stream_of o puts))) (sym at)
-    by_case false at false is ih = ih
-
-from_map : (k : ℕ) (f : MarketMsg → QueueNote) (ms : List MarketMsg) → by_port k (map (λ m. (k, f m)) ms) ≡ map f ms
-from_map k f [] = refl
-from_map k f (m ∷ ms) = ap (λ (c : Bool). cond c (f m ∷ by_port k (map (λ m. (k, f m)) ms)) (by_port k (map (λ m. (k, f m)) ms))) (eq-eqb k k refl) ∙ ap (λ (ws : List QueueNote). f m ∷ ws) (from_map k f ms)
-
-on_one_queue : (k : ℕ) (first last : QueueNote) (f : MarketMsg → QueueNote) (ms : List MarketMsg) → by_port k ((k, first) ∷ (map (λ m. (k, f m)) ms ++ (k, last) ∷ [])) ≡ first ∷ (map f ms ++ last ∷ [])
-on_one_queue k first last f ms =
-    let rest : List (ℕ × QueueNote) = map (λ m. (k, f m)) ms ++ (k, last) ∷ [] in
-    ap (λ (c : Bool). cond c (first ∷ by_port k rest) (by_port k rest)) (eq-eqb k k refl)
-    ∙ ap (λ (ws : List QueueNote). first ∷ ws) (by_port-append k (map (λ m. (k, f m)) ms) ((k, last) ∷ [])
-    ∙ ap (λ (ws : List QueueNote). ws ++ by_port k ((k, last) ∷ [])) (from_map k f ms)
-    ∙ ap (λ (c : Bool). map f ms ++ cond c (last ∷ []) []) (eq-eqb k k refl))
-
 pub sub_journals : RoundsGiveSubsTheirStreams
 sub_journals script run orderly is = record {
   each = λ s terms small says on.
@@ -280,7 +167,7 @@ sub_journals script run orderly is = record {
       record {
         slot = stream.slot;
         tag = stream.tag;
-        whole = one_port (Sub s) journal (λ port apart. other shape s k journal port apart (edges.queues k on port))
+        whole = one_port (Sub s) journal (λ port apart. other_ports (Sub s) (λ t. refl) shape run.bridge run.timers k journal port apart (edges.queues k on port))
             ∙ ap (filter (is_of (Sub s))) (edges.queues k on 0) ∙ part_stream (Sub s) k (bridge_puts shape run.bridge) ∙ ap (by_port k) stream.whole
             ∙ on_one_queue k (q.Create stream.slot (Sub s) (make.Sub terms.kind terms.cache) stream.tag) (q.Gone stream.slot (Sub s)) (λ m. q.Deliver stream.slot s m) (through terms.faults (window shape s es));
       };
@@ -289,8 +176,3 @@ sub_journals script run orderly is = record {
     none_and : (c : Bool) → (c && false) ≡ false
     none_and true = refl
     none_and false = refl
-
-    other : (shape : Shape) (s : SubId) (k : ℕ) (journal : List (ℕ × QueueNote)) (port : ℕ) → (port ≡ 0 → ⊥) → by_port port journal ≡ put_on_queue shape run.bridge run.timers k (queue_putter port) → filter (is_of (Sub s)) (by_port port journal) ≡ []
-    other shape s k journal port apart put = ap (filter (is_of (Sub s))) put
-        ∙ by_queue_port (λ n who. (n ≡ 0 → ⊥) → filter (is_of (Sub s)) (put_on_queue shape run.bridge run.timers k who) ≡ []) (λ away. absurd (away refl))
-        (λ away. filter_none s k (timers_puts shape run.timers) (timers_none s shape (timing.heard shape run.timers))) (λ n past away. refl) port apart

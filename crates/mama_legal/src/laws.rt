@@ -1,4 +1,4 @@
-ghost use Rattle.mama_legal.specs.Laws.{RoundsAreWhole, RoundsAreShaped, RoundsTellCalls, RoundsGiveOneRecord, RoundsDoAllLines, RoundsHaveLast, SubsGetTheirStreams, RoundsGiveSubsTheirStreams, InboxesGetTheirStreams};
+ghost use Rattle.mama_legal.specs.Laws.{RoundsAreWhole, RoundsAreShaped, RoundsTellCalls, RoundsGiveOneRecord, RoundsDoAllLines, RoundsHaveLast, SubsGetTheirStreams, RoundsGiveSubsTheirStreams, InboxesGetTheirStreams, RoundsGiveInboxesTheirStreams};
 
 /// A law: in the record of a run in rounds every edge is whole: what each actor took by each port is all that was put
 /// there, in order.
@@ -49,4 +49,10 @@ pub fn rounds_give_subs_their_streams()
 /// queue is its `Create`, what its link lets through of the replies put while it was open, and its `Gone`, in one slot.
 pub fn inboxes_get_their_streams()
     ensures { InboxesGetTheirStreams }
+{}
+
+/// A law: in the record of a run in rounds the journal of its queue has, of each inbox that the script opens, its
+/// `Create`, what its link lets through of the replies put while it was open, and its `Gone`, and nothing else.
+pub fn rounds_give_inboxes_their_streams()
+    ensures { RoundsGiveInboxesTheirStreams }
 {}

@@ -1,0 +1,178 @@
+-- In the record of a run in rounds the journals of queues have the streams of the inboxes.
+use Rattle.std.specs.Prelude.{slice_index_or, not, filter, Option, None, Some, is_some}
+use Rattle.std.specs.List.{flat_map, list_any}
+use Rattle.std.specs.Option.{option_or}
+use Rattle.std.proofs.Common.{◌≡◌, ℕ, zero, suc, ◌+◌, ◌<◌, ◌≤◌, ◌==◌, Bool, true, false, ◌&&◌, ◌||◌, cond, List, [], ◌∷◌, ◌++◌, length, map, refl, sym, ◌∙◌, ap, subst, arith, inl, inr, ⊎_elim, append-nil, append_assoc}
+use Rattle.std.proofs.lemmas.Bool.{and_parts, and_from, or_left, or_cases, or_parts, or_from, both_ways, cases_Bool, cases_eq, eqb-true, eqb-false, eq-eqb, ne_eqb, false_from_ne_true}
+use Rattle.std.proofs.lemmas.List.{map-append}
+use Rattle.std.proofs.lemmas.List.Folds.{list_any-append}
+use Rattle.mama_journal.specs.Journal.{first_said, all_puts, turns, numbers_below}
+use Rattle.mama_journal.specs.Lane.{by_port, from_port}
+use Rattle.mama_link.specs.Link.{through}
+use Rattle.mama_event.specs.declared.ids.InboxId.{InboxId}
+use Rattle.mama_event.specs.declared.ids.ObjectId.{ObjectId}
+use Rattle.mama_event.specs.declared.ids.ObjectId.TheVariants.{Sub, Timer, Inbox}
+use Rattle.mama_event.specs.declared.ids.TimerId.{TimerId}
+use Rattle.mama_msg.specs.Field.{FieldData}
+use Rattle.mama_event.specs.declared.shape.Shape.{Shape}
+use Rattle.mama_event.specs.declared.to_bridge.InboxTerms.{InboxTerms}
+use Rattle.mama_event.specs.declared.to_bridge.BridgeNote.{BridgeNote}
+use Rattle.mama_event.specs.declared.to_bridge.BridgeNote.TheVariants as b
+use Rattle.mama_event.specs.declared.to_queue.Make.TheVariants as make
+use Rattle.mama_event.specs.declared.to_queue.QueueNote.{QueueNote}
+use Rattle.mama_event.specs.declared.to_queue.QueueNote.TheVariants as q
+use Rattle.mama_event.specs.Ports.{clients_of, publishers_of, queues_of}
+use Rattle.mama_event.specs.Object.{same_inbox, same_object}
+use Rattle.mama_rules.specs.Bridge.{BridgeEvent, joins, no_event, opens, BridgePut, to_publisher, to_queue, to_timers, from_client, from_publisher, from_queue, put_by, heard, inbox_terms_in, opens_inbox, closes_inbox, lives, is_open, is_settling, has_ending, reply_window, bridge_puts}
+use Rattle.mama_rules.specs.Timers.{TimersEvent, arms, disarms, now, timers_puts, timers_reaction, live_timers}
+use Rattle.mama_rules.specs.Timers as timing
+use Rattle.mama_rules.specs.Ports.{Putter, ByClient, bridge_putter, queue_putter}
+use Rattle.mama_queue_rules.specs.Queue.{QueuePut}
+use Rattle.mama_queue_rules.specs.Queue as queue
+use Rattle.mama_script.specs.Script.{ScriptData}
+use Rattle.mama_script.specs.Tree.{IsShaped}
+use Rattle.mama_record.specs.RunData.{RunData}
+use Rattle.mama_rounds.specs.Client.{bridge_part}
+use Rattle.mama_rounds.specs.World.{queue_part}
+use Rattle.mama_rounds.specs.Round.{setting_of, IsRound}
+use Rattle.mama_legal.specs.Edges.{client_puts, put_on_bridge, put_on_queue, AreEdges}
+use Rattle.mama_legal.specs.Streams.{is_of, put_for, stream_of, events_of, inbox_terms_noted, inbox_terms_put, inbox_terms_of, WasOpen, IsInboxJournal, AreInboxStreams}
+use Rattle.mama_legal.specs.Laws.{RoundsGiveInboxesTheirStreams}
+use Rattle.mama_legal.proofs.Lists.{by_entries, all_puts-push, by_port-append, by_port-from}
+use Rattle.mama_legal.proofs.Putters.{by_bridge_port, by_queue_port}
+use Rattle.mama_legal.proofs.Whole.{whole_edges}
+use Rattle.mama_legal.proofs.Endings.{ending_settles}
+use Rattle.mama_legal.proofs.Heard.{is_client_done, is_opening, SaidLast, putter_client, no_late_opening}
+use Rattle.mama_legal.proofs.AllSent.{said, ending_came}
+use Rattle.mama_legal.proofs.Journals.{one_port, part_stream, on_one_queue, other_ports}
+use Rattle.mama_legal.proofs.Lives.{any_last, lives-push, lives_came, ending_same, is_word}
+use Rattle.mama_legal.proofs.InboxStreams.{said_came, inboxes_streams}
+
+-- ---- which terms the bridge heard of
+
+either : {X : Type 0} (c : Bool) (x : X) → x ≡ cond c x x
+either true x = refl
+either false x = refl
+
+joins_publisher : (s : InboxId) (r : ℕ) (note : BridgeNote) → inbox_terms_in s (from_publisher r note) ≡ None
+joins_publisher s r b.Bye = refl
+joins_publisher s r _ = refl
+
+joins_queue : (s : InboxId) (k : ℕ) (note : BridgeNote) → inbox_terms_in s (from_queue k note) ≡ None
+joins_queue s k b.Bye = refl
+joins_queue s k _ = refl
+
+-- a client opens inboxes of its own alone
+joins_client : (s : InboxId) (d : ℕ) (note : BridgeNote) → inbox_terms_in s (from_client d note) ≡ cond (d == s.client) (inbox_terms_noted s note) None
+joins_client s d (b.OpenInbox r terms tag) = by_case (r.client == d) refl (d == s.client) refl
+  where
+    by_case : (a : Bool) → (r.client == d) ≡ a → (c : Bool) → (d == s.client) ≡ c → inbox_terms_in s (cond a (opens r terms tag) no_event) ≡ cond c (cond (same_inbox r s) (Some terms) None) None
+    by_case true own true same = refl
+    by_case true own false other = ap (λ (x : Bool). cond (x && r.number == s.number) (Some terms) None)
+        (ne_eqb r.client s.client (λ is. both_ways (d == s.client) other (eq-eqb d s.client (sym (eqb-true r.client d own) ∙ is))))
+    by_case false own true same = sym (ap (λ (x : Bool). cond (x && r.number == s.number) (Some terms) None)
+        (ne_eqb r.client s.client (λ is. eqb-false r.client d own (is ∙ sym (eqb-true d s.client same)))))
+    by_case false own false other = refl
+joins_client s d (b.Join i terms tag) = by_case (i.client == d)
+  where
+    by_case : (a : Bool) → inbox_terms_in s (cond a (joins i terms tag) no_event) ≡ cond (d == s.client) None None
+    by_case true = either (d == s.client) None
+    by_case false = either (d == s.client) None
+joins_client s d (b.Leave r) = either (d == s.client) None
+joins_client s d (b.CloseInbox i) = either (d == s.client) None
+joins_client s d (b.Ask i topic fids) = either (d == s.client) None
+joins_client s d (b.Publish msg) = either (d == s.client) None
+joins_client s d (b.Image r msg) = either (d == s.client) None
+joins_client s d (b.Reply i body) = either (d == s.client) None
+joins_client s d (b.RecapWish r sender) = either (d == s.client) None
+joins_client s d b.ClientDone = either (d == s.client) None
+joins_client s d b.SendsDone = either (d == s.client) None
+joins_client s d b.Settled = either (d == s.client) None
+joins_client s d b.Bye = either (d == s.client) None
+
+terms_by : (shape : Shape) (s : InboxId) → s.client < clients_of shape → (port : ℕ) (note : BridgeNote) → inbox_terms_in s (put_by (bridge_putter shape port) note) ≡ cond (port == s.client) (inbox_terms_noted s note) None
+terms_by shape s small = by_bridge_port shape (λ port who. (note : BridgeNote) → inbox_terms_in s (put_by who note) ≡ cond (port == s.client) (inbox_terms_noted s note) None)
+    (λ d within note. joins_client s d note)
+    (λ r within note. joins_publisher s r note ∙ ap (λ (c : Bool). cond c (inbox_terms_noted s note) None) (sym (ne_eqb (clients_of shape + r) s.client (λ same. absurd (omega arith)))))
+    (λ k within note. joins_queue s k note ∙ ap (λ (c : Bool). cond c (inbox_terms_noted s note) None) (sym (ne_eqb (clients_of shape + publishers_of shape + k) s.client (λ same. absurd (omega arith)))))
+    (λ n past note. ap (λ (c : Bool). cond c (inbox_terms_noted s note) None) (sym (ne_eqb n s.client (λ same. absurd (omega arith)))))
+
+terms_heard : (shape : Shape) (s : InboxId) → s.client < clients_of shape → (journal : List (ℕ × BridgeNote)) → first_said (inbox_terms_in s) (heard shape journal) ≡ first_said (inbox_terms_noted s) (by_port s.client journal)
+terms_heard shape s small [] = refl
+terms_heard shape s small (e ∷ es) =
+    ap (λ (o : Option InboxTerms). option_or o (first_said (inbox_terms_in s) (heard shape es))) (terms_by shape s small e.0 e.1) ∙ by_case (e.0 == s.client) (terms_heard shape s small es)
+  where
+    by_case : (c : Bool) → first_said (inbox_terms_in s) (heard shape es) ≡ first_said (inbox_terms_noted s) (by_port s.client es)
+        → option_or (cond c (inbox_terms_noted s e.1) None) (first_said (inbox_terms_in s) (heard shape es)) ≡ first_said (inbox_terms_noted s) (cond c (e.1 ∷ by_port s.client es) (by_port s.client es))
+    by_case true ih = ap (λ (o : Option InboxTerms). option_or (inbox_terms_noted s e.1) o) ih
+    by_case false ih = ih
+
+terms_said : (s : InboxId) (puts : List QueuePut) → first_said (inbox_terms_noted s) (flat_map bridge_part puts) ≡ first_said (inbox_terms_put s) puts
+terms_said s [] = refl
+terms_said s (queue.to_bridge note ∷ puts) = ap (λ (o : Option InboxTerms). option_or (inbox_terms_noted s note) o) (terms_said s puts)
+terms_said s (queue.to_timers note ∷ puts) = terms_said s puts
+
+-- ---- what was opened was open
+
+joins_is : (s : InboxId) (e : BridgeEvent) → opens_inbox s e ≡ true → (is_opening e ≡ true) × (is_word e ≡ false)
+joins_is s (opens r terms tag) h = (refl, refl)
+joins_is s _ h = absurd (both_ways false refl h)
+
+was_live : (shape : Shape) (s : InboxId) (journal : List (ℕ × BridgeNote))
+    → ((before : List (ℕ × BridgeNote)) (e : ℕ × BridgeNote) (after : List (ℕ × BridgeNote)) → journal ≡ before ++ e ∷ after → is_settling shape (heard shape before) ≡ true → is_opening (put_by (bridge_putter shape e.0) e.1) ≡ false)
+    → list_any (opens_inbox s) (heard shape journal) ≡ true → WasOpen shape s (heard shape journal)
+was_live shape s journal = by_entries (λ (j : List (ℕ × BridgeNote)).
+    ((before : List (ℕ × BridgeNote)) (e : ℕ × BridgeNote) (after : List (ℕ × BridgeNote)) → j ≡ before ++ e ∷ after → is_settling shape (heard shape before) ≡ true → is_opening (put_by (bridge_putter shape e.0) e.1) ≡ false)
+    → list_any (opens_inbox s) (heard shape j) ≡ true → WasOpen shape s (heard shape j))
+    (λ timely came. absurd (both_ways false refl came))
+    (λ j e ih timely came.
+    let x : BridgeEvent = put_by (bridge_putter shape e.0) e.1 in
+    let grown : heard shape (j ++ e ∷ []) ≡ heard shape j ++ x ∷ [] = map-append (λ (y : ℕ × BridgeNote). put_by (bridge_putter shape y.0) y.1) j (e ∷ []) in
+    subst (WasOpen shape s) (sym grown) (⊎_elim
+    (λ old. let was = ih (λ before y after same. timely before y (after ++ e ∷ []) (ap (λ (xs : List (ℕ × BridgeNote)). xs ++ e ∷ []) same ∙ append_assoc before (y ∷ after) (e ∷ []))) old in
+    record { before = was.before; after = was.after ++ x ∷ []; whole = ap (λ (xs : List BridgeEvent). xs ++ x ∷ []) was.whole ∙ append_assoc was.before was.after (x ∷ []); live = was.live })
+    (λ new. now (heard shape j) x new (λ settling. timely j e [] refl settling) (sym (ap (list_any (opens_inbox s)) grown) ∙ came))
+    (cases_Bool (list_any (opens_inbox s) (heard shape j))))) journal
+  where
+    now : (es : List BridgeEvent) (x : BridgeEvent) → list_any (opens_inbox s) es ≡ false → (is_settling shape es ≡ true → is_opening x ≡ false) → list_any (opens_inbox s) (es ++ x ∷ []) ≡ true → WasOpen shape s (es ++ x ∷ [])
+    now es x new late came =
+        let joined : opens_inbox s x ≡ true = ap (λ (c : Bool). c || opens_inbox s x) (sym new) ∙ sym (any_last (opens_inbox s) es x) ∙ came in
+        let is = joins_is s x joined in
+        let yet : has_ending shape es ≡ false = false_from_ne_true (has_ending shape es) (λ ended. both_ways (is_opening x) (late (ending_settles shape es ended)) is.0) in
+        record {
+          before = es ++ x ∷ [];
+          after = [];
+          whole = sym (append-nil (es ++ x ∷ []));
+          live = and_from (lives (opens_inbox s) (closes_inbox s) (es ++ x ∷ [])) (not (has_ending shape (es ++ x ∷ [])))
+              (lives-push (opens_inbox s) (closes_inbox s) es x ∙ ap (λ (c : Bool). cond c (lives (opens_inbox s) (closes_inbox s) es && not (closes_inbox s x)) (opens_inbox s x)) new ∙ joined)
+              (ap not (ending_same shape es x is.1 ∙ yet));
+        }
+
+pub inbox_journals : RoundsGiveInboxesTheirStreams
+inbox_journals script run orderly is = record {
+  each = λ s terms small says on.
+      let shape : Shape = script.shape in
+      let edges = whole_edges script run is in
+      let es : List BridgeEvent = heard shape run.bridge in
+      let k : ℕ = terms.queue in
+      let journal : List (ℕ × QueueNote) = slice_index_or run.queues k [] in
+      let heard_terms : first_said (inbox_terms_in s) es ≡ Some terms =
+      terms_heard shape s small run.bridge ∙ ap (first_said (inbox_terms_noted s)) (edges.bridge s.client ∙ ap (put_on_bridge (setting_of script) (client_puts script run.clients) run.publishers run.queues) (putter_client shape s.client small))
+      ∙ terms_said s (client_puts script run.clients s.client) ∙ says in
+      let was = was_live shape s run.bridge
+      (λ before e after same settling. no_late_opening shape before e after (λ c less. subst (λ (j : List (ℕ × BridgeNote)). SaidLast is_client_done (by_port c j)) same (said script run orderly.shaped edges c less)) settling)
+      (said_came s es terms heard_terms) in
+      let dead : is_open shape s es ≡ false = ap (λ (c : Bool). lives (opens_inbox s) (closes_inbox s) es && not c) (ending_came script run orderly.shaped is) ∙ none_and (lives (opens_inbox s) (closes_inbox s) es) in
+      let stream = inboxes_streams shape run.bridge s terms was dead heard_terms in
+      record {
+        slot = stream.slot;
+        tag = stream.tag;
+        whole = one_port (Inbox s) journal (λ port apart. other_ports (Inbox s) (λ t. refl) shape run.bridge run.timers k journal port apart (edges.queues k on port))
+            ∙ ap (filter (is_of (Inbox s))) (edges.queues k on 0) ∙ part_stream (Inbox s) k (bridge_puts shape run.bridge) ∙ ap (by_port k) stream.whole
+            ∙ on_one_queue k (q.Create stream.slot (Inbox s) make.Inbox stream.tag) (q.Gone stream.slot (Inbox s)) (λ m. q.Reply stream.slot s m) (through terms.faults (reply_window shape s es));
+      };
+}
+  where
+    none_and : (c : Bool) → (c && false) ≡ false
+    none_and true = refl
+    none_and false = refl
