@@ -21,3 +21,5 @@ pub mod InboxLives
 pub mod InboxDeliveries
 pub mod InboxStreams
 pub mod InboxJournals
+pub mod TimerLives
+pub mod TimerStreams

@@ -3,12 +3,16 @@ use Rattle.std.specs.Prelude.{◌≡◌, ℕ, ◌<◌, Bool, false, List, length
 use Rattle.mama_journal.specs.Journal.{first_said}
 use Rattle.mama_event.specs.declared.ids.SubId.{SubId}
 use Rattle.mama_event.specs.declared.ids.InboxId.{InboxId}
+use Rattle.mama_event.specs.declared.ids.TimerId.{TimerId}
 use Rattle.mama_event.specs.declared.ids.ObjectId.TheVariants.{Sub, Inbox}
 use Rattle.mama_event.specs.declared.shape.Shape.{Shape}
 use Rattle.mama_event.specs.declared.to_bridge.SubTerms.{SubTerms}
 use Rattle.mama_event.specs.declared.to_bridge.InboxTerms.{InboxTerms}
 use Rattle.mama_event.specs.declared.to_bridge.BridgeNote.{BridgeNote}
+use Rattle.mama_event.specs.declared.to_timers.TimersNote.{TimersNote}
 use Rattle.mama_rules.specs.Bridge.{heard, is_live, is_open, terms_in, inbox_terms_in, window, reply_window, bridge_puts}
+use Rattle.mama_rules.specs.Timers.{timers_puts}
+use Rattle.mama_rules.specs.Timers as timing
 use Rattle.mama_script.specs.Script.{ScriptData}
 use Rattle.mama_script.specs.Tree.{IsShaped}
 use Rattle.mama_record.specs.RunData.{RunData}
@@ -17,6 +21,7 @@ use Rattle.mama_legal.specs.Edges.{AreEdges}
 use Rattle.mama_legal.specs.Lines.{AreLines}
 use Rattle.mama_legal.specs.Last.{HaveLast}
 use Rattle.mama_legal.specs.Streams.{WasLive, WasOpen, IsSubStream, IsInboxStream, stream_of, AreSubStreams, AreInboxStreams}
+use Rattle.mama_legal.specs.Ticks.{WasArmed, ticks, timer_stream, IsTimerStream, AreTimerStreams}
 use Rattle.mama_legal.specs.Calls.{IsShapedFor, AreCalls}
 
 -- in the record of a run in rounds every edge is whole
@@ -66,3 +71,8 @@ InboxesGetTheirStreams = (shape : Shape) (journal : List (ℕ × BridgeNote)) (i
 
 abbrev pub RoundsGiveInboxesTheirStreams : Type 0
 RoundsGiveInboxesTheirStreams = (script : ScriptData) (run : RunData) → IsOrderly script → IsRound script run → AreInboxStreams script run
+
+-- and of timers, of the service's rules alone
+abbrev pub TimersGetTheirStreams : Type 0
+TimersGetTheirStreams = (shape : Shape) (journal : List (ℕ × TimersNote)) (timer : TimerId) (terms : ℕ × ℕ) → WasArmed shape timer (timing.heard shape journal) → timing.is_live shape timer (timing.heard shape journal) ≡ false
+    → first_said (timing.terms_in timer) (timing.heard shape journal) ≡ Some terms → IsTimerStream timer terms.0 (ticks shape timer (timing.heard shape journal)) (timer_stream timer (timers_puts shape journal))

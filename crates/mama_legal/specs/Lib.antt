@@ -2,5 +2,6 @@ pub mod Edges
 pub mod Lines
 pub mod Last
 pub mod Streams
+pub mod Ticks
 pub mod Calls
 pub mod Laws

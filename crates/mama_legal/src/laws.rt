@@ -1,4 +1,4 @@
-ghost use Rattle.mama_legal.specs.Laws.{RoundsAreWhole, RoundsAreShaped, RoundsTellCalls, RoundsGiveOneRecord, RoundsDoAllLines, RoundsHaveLast, SubsGetTheirStreams, RoundsGiveSubsTheirStreams, InboxesGetTheirStreams, RoundsGiveInboxesTheirStreams};
+ghost use Rattle.mama_legal.specs.Laws.{RoundsAreWhole, RoundsAreShaped, RoundsTellCalls, RoundsGiveOneRecord, RoundsDoAllLines, RoundsHaveLast, SubsGetTheirStreams, RoundsGiveSubsTheirStreams, InboxesGetTheirStreams, RoundsGiveInboxesTheirStreams, TimersGetTheirStreams};
 
 /// A law: in the record of a run in rounds every edge is whole: what each actor took by each port is all that was put
 /// there, in order.
@@ -55,4 +55,10 @@ pub fn inboxes_get_their_streams()
 /// `Create`, what its link lets through of the replies put while it was open, and its `Gone`, and nothing else.
 pub fn rounds_give_inboxes_their_streams()
     ensures { RoundsGiveInboxesTheirStreams }
+{}
+
+/// A law of the timer service's rules alone, for every journal: of a timer that was live and is so no more, all that goes
+/// to its queue is its `Create`, its ticks, and its `Gone`, in one slot.
+pub fn timers_get_their_streams()
+    ensures { TimersGetTheirStreams }
 {}
