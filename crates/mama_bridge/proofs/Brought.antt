@@ -1,7 +1,6 @@
 -- What is heard of an event, with the listener that it brought.
 use Rattle.std.specs.List.{list_any}
 use Rattle.std.proofs.Common.{◌≡◌, ℕ, Bool, true, false, cond, ◌==◌, eq-eqb, List, [], ◌∷◌, refl, sym, ◌∙◌, ap, subst}
-use Rattle.mama_event.specs.Object.{same_sub, same_inbox}
 use Rattle.mama_event.specs.ToBridge.{note_of}
 use Rattle.mama_event.specs.declared.ids.ObjectId.{ObjectId}
 use Rattle.mama_event.specs.declared.ids.SubId.{SubId}
@@ -16,6 +15,7 @@ use Rattle.mama_event.specs.declared.to_queue.Make.TheVariants as make
 use Rattle.mama_event.specs.declared.to_queue.QueueNote.TheVariants as q
 use Rattle.mama_rules.specs.Bridge.{BridgeEvent, no_event, joins, opens, from_publisher, from_queue, BridgePut, to_queue, wants_image}
 use Rattle.mama_bridge_rules.specs.Table.{Table, table_puts, has_joined, has_opened, slot_for}
+use Rattle.mama_bridge.specs.Ids.{is_sub_among, is_inbox_among}
 use Rattle.mama_bridge.specs.declared.out.BridgeOut.{BridgeOut}
 use Rattle.mama_bridge.specs.declared.desk.Desk.{Desk}
 use Rattle.mama_bridge.specs.Outs.{brought, is_create}
@@ -69,32 +69,32 @@ module _ {L : Type 0} (tagged : L → ObjectId) where
   hears_queue shape n given before after o0 o1 = hears_plain shape (from_queue n (note_of tagged given)) given before after o0 o1 refl
 
   pub hears_join : (shape : Shape) (s : SubId) (terms : SubTerms) (listener : L) (before after : Desk) (o0 o1 : List (BridgeOut L))
-      → Hears tagged shape (joins s terms (tagged listener)) before after o0 o1 (cond (list_any (λ (r : SubId). same_sub r s) before.joined.items) [] (listener ∷ []))
+      → Hears tagged shape (joins s terms (tagged listener)) before after o0 o1 (cond (is_sub_among before.joined s) [] (listener ∷ []))
       → HearsOf tagged shape (joins s terms (tagged listener)) (event.Join s terms listener) before after o0 o1
   hears_join shape s terms listener before after o0 o1 h table stands sound =
       subst (λ (ls : List L). Heard tagged shape table (joins s terms (tagged listener)) after o0 o1 ls)
-      (ap (λ (rs : List SubId). cond (list_any (λ (r : SubId). same_sub r s) rs) [] (listener ∷ [])) stands.joined
+      (ap (λ (b : Bool). cond b [] (listener ∷ [])) (stands.joined s)
       ∙ carried (has_joined s table) (to_queue terms.queue (q.Create (slot_for terms.queue table) (Sub s) (make.Sub terms.kind terms.cache) (tagged listener))) (wants_image shape s terms.kind terms.topic) listener refl)
       (h table stands sound)
 
   pub hears_opening : (shape : Shape) (i : InboxId) (terms : InboxTerms) (listener : L) (before after : Desk) (o0 o1 : List (BridgeOut L))
-      → Hears tagged shape (opens i terms (tagged listener)) before after o0 o1 (cond (list_any (λ (r : InboxId). same_inbox r i) before.opened.items) [] (listener ∷ []))
+      → Hears tagged shape (opens i terms (tagged listener)) before after o0 o1 (cond (is_inbox_among before.opened i) [] (listener ∷ []))
       → HearsOf tagged shape (opens i terms (tagged listener)) (event.OpenInbox i terms listener) before after o0 o1
   hears_opening shape i terms listener before after o0 o1 h table stands sound =
       subst (λ (ls : List L). Heard tagged shape table (opens i terms (tagged listener)) after o0 o1 ls)
-      (ap (λ (rs : List InboxId). cond (list_any (λ (r : InboxId). same_inbox r i) rs) [] (listener ∷ [])) stands.opened
+      (ap (λ (b : Bool). cond b [] (listener ∷ [])) (stands.opened i)
       ∙ carried (has_opened i table) (to_queue terms.queue (q.Create (slot_for terms.queue table) (Inbox i) make.Inbox (tagged listener))) [] listener refl)
       (h table stands sound)
 
   pub hears_join_of : (shape : Shape) (client : ℕ) (s : SubId) (terms : SubTerms) (listener : L) (before after : Desk) (o0 o1 : List (BridgeOut L)) → s.client ≡ client
-      → Hears tagged shape (joins s terms (tagged listener)) before after o0 o1 (cond (list_any (λ (r : SubId). same_sub r s) before.joined.items) [] (listener ∷ []))
+      → Hears tagged shape (joins s terms (tagged listener)) before after o0 o1 (cond (is_sub_among before.joined s) [] (listener ∷ []))
       → HearsOf tagged shape (cond (s.client == client) (joins s terms (tagged listener)) no_event) (event.Join s terms listener) before after o0 o1
   hears_join_of shape client s terms listener before after o0 o1 own h =
       subst (λ (b : Bool). HearsOf tagged shape (cond b (joins s terms (tagged listener)) no_event) (event.Join s terms listener) before after o0 o1)
       (sym (eq-eqb s.client client own)) (hears_join shape s terms listener before after o0 o1 h)
 
   pub hears_opening_of : (shape : Shape) (client : ℕ) (i : InboxId) (terms : InboxTerms) (listener : L) (before after : Desk) (o0 o1 : List (BridgeOut L)) → i.client ≡ client
-      → Hears tagged shape (opens i terms (tagged listener)) before after o0 o1 (cond (list_any (λ (r : InboxId). same_inbox r i) before.opened.items) [] (listener ∷ []))
+      → Hears tagged shape (opens i terms (tagged listener)) before after o0 o1 (cond (is_inbox_among before.opened i) [] (listener ∷ []))
       → HearsOf tagged shape (cond (i.client == client) (opens i terms (tagged listener)) no_event) (event.OpenInbox i terms listener) before after o0 o1
   hears_opening_of shape client i terms listener before after o0 o1 own h =
       subst (λ (b : Bool). HearsOf tagged shape (cond b (opens i terms (tagged listener)) no_event) (event.OpenInbox i terms listener) before after o0 o1)

@@ -10,3 +10,4 @@ pub mod Joining
 pub mod Closing
 pub mod Brought
 pub mod Keeping
+pub mod Known

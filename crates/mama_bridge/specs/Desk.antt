@@ -1,6 +1,8 @@
 -- What ties what a bridge keeps to the table of what it heard.
 use Rattle.std.specs.Prelude.{◌≡◌, ℕ, ◌<◌, false, List, [], map, if◌then◌else◌}
 use Rattle.std.specs.List.{list_any}
+use Rattle.mama_event.specs.declared.ids.SubId.{SubId}
+use Rattle.mama_event.specs.declared.ids.InboxId.{InboxId}
 use Rattle.mama_event.specs.declared.ids.ObjectId.{ObjectId}
 use Rattle.mama_event.specs.declared.shape.Shape.{Shape}
 use Rattle.mama_event.specs.Object.{same_sub, same_inbox}
@@ -13,12 +15,13 @@ use Rattle.mama_bridge_rules.specs.Laws.{Alone}
 use Rattle.mama_bridge.specs.declared.out.BridgeOut.{BridgeOut}
 use Rattle.mama_bridge.specs.declared.desk.Desk.{Desk}
 use Rattle.mama_bridge.specs.Outs.{Adds, brought, is_create}
+use Rattle.mama_bridge.specs.Ids.{is_sub_among, is_inbox_among}
 use Rattle.mama_bridge.specs.Links.{sub_seen, sub_view, inbox_seen, inbox_view}
 
 -- what is kept stands for a table
 pub record Stands (table : Table) (desk : Desk) : Type 0 where
-  pub joined : desk.joined.items ≡ table.joined
-  pub opened : desk.opened.items ≡ table.opened
+  pub joined : (s : SubId) → is_sub_among desk.joined s ≡ list_any (λ (r : SubId). same_sub r s) table.joined
+  pub opened : (i : InboxId) → is_inbox_among desk.opened i ≡ list_any (λ (r : InboxId). same_inbox r i) table.opened
   pub subs : map sub_seen desk.subs.items ≡ map sub_view table.subs
   pub inboxes : map inbox_seen desk.inboxes.items ≡ map inbox_view table.inboxes
   pub clients : desk.clients ≡ table.clients
@@ -50,7 +53,7 @@ AsBefore before after = (table : Table) → Stands table before → Stands table
 
 -- only who joined and the links of subscriptions may have changed
 pub record AllBut (before after : Desk) : Type 0 where
-  pub opened : after.opened.items ≡ before.opened.items
+  pub opened : after.opened ≡ before.opened
   pub inboxes : after.inboxes.items ≡ before.inboxes.items
   pub clients : after.clients ≡ before.clients
   pub sends : after.sends ≡ before.sends
@@ -59,7 +62,7 @@ pub record AllBut (before after : Desk) : Type 0 where
 
 -- only who opened and the links of inboxes may have changed
 pub record AllButInboxes (before after : Desk) : Type 0 where
-  pub joined : after.joined.items ≡ before.joined.items
+  pub joined : after.joined ≡ before.joined
   pub subs : after.subs.items ≡ before.subs.items
   pub clients : after.clients ≡ before.clients
   pub sends : after.sends ≡ before.sends
@@ -68,8 +71,8 @@ pub record AllButInboxes (before after : Desk) : Type 0 where
 
 -- only links may have changed
 pub record AllButLinks (before after : Desk) : Type 0 where
-  pub joined : after.joined.items ≡ before.joined.items
-  pub opened : after.opened.items ≡ before.opened.items
+  pub joined : after.joined ≡ before.joined
+  pub opened : after.opened ≡ before.opened
   pub clients : after.clients ≡ before.clients
   pub sends : after.sends ≡ before.sends
   pub settled : after.settled ≡ before.settled
@@ -77,8 +80,8 @@ pub record AllButLinks (before after : Desk) : Type 0 where
 
 -- only who said Bye may have changed
 pub record AllButByes (before after : Desk) : Type 0 where
-  pub joined : after.joined.items ≡ before.joined.items
-  pub opened : after.opened.items ≡ before.opened.items
+  pub joined : after.joined ≡ before.joined
+  pub opened : after.opened ≡ before.opened
   pub subs : after.subs.items ≡ before.subs.items
   pub inboxes : after.inboxes.items ≡ before.inboxes.items
   pub clients : after.clients ≡ before.clients

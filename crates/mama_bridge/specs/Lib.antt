@@ -3,3 +3,5 @@ pub mod Links
 pub mod Desk
 pub mod Routing
 pub mod Putters
+pub mod Marks
+pub mod Ids

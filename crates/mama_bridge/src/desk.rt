@@ -1,18 +1,21 @@
-ghost use Rattle.std.specs.Prelude.{◌≡◌, ◌+◌, ◌<◌, ◌≤◌, ◌^◌, ◌==◌, ◌&&◌, ◌++◌, [], ◌∷◌, not, nat_lt, nat_le, slice_set, true, length, position, sum_by, vec_len, IfOk, IfErr, OnOk, OnErr, if◌then◌else◌};
+ghost use Rattle.std.specs.Prelude.{◌≡◌, ◌+◌, ◌<◌, ◌≤◌, ◌^◌, ◌==◌, ◌&&◌, ◌||◌, ◌++◌, [], ◌∷◌, not, nat_lt, nat_le, slice_set, true, length, position, sum_by, vec_len, IfOk, IfErr, OnOk, OnErr, if◌then◌else◌};
 ghost use Rattle.std.specs.Vec.{vec_capacity};
-ghost use Rattle.std.specs.List.{list_any};
 ghost use Rattle.mama_journal.specs.Journal.{least_free};
 ghost use Rattle.mama_link.specs.Link.{standing_after};
 ghost use Rattle.mama_event.specs.Object.{same_sub, same_inbox};
+ghost use Rattle.mama_event.specs.declared.ids.SubId.{SubId as Sub};
+ghost use Rattle.mama_event.specs.declared.ids.InboxId.{InboxId as Inbox};
 ghost use Rattle.mama_event.specs.declared.shape.Shape.{Shape};
 ghost use Rattle.mama_rules.specs.Bridge.{joins, leaves, opens, closes, asks, publishes, images, replies, wishes, client_done, sends_done, settled, put_by};
 ghost use Rattle.mama_bridge_rules.specs.Table.{empty_table, all_set, marked, leaver_in, is_settling_by, is_ended_by, kept};
 ghost use Rattle.mama_bridge.specs.Desk.{Stands, Hears, AsBefore, AllBut, AllButInboxes, AllButLinks, AllButByes};
+ghost use Rattle.mama_bridge.specs.Ids.{is_sub_among, is_inbox_among};
 ghost use Rattle.mama_bridge.specs.Putters.{actor_of, HasFlags};
 ghost use Rattle.mama_bridge.specs.Links.{sub_seen, inbox_seen, first_outs, image_outs, settle_outs, sub_held, inbox_held, EndsIf, sub_link_slots, inbox_link_slots};
 
 use crate::ending::{end_all, held_by_inboxes, held_by_subs, room, settle_if};
 use crate::flags::Flags;
+use crate::ids::{InboxIds, SubIds};
 use crate::inboxes::InboxLink;
 use crate::out::BridgeOut;
 use crate::putter::Putter;
@@ -32,8 +35,8 @@ use std::alloc::Global;
 #[derive(Drop)]
 pub(crate) struct Desk {
     alloc: Global,
-    joined: Vec<SubId>,
-    opened: Vec<InboxId>,
+    joined: SubIds,
+    opened: InboxIds,
     subs: Vec<SubLink>,
     inboxes: Vec<InboxLink>,
     clients: Flags,
@@ -49,8 +52,8 @@ impl Desk {
         let publishers = shape.publisher_topics.len();
         Ok(Desk {
             alloc,
-            joined: Vec::new(alloc),
-            opened: Vec::new(alloc),
+            joined: SubIds::new(alloc),
+            opened: InboxIds::new(alloc),
             subs: Vec::new(alloc),
             inboxes: Vec::new(alloc),
             clients: Flags::new(alloc, shape.clients as usize)?,
@@ -176,25 +179,26 @@ impl Desk {
         Ok(())
     }
 
-    /// Makes the room that a new subscription takes, and tells its slot.
+    /// Notes that a subscription joined, makes the room that it takes, and tells its slot.
     fn ready_sub<L>(
         &mut self,
+        sub: SubId,
         queue: u32,
         out: &mut Outbox<BridgeOut<L>>,
     ) -> Result<u32, OutOfMemory>
         ensures slot { IfOk result (λ slot. slot ≡ least_free (sub_link_slots queue self.old.subs.items ++ inbox_link_slots queue self.old.inboxes.items)) }
-        ensures room_joined { OnOk result (vec_len self.new.joined < vec_capacity self.new.joined) }
         ensures room_subs { OnOk result (vec_len self.new.subs < vec_capacity self.new.subs) }
         ensures room_out { OnOk result (1 < out.new.spare) }
-        ensures joined { self.new.joined.items ≡ self.old.joined.items }
+        ensures joined { OnOk result ((one : Sub) → is_sub_among self.new.joined one ≡ (is_sub_among self.old.joined one || same_sub sub one)) }
+        ensures not_joined { OnErr result (self.new.joined ≡ self.old.joined) }
         ensures subs { self.new.subs.items ≡ self.old.subs.items }
         ensures rest { AllBut self.old self.new }
         ensures out { out.new.items ≡ out.old.items }
     {
         let slot = free_slot(self.alloc, &self.subs, &self.inboxes, queue)?;
-        self.joined.reserve(1)?;
         self.subs.reserve(1)?;
         out.reserve(2)?;
+        self.joined.add(sub)?;
         Ok(slot)
     }
 
@@ -207,15 +211,15 @@ impl Desk {
         out: &mut Outbox<BridgeOut<L>>,
     ) -> Result<(), (SubTerms, L)>
         requires { length shape.now.publisher_topics < 2 ^ 32 }
-        ensures ok { OnOk result (Hears L.tagged shape.now (joins sub terms (L.tagged listener)) self.old self.new out.old.items out.new.items (if list_any (λ r. same_sub r sub) self.old.joined.items then [] else listener ∷ [])) }
+        ensures ok { OnOk result (Hears L.tagged shape.now (joins sub terms (L.tagged listener)) self.old self.new out.old.items out.new.items (if is_sub_among self.old.joined sub then [] else listener ∷ [])) }
         ensures back { IfErr result (λ given. given ≡ (terms, listener)) }
         ensures same { OnErr result (AsBefore self.old self.new) }
         ensures err { OnErr result (out.new.items ≡ out.old.items) }
     {
-        if has_sub(&self.joined, sub) {
+        if self.joined.has(sub) {
             return Ok(());
         }
-        let slot = match self.ready_sub(terms.queue, out) {
+        let slot = match self.ready_sub(sub, terms.queue, out) {
             Ok(slot) => slot,
             Err(_) => return Err((terms, listener)),
         };
@@ -229,7 +233,7 @@ impl Desk {
             faults,
         } = terms;
         let link = new_link(self.alloc, sub, topic, queue, slot, recaps, faults);
-        self.add_sub(sub, ended, link);
+        self.add_sub(ended, link);
         let object = ObjectId::Sub(sub);
         let make = Make::Sub { kind, cache };
         out.push_reserved(BridgeOut::Queue(
@@ -430,22 +434,22 @@ impl Desk {
         listener: L,
         out: &mut Outbox<BridgeOut<L>>,
     ) -> Result<(), (InboxTerms, L)>
-        ensures ok { OnOk result ((shape : Shape) → Hears L.tagged shape (opens inbox terms (L.tagged listener)) self.old self.new out.old.items out.new.items (if list_any (λ r. same_inbox r inbox) self.old.opened.items then [] else listener ∷ [])) }
+        ensures ok { OnOk result ((shape : Shape) → Hears L.tagged shape (opens inbox terms (L.tagged listener)) self.old self.new out.old.items out.new.items (if is_inbox_among self.old.opened inbox then [] else listener ∷ [])) }
         ensures back { IfErr result (λ given. given ≡ (terms, listener)) }
         ensures same { OnErr result (AsBefore self.old self.new) }
         ensures err { OnErr result (out.new.items ≡ out.old.items) }
     {
-        if has_inbox(&self.opened, inbox) {
+        if self.opened.has(inbox) {
             return Ok(());
         }
-        let slot = match self.ready_inbox(terms.queue, out) {
+        let slot = match self.ready_inbox(inbox, terms.queue, out) {
             Ok(slot) => slot,
             Err(_) => return Err((terms, listener)),
         };
         let ended = self.is_ended();
         let InboxTerms { queue, faults } = terms;
         let link = new_inbox_link(self.alloc, inbox, queue, slot, faults);
-        self.add_inbox(inbox, ended, link);
+        self.add_inbox(ended, link);
         let object = ObjectId::Inbox(inbox);
         let make = Make::Inbox;
         out.push_reserved(BridgeOut::Queue(
@@ -460,51 +464,48 @@ impl Desk {
         Ok(())
     }
 
-    /// Notes that an inbox was opened, and that its link is there unless the ending has come.
-    fn add_inbox(&mut self, inbox: InboxId, ended: bool, link: InboxLink)
-        requires opened { vec_len self.old.opened < vec_capacity self.old.opened }
-        requires inboxes { vec_len self.old.inboxes < vec_capacity self.old.inboxes }
-        ensures opened { self.new.opened.items ≡ self.old.opened.items ++ inbox ∷ [] }
+    /// Keeps the link of a new inbox, unless the ending has come.
+    fn add_inbox(&mut self, ended: bool, link: InboxLink)
+        requires { vec_len self.old.inboxes < vec_capacity self.old.inboxes }
+        ensures opened { self.new.opened ≡ self.old.opened }
         ensures inboxes { self.new.inboxes.items ≡ self.old.inboxes.items ++ kept ended (link ∷ []) }
         ensures rest { AllButInboxes self.old self.new }
     {
-        self.opened.push_reserved(inbox);
         if !ended {
             self.inboxes.push_reserved(link);
         }
     }
 
-    /// Makes the room that a new inbox takes, and tells its slot.
+    /// Notes that an inbox was opened, makes the room that it takes, and tells its slot.
     fn ready_inbox<L>(
         &mut self,
+        inbox: InboxId,
         queue: u32,
         out: &mut Outbox<BridgeOut<L>>,
     ) -> Result<u32, OutOfMemory>
         ensures slot { IfOk result (λ slot. slot ≡ least_free (sub_link_slots queue self.old.subs.items ++ inbox_link_slots queue self.old.inboxes.items)) }
-        ensures room_opened { OnOk result (vec_len self.new.opened < vec_capacity self.new.opened) }
         ensures room_inboxes { OnOk result (vec_len self.new.inboxes < vec_capacity self.new.inboxes) }
         ensures room_out { OnOk result (0 < out.new.spare) }
-        ensures opened { self.new.opened.items ≡ self.old.opened.items }
+        ensures opened { OnOk result ((one : Inbox) → is_inbox_among self.new.opened one ≡ (is_inbox_among self.old.opened one || same_inbox inbox one)) }
+        ensures not_opened { OnErr result (self.new.opened ≡ self.old.opened) }
         ensures inboxes { self.new.inboxes.items ≡ self.old.inboxes.items }
         ensures rest { AllButInboxes self.old self.new }
         ensures out { out.new.items ≡ out.old.items }
     {
         let slot = free_slot(self.alloc, &self.subs, &self.inboxes, queue)?;
-        self.opened.reserve(1)?;
         self.inboxes.reserve(1)?;
         out.reserve(1)?;
+        self.opened.add(inbox)?;
         Ok(slot)
     }
 
-    /// Notes that a subscription joined, and that its link is there unless the ending has come.
-    fn add_sub(&mut self, sub: SubId, ended: bool, link: SubLink)
-        requires joined { vec_len self.old.joined < vec_capacity self.old.joined }
-        requires subs { vec_len self.old.subs < vec_capacity self.old.subs }
-        ensures joined { self.new.joined.items ≡ self.old.joined.items ++ sub ∷ [] }
+    /// Keeps the link of a new subscription, unless the ending has come.
+    fn add_sub(&mut self, ended: bool, link: SubLink)
+        requires { vec_len self.old.subs < vec_capacity self.old.subs }
+        ensures joined { self.new.joined ≡ self.old.joined }
         ensures subs { self.new.subs.items ≡ self.old.subs.items ++ kept ended (link ∷ []) }
         ensures rest { AllBut self.old self.new }
     {
-        self.joined.push_reserved(sub);
         if !ended {
             self.subs.push_reserved(link);
         }
@@ -564,13 +565,6 @@ fn put_first<L>(shape: &Shape, topic: u32, event: ToPublisher, out: &mut Outbox<
     }
 }
 
-/// Whether a subscription joined before.
-fn has_sub(joined: &Vec<SubId>, sub: SubId) -> bool
-    ensures { result ≡ list_any (λ r. same_sub r sub) joined.now.items }
-{
-    joined.iter().any(|joined| *joined == sub)
-}
-
 /// A link that no message has passed.
 fn new_link(
     alloc: Global,
@@ -621,13 +615,6 @@ fn want_first<L>(shape: &Shape, sub: SubId, topic: u32, out: &mut Outbox<BridgeO
 {
     let kind = MsgKind::Initial;
     put_first(shape, topic, ToPublisher::Want { sub, kind }, out);
-}
-
-/// Whether an inbox was opened before.
-fn has_inbox(opened: &Vec<InboxId>, inbox: InboxId) -> bool
-    ensures { result ≡ list_any (λ r. same_inbox r inbox) opened.now.items }
-{
-    opened.iter().any(|opened| *opened == inbox)
 }
 
 /// A link that no reply has passed.

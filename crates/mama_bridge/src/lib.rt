@@ -1,5 +1,13 @@
 //! The bridge: it routes what publishers send over the links of subscriptions and inboxes, gives each object a slot of
 //! its queue, and decides the ending.
+//!
+//! What the bridge puts is `bridge_puts_at` of `mama_rules`: the reaction to an entry of its journal, given the journal
+//! before it. The contract of [`MemoryBridge::take`] says so of every event that comes by any port, in any order, and
+//! that the listener of a `Create` is the one that the event of that entry brought.
+//!
+//! A bridge keeps a link for each live subscription and each open inbox, in order, and not what it heard. A publish
+//! costs the live links, and besides what comes out of those of its topic; a Join, a Leave and an Ask cost the live
+//! links; what is over costs nothing. Want of memory leaves the bridge and the outbox as they were.
 #![tactic(auto)]
 
 mod bridge;
@@ -8,6 +16,7 @@ mod ending;
 mod ends;
 mod flags;
 mod hearing;
+mod ids;
 mod inboxes;
 mod out;
 mod putter;
@@ -17,3 +26,6 @@ mod subs;
 
 pub use bridge::MemoryBridge;
 pub use out::BridgeOut;
+
+#[cfg(test)]
+mod tests;

@@ -1,7 +1,7 @@
-ghost use Rattle.std.specs.Prelude.{◌≡◌, ◌++◌, ◌==◌, IfOk, OnOk};
-ghost use Rattle.std.specs.List.{list_any};
+ghost use Rattle.std.specs.Prelude.{◌≡◌, ◌<◌, ◌++◌, length, replicate, slice_set, slice_index_or, true, false, IfOk, OnOk};
 ghost use Rattle.mama_journal.specs.Journal.{least_free};
 ghost use Rattle.mama_bridge.specs.Links.{link_slot, sub_link_slots, inbox_link_slots};
+ghost use Rattle.mama_bridge.specs.Marks.{marked_by};
 
 use crate::inboxes::InboxLink;
 use crate::subs::SubLink;
@@ -36,10 +36,33 @@ fn note_inboxes(used: &mut Vec<u32>, links: &Vec<InboxLink>, queue: u32) -> Resu
     Ok(())
 }
 
-fn is_used(used: &Vec<u32>, slot: usize) -> bool
-    ensures { result ≡ list_any (λ n. n == slot) used.now.items }
+/// Sets a mark, if there is one of this number.
+fn mark(marks: &mut Vec<bool>, slot: usize)
+    ensures { marks.new.items ≡ slice_set marks.old.items slot true }
 {
-    used.iter().any(|n| *n as usize == slot)
+    if slot < marks.len() {
+        marks[slot] = true;
+    }
+}
+
+/// A mark for each of the least numbers, as many as are used: the least that is not used is among them, or is next.
+
+fn marks(alloc: Global, used: &Vec<u32>) -> Result<Vec<bool>, OutOfMemory>
+    ensures { IfOk result (λ marks. marks.items ≡ marked_by used.now.items (replicate (length used.now.items) false)) }
+{
+    let mut marks = vec![in alloc; false; used.len()]?;
+    for slot in used {
+        mark(&mut marks, *slot as usize);
+    }
+    Ok(marks)
+}
+
+/// Whether a number is used, told by its mark.
+fn is_marked(marks: &Vec<bool>, slot: usize) -> bool
+    requires { slot < length marks.now.items }
+    ensures { result ≡ slice_index_or marks.now.items slot false }
+{
+    marks[slot]
 }
 
 fn as_slot(slot: usize) -> Result<u32, OutOfMemory>
@@ -51,12 +74,13 @@ fn as_slot(slot: usize) -> Result<u32, OutOfMemory>
     }
 }
 
-/// The least number that is not used. The error is that it is too great for a slot.
-fn first_free(used: &Vec<u32>) -> Result<u32, OutOfMemory>
+/// The least number that is not used. The error is want of memory, or that it is too great for a slot.
+fn first_free(alloc: Global, used: &Vec<u32>) -> Result<u32, OutOfMemory>
     ensures { IfOk result (λ slot. slot ≡ least_free used.now.items) }
 {
+    let marks = marks(alloc, used)?;
     for slot in 0..used.len() {
-        if !is_used(used, slot) {
+        if !is_marked(&marks, slot) {
             return as_slot(slot);
         }
     }
@@ -75,5 +99,5 @@ pub(crate) fn free_slot(
     let mut used = Vec::new(alloc);
     note_subs(&mut used, subs, queue)?;
     note_inboxes(&mut used, inboxes, queue)?;
-    first_free(&used)
+    first_free(alloc, &used)
 }

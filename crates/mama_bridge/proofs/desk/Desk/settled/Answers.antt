@@ -1,7 +1,10 @@
 use Rattle.std.proofs.Common.{◌≡◌, ◌∙◌, ap, ℕ, Bool, List, [], ◌++◌, cond, set, true, subst}
+use Rattle.mama_event.specs.declared.ids.SubId.{SubId}
+use Rattle.mama_event.specs.declared.ids.InboxId.{InboxId}
 use Rattle.mama_event.specs.Ports.{queues_of}
 use Rattle.mama_rules.specs.Bridge.{settled}
 use Rattle.mama_bridge_rules.specs.Table.{begins_settling, begins_ending}
+use Rattle.mama_bridge.specs.Ids.{is_sub_among, is_inbox_among}
 use Rattle.mama_bridge.specs.Links.{sub_seen, sub_view, inbox_seen, inbox_view, settle_outs, EndsIf}
 use Rattle.mama_bridge.proofs.Closing.{seen_kept, adds_closing}
 use Rattle.mama_bridge.proofs.desk.Desk.settled.Goals as goal
@@ -16,8 +19,8 @@ returns-clause-ok g c table s sound =
     let out = subst (λ (n : ℕ). EndsIf {L = g.row.L.Denot} c.begins-ends.result n (queues_of c.args.shape.now) before.subs.items before.inboxes.items (c.args.out.now.items ++ cond c.begins-settles.result (settle_outs n) []) c.turn.new.out.items) c.requires.publishers turned.out in
     record {
       stands = record {
-        joined = rest.joined ∙ s.joined;
-        opened = rest.opened ∙ s.opened;
+        joined = λ one. ap (λ (known : List SubId). is_sub_among known one) rest.joined ∙ s.joined one;
+        opened = λ one. ap (λ (known : List InboxId). is_inbox_among known one) rest.opened ∙ s.opened one;
         subs = seen_kept sub_seen sub_view c.turn.new.self.subs.items before.subs.items table.subs c.begins-ends.result (begins_ending table (settled c.args.publisher)) turned.subs s.subs ends;
         inboxes = seen_kept inbox_seen inbox_view c.turn.new.self.inboxes.items before.inboxes.items table.inboxes c.begins-ends.result (begins_ending table (settled c.args.publisher)) turned.inboxes s.inboxes ends;
         clients = rest.clients ∙ s.clients;
