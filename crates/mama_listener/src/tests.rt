@@ -16,8 +16,7 @@ fn disarm(number: u32) -> Order {
 }
 
 // A listener with these rows, of which at most 8 are for one call.
-fn planned(rt: &HostRuntime, rows: &[(u32, Order)]) -> Result<PlanListener, Fail> {
-    let alloc = rt.alloc();
+fn planned(rt: &impl Abort, alloc: Global, rows: &[(u32, Order)]) -> Result<PlanListener, Fail> {
     let mut plan = Vec::new(alloc);
     for (call, order) in rows {
         plan.push(PlanRow {
@@ -63,7 +62,7 @@ fn orders_come_with_their_calls_in_order(rt: HostRuntime) -> Result<(), Fail> {
         (0, disarm(9)),
         (3, disarm(3)),
     ];
-    let mut listener = planned(&rt, &rows)?;
+    let mut listener = planned(&rt, rt.alloc(), &rows)?;
     let mut first = Orders::new();
     listener.on_create(&mut first);
     ordered(&rt, &first, &[]);
@@ -80,7 +79,7 @@ fn orders_come_with_their_calls_in_order(rt: HostRuntime) -> Result<(), Fail> {
 #[test]
 fn one_call_can_have_eight_orders(rt: HostRuntime) -> Result<(), Fail> {
     let rows = [(1, STOP); 8];
-    let mut listener = planned(&rt, &rows)?;
+    let mut listener = planned(&rt, rt.alloc(), &rows)?;
     let mut orders = Orders::new();
     listener.on_create(&mut orders);
     assert_eq!(rt; orders.len(), 8);
@@ -90,7 +89,7 @@ fn one_call_can_have_eight_orders(rt: HostRuntime) -> Result<(), Fail> {
 
 #[test]
 fn it_keeps_what_it_heard(rt: HostRuntime) -> Result<(), Fail> {
-    let mut listener = planned(&rt, &[])?;
+    let mut listener = planned(&rt, rt.alloc(), &[])?;
     assert_eq!(rt; listener.tag(), ObjectId::Sub(SUB));
     listener.on_create(&mut Orders::new());
     listener.on_gap(2, 3, &mut Orders::new());
