@@ -1,3 +1,9 @@
-pub mod ListLemmas
-pub mod StandLemmas
-pub mod SenderLemmas
+pub mod LaneLemmas
+pub mod SceneLemmas
+pub mod ServerLemmas
+pub mod SystemLemmas
+pub mod TurnLemmas
+pub mod StageLemmas
+pub mod StartLemmas
+pub mod RecordLemmas
+pub mod RecordingLemmas

@@ -1,5 +1,4 @@
-pub mod Put
-pub mod Names
-pub mod Sender
-pub mod Stand
 pub mod Entry
+pub mod Scene
+pub mod Start
+pub mod Record

@@ -4,18 +4,10 @@
 //! each step of a client or a publisher everything is drained, so that no event waits when the next step begins.
 #![tactic(auto)]
 
-mod bridge;
-mod client_seat;
-mod names;
-mod plans;
 mod playing;
-mod publisher_seat;
-mod put;
-mod queue;
-mod queue_seat;
 mod recording;
 mod rounds;
-mod slots;
+mod starting;
 mod system;
 
 pub use mama_memory::OutOfMemory;

@@ -1,9 +1,12 @@
-use crate::plans::Plans;
+ghost use Rattle.std.specs.Prelude.{IfOk};
+ghost use Rattle.mama_rounds.specs.Round.{IsRound};
+
 use crate::system::System;
 use mama_edge::Clock;
 use mama_memory::OutOfMemory;
 use mama_record::RunRecord;
 use mama_script::Script;
+use mama_seats::plans_of;
 use std::alloc::Global;
 
 /// Plays the script on one thread. A round gives each client, and then each publisher, its next step, and everything
@@ -12,8 +15,10 @@ pub fn serial<C: Clock>(
     alloc: Global,
     script: &Script,
     clock: &mut C,
-) -> Result<RunRecord, OutOfMemory> {
-    let plans = Plans::of(alloc, script)?;
+) -> Result<RunRecord, OutOfMemory>
+    ensures { IfOk result (λ run. IsRound script.now run) }
+{
+    let plans = plans_of(alloc, script)?;
     let mut system = System::new(alloc, script, &plans)?;
     system.play(clock)?;
     system.into_record()

@@ -1,36 +1,19 @@
-use crate::system::{System, count_of, port_from};
+ghost use Rattle.std.specs.Prelude.{◌≡◌, ◌<◌, length, true, OnOk};
+ghost use Rattle.std.specs.List.{list_all};
+ghost use Rattle.mama_event.specs.Ports.{clients_of, publishers_of};
+ghost use Rattle.mama_rounds.specs.Stage as stage;
+ghost use Rattle.mama_drive.specs.Scene.{Advances, SteppedOut, SteppedAll, Drains, Plays, IsPlayed};
+
+use crate::system::{System, append_to_bridge, count_of, port_from};
 use mama_edge::Clock;
 use mama_memory::OutOfMemory;
-use std::collections::BTreeSet;
+use mama_seats::{ClientSeat, PublisherSeat};
 
 impl<'a> System<'a> {
-    /// A client makes its next step, if it has one.
-    fn client_step<C: Clock>(&mut self, number: u32, clock: &mut C) -> Result<(), OutOfMemory> {
-        if let Some(seat) = self.clients.get_mut(number as usize) {
-            let puts = seat.step(clock)?;
-            if !puts.is_empty() {
-                self.put_all(number, number, puts)?;
-                self.drain()?;
-            }
-        }
-        Ok(())
-    }
-
-    /// A publisher makes its next step, if it has one.
-    fn publisher_step(&mut self, number: u32) -> Result<(), OutOfMemory> {
-        let port = port_from(self.shape.clients, number)?;
-        if let Some(seat) = self.publishers.get_mut(number as usize) {
-            let puts = seat.step()?;
-            if !puts.is_empty() {
-                self.put_to_bridge(port, puts)?;
-                self.drain()?;
-            }
-        }
-        Ok(())
-    }
-
     /// Passes, until nothing waits.
-    fn drain(&mut self) -> Result<(), OutOfMemory> {
+    fn drain(&mut self) -> Result<(), OutOfMemory>
+        ensures { OnOk result (Drains self.old self.new) }
+    {
         for _ in 0..u64::MAX {
             if self.is_quiet() {
                 return Ok(());
@@ -40,77 +23,95 @@ impl<'a> System<'a> {
         Err(OutOfMemory)
     }
 
-    /// The round of a client's next step that does something, if it could make a step in this round. It rests until
-    /// then. None where it has made all its steps.
-    fn client_round(&mut self, number: u32, round: u64) -> Option<u64> {
-        let seat = self.clients.get_mut(number as usize)?;
-        let mut round = round;
-        for _ in 0..u64::MAX {
-            match seat.idle()? {
-                0 => return Some(round),
-                steps => {
-                    seat.rest(steps);
-                    round = round.saturating_add(u64::from(steps));
-                }
-            }
-        }
-        None
+    /// A client makes its next step, if it has one, and everything is drained.
+    fn client_step<C: Clock>(&mut self, number: u32, clock: &mut C) -> Result<(), OutOfMemory>
+        requires { number < length self.old.clients }
+        ensures { OnOk result (Advances (SteppedOut stage.client_step number) self.old self.new) }
+    {
+        let seat = &mut self.clients[number as usize];
+        let puts = seat.step(clock)?;
+        self.put_all(number, number, puts)?;
+        self.drain()
     }
 
-    /// The same of a publisher.
-    fn publisher_round(&mut self, number: u32, round: u64) -> Option<u64> {
-        let seat = self.publishers.get_mut(number as usize)?;
-        let mut round = round;
-        for _ in 0..u64::MAX {
-            match seat.idle()? {
-                0 => return Some(round),
-                steps => {
-                    seat.rest(steps);
-                    round = round.saturating_add(u64::from(steps));
-                }
-            }
+    /// Each client makes its next step, and everything is drained after each.
+    fn client_steps<C: Clock>(&mut self, clock: &mut C) -> Result<(), OutOfMemory>
+        ensures { OnOk result (Advances (SteppedAll stage.client_step (clients_of self.old.shape)) self.old self.new) }
+    {
+        let count = count_of(self.clients.len())?;
+        for number in 0..count {
+            self.client_step(number, clock)?;
         }
-        None
+        Ok(())
     }
 
-    /// The first step of each client and each publisher, by its round. In a round clients step before publishers, and
-    /// each kind by number.
-    fn first_steps(&mut self) -> Result<BTreeSet<(u64, bool, u32)>, OutOfMemory> {
-        let mut steps = BTreeSet::new(self.alloc);
-        for number in 0..count_of(self.clients.len())? {
-            if let Some(round) = self.client_round(number, 0) {
-                steps.insert((round, false, number))?;
-            }
-        }
-        for number in 0..count_of(self.publishers.len())? {
-            if let Some(round) = self.publisher_round(number, 0) {
-                steps.insert((round, true, number))?;
-            }
-        }
-        Ok(steps)
+    /// A publisher makes its next step, if it has one, and everything is drained.
+    fn publisher_step(&mut self, number: u32) -> Result<(), OutOfMemory>
+        requires { number < length self.old.senders }
+        ensures { OnOk result (Advances (SteppedOut stage.publisher_step number) self.old self.new) }
+    {
+        let port = port_from(self.shape.clients, number)?;
+        // A step leaves the lane as it is, and so the mark, but nothing is known of it where no memory is found.
+        let waits = self.publishers_wait;
+        self.publishers_wait = true;
+        let seat = &mut self.publishers[number as usize];
+        let puts = seat.step()?;
+        append_to_bridge(&mut self.to_bridge, port, puts)?;
+        self.publishers_wait = waits;
+        self.drain()
     }
 
-    /// Makes the steps of all rounds in order, until every client and every publisher has made all of its own. Steps
-    /// in which nothing happens are passed over.
-    pub fn play<C: Clock>(&mut self, clock: &mut C) -> Result<(), OutOfMemory> {
-        let mut steps = self.first_steps()?;
+    /// Each publisher makes its next step, and everything is drained after each.
+    fn publisher_steps(&mut self) -> Result<(), OutOfMemory>
+        ensures { OnOk result (Advances (SteppedAll stage.publisher_step (publishers_of self.old.shape)) self.old self.new) }
+    {
+        let count = count_of(self.publishers.len())?;
+        for number in 0..count {
+            self.publisher_step(number)?;
+        }
+        Ok(())
+    }
+
+    /// One round: each client makes a step, and then each publisher, and everything is drained after each step.
+    fn round<C: Clock>(&mut self, clock: &mut C) -> Result<(), OutOfMemory>
+        ensures { OnOk result (Advances stage.IsOneRound self.old self.new) }
+    {
+        self.client_steps(clock)?;
+        self.publisher_steps()
+    }
+
+    /// Whether every client and every publisher has made all its steps.
+    fn is_played(&self) -> bool
+        ensures { result ≡ true → IsPlayed self.now }
+    {
+        are_clients_over(self.clients.as_slice()) && are_publishers_over(self.publishers.as_slice())
+    }
+
+    /// Rounds, until every client and every publisher has made all its steps.
+    pub fn play<C: Clock>(&mut self, clock: &mut C) -> Result<(), OutOfMemory>
+        ensures rounds { OnOk result (Plays self.old self.new) }
+        ensures played { OnOk result (IsPlayed self.new) }
+    {
         for _ in 0..u64::MAX {
-            let (round, sends, number) = match steps.pop_first() {
-                Some(step) => step,
-                None => return Ok(()),
-            };
-            let next = round.saturating_add(1);
-            let next = if sends {
-                self.publisher_step(number)?;
-                self.publisher_round(number, next)
-            } else {
-                self.client_step(number, clock)?;
-                self.client_round(number, next)
-            };
-            if let Some(next) = next {
-                steps.insert((next, sends, number))?;
+            if self.is_played() {
+                return Ok(());
             }
+            self.round(clock)?;
         }
         Err(OutOfMemory)
     }
+}
+
+/// Whether every client has made all its steps.
+fn are_clients_over(seats: &[ClientSeat]) -> bool
+    ensures { result ≡ list_all (λ seat. seat.over) seats.now }
+{
+    seats.iter().all(|seat| seat.is_over())
+}
+
+/// Whether every publisher has made all its steps.
+fn are_publishers_over(seats: &[PublisherSeat]) -> bool
+    ensures { result ≡ list_all (λ seat. seat.over) seats.now }
+{
+    seats.iter().all(|seat| seat.is_over())
 }

@@ -1,26 +1,33 @@
-ghost use Rattle.std.specs.Prelude.{◌≡◌, ◌+◌, ◌++◌, map, IfOk, OnOk};
-ghost use Rattle.std.specs.List.{flat_map};
+ghost use Rattle.std.specs.Prelude.{◌≡◌, ◌+◌, ◌<◌, List, [], ◌∷◌, ◌++◌, map, length, true, IfOk, OnOk};
 ghost use Rattle.mama_journal.specs.Lane.{from_port};
 ghost use Rattle.mama_event.specs.ToBridge.{note_of};
+ghost use Rattle.mama_event.specs.ToPublisher.{note_of as publisher_note_of};
+ghost use Rattle.mama_event.specs.ToQueue.{note_of as queue_note_of};
+ghost use Rattle.mama_event.specs.ToTimers.{note_of as timers_note_of};
+ghost use Rattle.mama_event.specs.Ports.{publishers_of, queues_of, timers_port_of_bridge, bridge_port_of_queue};
+ghost use Rattle.mama_bridge.specs.Outs.{put_note};
+ghost use Rattle.mama_timer.specs.Out.{out_note};
+ghost use Rattle.mama_rounds.specs.World as world;
+ghost use Rattle.mama_rounds.specs.World.{is_empty};
 ghost use Rattle.mama_rounds.specs.Client.{bridge_part, timers_part};
-ghost use Rattle.mama_drive.specs.Put.{own_tag, notes_of};
+ghost use Rattle.std.specs.List.{flat_map, list_all};
+ghost use Rattle.mama_queue_seat.specs.Put.{own_tag, notes_of};
 ghost use Rattle.mama_drive.specs.Entry.{bridge_entry, timers_entry};
+ghost use Rattle.mama_drive.specs.Scene.{setting_in, world_in, Moves, spread, spread_one, spread_ticks, tick_one, put_on};
 
-use crate::bridge::{Bridge, BridgeOut};
-use crate::client_seat::ClientSeat;
-use crate::plans::Plans;
-use crate::publisher_seat::PublisherSeat;
-use crate::put::Put;
-use crate::queue_seat::QueueSeat;
-use mama_event::{BridgeNote, ObjectId, Shape, Stream, ToBridge, ToPublisher, ToQueue, ToTimers};
+use mama_bridge::{BridgeOut, MemoryBridge};
+use mama_event::{ObjectId, Shape, ToBridge, ToPublisher, ToQueue, ToTimers};
 use mama_link::Outbox;
 use mama_memory::OutOfMemory;
-use mama_script::{ClientLines, PublisherPart, Script};
+use mama_queue_seat::{Plans, Put, QueueSeat};
+use mama_seats::{ClientSeat, PublisherSeat};
 use mama_timer::{TimerOut, Timers};
 use std::alloc::Global;
-use std::collections::{BTreeSet, VecDeque};
+use std::collections::VecDeque;
+use std::marker::Model;
 
-/// All actors of a script on one thread, with what waits on the lanes between them.
+/// All actors of a script on one thread, with what waits on the lanes between them. The marks say whether events may
+/// wait on the lanes of publishers, and on those of queues: while none does, a pass does not look at each of them.
 #[derive(Drop)]
 pub struct System<'a> {
     pub(crate) alloc: Global,
@@ -29,14 +36,24 @@ pub struct System<'a> {
     pub(crate) clients: Vec<ClientSeat<'a>>,
     pub(crate) publishers: Vec<PublisherSeat<'a>>,
     pub(crate) queues: Vec<QueueSeat<'a>>,
-    bridge: Bridge,
-    pub(crate) bridge_journal: Vec<(u32, BridgeNote)>,
+    pub(crate) bridge: MemoryBridge<ObjectId>,
     pub(crate) timers: Timers<ObjectId>,
-    to_bridge: VecDeque<(u32, ToBridge<ObjectId>)>,
-    to_timers: VecDeque<(u32, ToTimers<ObjectId>)>,
-    // The numbers of the publishers and of the queues on whose lanes something waits.
-    ready_publishers: BTreeSet<u32>,
-    ready_queues: BTreeSet<u32>,
+    pub(crate) to_bridge: VecDeque<(u32, ToBridge<ObjectId>)>,
+    pub(crate) to_timers: VecDeque<(u32, ToTimers<ObjectId>)>,
+    pub(crate) publishers_wait: bool,
+    pub(crate) queues_wait: bool,
+}
+
+impl<'a> Model for System<'a> {
+    ghost use Rattle.std.specs.Prelude.{map};
+    ghost use Rattle.mama_drive.specs.Entry.{bridge_entry, timers_entry};
+    ghost use Rattle.mama_drive.specs.Scene.{Scene, IsSystem};
+
+    ghost Value = { Scene };
+
+    ghost view = { λ s. record { shape = s.shape.now; objects = s.plans.now; clients = s.clients.items; senders = s.publishers.items; servers = s.queues.items; bridge = s.bridge.journal; timers = s.timers.journal; to_bridge = map bridge_entry s.to_bridge.items; to_timers = map timers_entry s.to_timers.items } };
+
+    ghost invariant = { λ s. IsSystem s.shape.now s.bridge.shape s.timers.shape s.plans.now s.clients.items s.publishers.items s.queues.items s.publishers_wait s.queues_wait };
 }
 
 /// The port of the actor of this number, where those of its kind begin at `base`.
@@ -50,7 +67,7 @@ pub(crate) fn port_from(base: u32, number: u32) -> Result<u32, OutOfMemory>
 }
 
 /// Puts events of a port at the end of the bridge's lane.
-fn append_to_bridge(
+pub(crate) fn append_to_bridge(
     lane: &mut VecDeque<(u32, ToBridge<ObjectId>)>,
     port: u32,
     events: Outbox<ToBridge<ObjectId>>,
@@ -86,52 +103,10 @@ fn append_puts(
 }
 
 impl<'a> System<'a> {
-    /// All actors of a script, which have done nothing yet. These are the plans of its objects.
-    pub fn new(
-        alloc: Global,
-        script: &'a Script,
-        plans: &'a Plans,
-    ) -> Result<System<'a>, OutOfMemory> {
-        let shape = script.shape();
-        let queues = queue_seats(alloc, shape, plans)?;
-        let publishers = publisher_seats(alloc, script.publishers())?;
-        let clients = client_seats(alloc, shape, script.clients())?;
-        Ok(System {
-            alloc,
-            shape,
-            plans,
-            clients,
-            publishers,
-            queues,
-            bridge: Bridge::new(alloc, shape)?,
-            bridge_journal: Vec::new(alloc),
-            timers: Timers::new(alloc, shape)?,
-            to_bridge: VecDeque::new(alloc),
-            to_timers: VecDeque::new(alloc),
-            ready_publishers: BTreeSet::new(alloc),
-            ready_queues: BTreeSet::new(alloc),
-        })
-    }
-
-    /// Whether nothing waits on any lane.
-    pub(crate) fn is_quiet(&self) -> bool {
-        self.to_bridge.is_empty()
-            && self.to_timers.is_empty()
-            && self.ready_publishers.is_empty()
-            && self.ready_queues.is_empty()
-    }
-
-    /// Puts events of a port on the bridge's lane, in order.
-    pub(crate) fn put_to_bridge(
-        &mut self,
-        port: u32,
-        events: Outbox<ToBridge<ObjectId>>,
-    ) -> Result<(), OutOfMemory> {
-        append_to_bridge(&mut self.to_bridge, port, events)
-    }
-
     /// Puts one of the bridge's events on its lane.
-    fn put_one(&mut self, event: BridgeOut) -> Result<(), OutOfMemory> {
+    fn put_one(&mut self, event: BridgeOut<ObjectId>) -> Result<(), OutOfMemory>
+        ensures { OnOk result (Moves self.old self.new (spread_one (setting_in self.old) (put_note own_tag event) (world_in self.old))) }
+    {
         match event {
             BridgeOut::Publisher(number, event) => self.put_to_publisher(number, event),
             BridgeOut::Queue(number, event) => self.put_to_queue(number, 0, event),
@@ -139,10 +114,13 @@ impl<'a> System<'a> {
         }
     }
 
-    fn put_to_publisher(&mut self, number: u32, event: ToPublisher) -> Result<(), OutOfMemory> {
-        if let Some(seat) = self.publishers.get_mut(number as usize) {
+    fn put_to_publisher(&mut self, number: u32, event: ToPublisher) -> Result<(), OutOfMemory>
+        ensures { OnOk result (Moves self.old self.new (record (world_in self.old) { to_publishers = put_on number (publisher_note_of event) (world_in self.old).to_publishers })) }
+    {
+        if (number as usize) < self.publishers.len() {
+            self.publishers_wait = true;
+            let seat = &mut self.publishers[number as usize];
             seat.put(event)?;
-            self.ready_publishers.insert(number)?;
         }
         Ok(())
     }
@@ -152,38 +130,46 @@ impl<'a> System<'a> {
         number: u32,
         port: u32,
         event: ToQueue<ObjectId>,
-    ) -> Result<(), OutOfMemory> {
-        if let Some(seat) = self.queues.get_mut(number as usize) {
+    ) -> Result<(), OutOfMemory>
+        ensures { OnOk result (Moves self.old self.new (record (world_in self.old) { to_queues = put_on number (port, queue_note_of own_tag event) (world_in self.old).to_queues })) }
+    {
+        if (number as usize) < self.queues.len() {
+            self.queues_wait = true;
+            let seat = &mut self.queues[number as usize];
             seat.put(port, event)?;
-            self.ready_queues.insert(number)?;
         }
         Ok(())
     }
 
-    fn put_to_timers(&mut self, event: ToTimers<ObjectId>) -> Result<(), OutOfMemory> {
+    fn put_to_timers(&mut self, event: ToTimers<ObjectId>) -> Result<(), OutOfMemory>
+        ensures { OnOk result (Moves self.old self.new (record (world_in self.old) { to_timers = (world_in self.old).to_timers ++ (timers_port_of_bridge self.old.shape, timers_note_of own_tag event) ∷ [] })) }
+    {
         let port = port_from(self.shape.clients, self.shape.bounds.queues)?;
         self.to_timers.push_back((port, event))?;
         Ok(())
     }
 
     /// Puts the bridge's events on their lanes, in order.
-    fn spread(&mut self, events: Outbox<BridgeOut>) -> Result<(), OutOfMemory> {
+    fn spread(&mut self, events: Outbox<BridgeOut<ObjectId>>) -> Result<(), OutOfMemory>
+        ensures { OnOk result (Moves self.old self.new (spread (setting_in self.old) (map (put_note own_tag) events.items) (world_in self.old))) }
+    {
         let mut events = events;
-        for _ in 0..events.len() {
-            if let Some(event) = events.take_first() {
-                self.put_one(event)?;
-            }
+        while let Some(event) = events.take_first() {
+            self.put_one(event)?;
         }
         Ok(())
     }
 
     /// The bridge takes the first event of its lane, if there is one.
-    fn bridge_turn(&mut self) -> Result<(), OutOfMemory> {
+    fn bridge_turn(&mut self) -> Result<(), OutOfMemory>
+        ensures { OnOk result (Moves self.old self.new (world.bridge_turn (setting_in self.old) (world_in self.old))) }
+    {
         match self.to_bridge.pop_front() {
             Some((port, event)) => {
                 let mut out = Outbox::new(self.alloc);
-                self.bridge_journal.push((port, event.note()?))?;
-                self.bridge.take(port, event, &mut out)?;
+                if self.bridge.take(port, event, &mut out).is_err() {
+                    return Err(OutOfMemory);
+                }
                 self.spread(out)
             }
             None => Ok(()),
@@ -191,18 +177,28 @@ impl<'a> System<'a> {
     }
 
     /// Puts the timer service's events on the queues' lanes, in order.
-    fn spread_ticks(&mut self, events: Outbox<TimerOut<ObjectId>>) -> Result<(), OutOfMemory> {
+    fn spread_ticks(&mut self, events: Outbox<TimerOut<ObjectId>>) -> Result<(), OutOfMemory>
+        ensures { OnOk result (Moves self.old self.new (spread_ticks (map (out_note own_tag) events.items) (world_in self.old))) }
+    {
         let mut events = events;
-        for _ in 0..events.len() {
-            if let Some(TimerOut { queue, event }) = events.take_first() {
-                self.put_to_queue(queue, 1, event)?;
-            }
+        while let Some(out) = events.take_first() {
+            self.put_tick(out)?;
         }
         Ok(())
     }
 
+    /// Puts one of the timer service's events on its lane.
+    fn put_tick(&mut self, out: TimerOut<ObjectId>) -> Result<(), OutOfMemory>
+        ensures { OnOk result (Moves self.old self.new (tick_one (out_note own_tag out) (world_in self.old))) }
+    {
+        let TimerOut { queue, event } = out;
+        self.put_to_queue(queue, 1, event)
+    }
+
     /// The timer service takes the first event of its lane, if there is one.
-    fn timers_turn(&mut self) -> Result<(), OutOfMemory> {
+    fn timers_turn(&mut self) -> Result<(), OutOfMemory>
+        ensures { OnOk result (Moves self.old self.new (world.timers_turn (setting_in self.old) (world_in self.old))) }
+    {
         match self.to_timers.pop_front() {
             Some((port, event)) => {
                 let mut out = Outbox::new(self.alloc);
@@ -216,25 +212,38 @@ impl<'a> System<'a> {
     }
 
     /// A publisher takes the first event of its lane, if there is one.
-    fn publisher_turn(&mut self, number: u32) -> Result<(), OutOfMemory> {
+    fn publisher_turn(&mut self, number: u32) -> Result<(), OutOfMemory>
+        requires { number < length self.old.senders }
+        ensures { OnOk result (Moves self.old self.new (world.publisher_turn (setting_in self.old) number (world_in self.old))) }
+    {
         let port = port_from(self.shape.clients, number)?;
-        if let Some(seat) = self.publishers.get_mut(number as usize) {
-            let out = seat.turn()?;
-            if seat.is_quiet() {
-                self.ready_publishers.remove(&number);
-            }
-            append_to_bridge(&mut self.to_bridge, port, out)?;
-        }
+        self.publishers_wait = true;
+        let seat = &mut self.publishers[number as usize];
+        let out = seat.turn()?;
+        append_to_bridge(&mut self.to_bridge, port, out)?;
         Ok(())
     }
 
-    /// Each publisher takes the first event of its lane, if there is one. Their turns put nothing on each other's
-    /// lanes, so those that are not ready now have no turn.
-    fn publisher_turns(&mut self) -> Result<(), OutOfMemory> {
-        for number in ready(self.alloc, &self.ready_publishers)? {
+    /// Each publisher takes the first event of its lane, if there is one.
+    fn publisher_turns(&mut self) -> Result<(), OutOfMemory>
+        ensures { OnOk result (Moves self.old self.new (world.in_turn (world.publisher_turn (setting_in self.old)) (publishers_of self.old.shape) (world_in self.old))) }
+    {
+        if !self.publishers_wait {
+            return Ok(());
+        }
+        let count = count_of(self.publishers.len())?;
+        for number in 0..count {
             self.publisher_turn(number)?;
         }
+        self.look_at_publishers();
         Ok(())
+    }
+
+    /// Marks whether events wait on the lane of some publisher.
+    fn look_at_publishers(&mut self)
+        ensures { self.new ≡ self.old }
+    {
+        self.publishers_wait = !are_publishers_quiet(self.publishers.as_slice());
     }
 
     /// What a client or a queue puts goes at the end of the lanes of the bridge and of the timer service.
@@ -243,7 +252,9 @@ impl<'a> System<'a> {
         bridge_port: u32,
         timers_port: u32,
         puts: Outbox<Put>,
-    ) -> Result<(), OutOfMemory> {
+    ) -> Result<(), OutOfMemory>
+        ensures { OnOk result (Moves self.old self.new (world.with_puts bridge_port timers_port (notes_of puts.items) (world_in self.old))) }
+    {
         append_puts(
             &mut self.to_bridge,
             &mut self.to_timers,
@@ -255,44 +266,102 @@ impl<'a> System<'a> {
     }
 
     /// A queue takes the first event of its lane, if there is one, and makes its callbacks.
-    fn queue_turn(&mut self, number: u32) -> Result<(), OutOfMemory> {
-        let publishers = count_of(self.publishers.len())?;
+    fn queue_turn(&mut self, number: u32) -> Result<(), OutOfMemory>
+        requires { number < length self.old.servers }
+        ensures { OnOk result (Moves self.old self.new (world.queue_turn (setting_in self.old) number (world_in self.old))) }
+    {
         let timers_port = port_from(self.shape.clients, number)?;
-        let bridge_port = port_from(port_from(self.shape.clients, publishers)?, number)?;
-        if let Some(seat) = self.queues.get_mut(number as usize) {
-            let puts = seat.turn()?;
-            if seat.is_quiet() {
-                self.ready_queues.remove(&number);
-            }
-            self.put_all(bridge_port, timers_port, puts)?;
-        }
+        let bridge_port = port_of_queue(self.shape, number)?;
+        self.queues_wait = true;
+        let seat = &mut self.queues[number as usize];
+        let puts = seat.turn()?;
+        append_puts(
+            &mut self.to_bridge,
+            &mut self.to_timers,
+            bridge_port,
+            timers_port,
+            puts,
+        )?;
         Ok(())
     }
 
     /// Each queue takes the first event of its lane, if there is one.
-    fn queue_turns(&mut self) -> Result<(), OutOfMemory> {
-        for number in ready(self.alloc, &self.ready_queues)? {
+    fn queue_turns(&mut self) -> Result<(), OutOfMemory>
+        ensures { OnOk result (Moves self.old self.new (world.in_turn (world.queue_turn (setting_in self.old)) (queues_of self.old.shape) (world_in self.old))) }
+    {
+        if !self.queues_wait {
+            return Ok(());
+        }
+        let count = count_of(self.queues.len())?;
+        for number in 0..count {
             self.queue_turn(number)?;
         }
+        self.look_at_queues();
         Ok(())
     }
 
+    /// Marks whether events wait on the lane of some queue.
+    fn look_at_queues(&mut self)
+        ensures { self.new ≡ self.old }
+    {
+        self.queues_wait = !are_queues_quiet(self.queues.as_slice());
+    }
+
     /// One pass: the bridge, the timer service, each publisher and each queue take one event, if there is one.
-    pub(crate) fn pass(&mut self) -> Result<(), OutOfMemory> {
+    pub(crate) fn pass(&mut self) -> Result<(), OutOfMemory>
+        ensures { OnOk result (Moves self.old self.new (world.pass (setting_in self.old) (world_in self.old))) }
+    {
         self.bridge_turn()?;
         self.timers_turn()?;
         self.publisher_turns()?;
         self.queue_turns()
     }
+
+    /// Whether nothing waits on any lane.
+    pub(crate) fn is_quiet(&self) -> bool
+        ensures { result ≡ true → world.IsQuiet (world_in self.now) }
+    {
+        if self.publishers_wait {
+            return false;
+        }
+        if self.queues_wait {
+            return false;
+        }
+        if !is_free(&self.to_bridge) {
+            return false;
+        }
+        is_free(&self.to_timers)
+    }
 }
 
-/// The numbers that are ready, ascending.
-fn ready(alloc: Global, numbers: &BTreeSet<u32>) -> Result<Vec<u32>, OutOfMemory> {
-    let mut list = Vec::new(alloc);
-    for number in numbers {
-        list.push(*number)?;
-    }
-    Ok(list)
+/// Whether nothing waits on a lane.
+fn is_free<T>(lane: &VecDeque<T>) -> bool
+    ensures { result ≡ is_empty lane.now.items }
+{
+    lane.is_empty()
+}
+
+/// The bridge's port of a queue.
+fn port_of_queue(shape: &Shape, number: u32) -> Result<u32, OutOfMemory>
+    ensures { IfOk result (λ port. port ≡ bridge_port_of_queue shape.now number) }
+{
+    let publishers = count_of(shape.publisher_topics.len())?;
+    let first = port_from(shape.clients, publishers)?;
+    port_from(first, number)
+}
+
+/// Whether nothing waits on the lane of any publisher.
+fn are_publishers_quiet(seats: &[PublisherSeat]) -> bool
+    ensures { result ≡ list_all (λ seat. is_empty seat.lane) seats.now }
+{
+    seats.iter().all(|seat| seat.is_quiet())
+}
+
+/// Whether nothing waits on the lane of any queue.
+fn are_queues_quiet(seats: &[QueueSeat]) -> bool
+    ensures { result ≡ list_all (λ seat. is_empty seat.lane) seats.now }
+{
+    seats.iter().all(|seat| seat.is_quiet())
 }
 
 /// The number of actors of a kind. No accepted script has more than fit.
@@ -303,44 +372,4 @@ pub(crate) fn count_of(count: usize) -> Result<u32, OutOfMemory>
         Ok(number) => Ok(number),
         Err(_) => Err(OutOfMemory),
     }
-}
-
-/// A seat for each queue.
-fn queue_seats<'a>(
-    alloc: Global,
-    shape: &Shape,
-    plans: &'a Plans,
-) -> Result<Vec<QueueSeat<'a>>, OutOfMemory> {
-    let mut seats = Vec::new(alloc);
-    for _ in 0..shape.bounds.queues {
-        seats.push(QueueSeat::new(alloc, plans))?;
-    }
-    Ok(seats)
-}
-
-/// A seat for each publisher.
-fn publisher_seats<'a>(
-    alloc: Global,
-    parts: &'a [PublisherPart],
-) -> Result<Vec<PublisherSeat<'a>>, OutOfMemory> {
-    let mut seats = Vec::new(alloc);
-    for part in parts {
-        let number = count_of(seats.len())?;
-        seats.push(PublisherSeat::new(alloc, number, part)?)?;
-    }
-    Ok(seats)
-}
-
-/// A seat for each client.
-fn client_seats<'a>(
-    alloc: Global,
-    shape: &Shape,
-    sections: &'a [ClientLines],
-) -> Result<Vec<ClientSeat<'a>>, OutOfMemory> {
-    let mut seats = Vec::new(alloc);
-    for lines in sections {
-        let number = count_of(seats.len())?;
-        seats.push(ClientSeat::new(alloc, number, shape.bounds.queues, lines.as_slice()))?;
-    }
-    Ok(seats)
 }

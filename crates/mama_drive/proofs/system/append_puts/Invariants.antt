@@ -2,7 +2,7 @@ use Rattle.std.proofs.Common.{◌≡◌, ◌++◌, map, length}
 use Rattle.std.specs.List.{flat_map}
 use Rattle.mama_journal.specs.Lane.{from_port}
 use Rattle.mama_rounds.specs.Client.{bridge_part, timers_part}
-use Rattle.mama_drive.specs.Put.{notes_of}
+use Rattle.mama_queue_seat.specs.Put.{notes_of}
 use Rattle.mama_drive.specs.Entry.{bridge_entry, timers_entry}
 use Rattle.mama_drive.proofs.system.append_puts.Given as goal
 

@@ -1,7 +1,7 @@
 use Rattle.std.proofs.Common.{◌≡◌, ◌++◌, map, length}
 use Rattle.mama_journal.specs.Lane.{from_port}
 use Rattle.mama_event.specs.ToBridge.{note_of}
-use Rattle.mama_drive.specs.Put.{own_tag}
+use Rattle.mama_queue_seat.specs.Put.{own_tag}
 use Rattle.mama_drive.specs.Entry.{bridge_entry}
 use Rattle.mama_drive.proofs.system.append_to_bridge.Given as goal
 

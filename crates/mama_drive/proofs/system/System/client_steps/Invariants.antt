@@ -1,0 +1,6 @@
+use Rattle.mama_rounds.specs.Stage.{client_step}
+use Rattle.mama_drive.specs.Scene.{Advances, SteppedAll}
+use Rattle.mama_drive.proofs.system.System.client_steps.Given as goal
+
+abbrev pub invariant-loop-number : goal.invariant-loop-number
+invariant-loop-number g l = Advances (SteppedAll client_step l.number) l.initial.self l.self

@@ -1,0 +1,10 @@
+use Rattle.std.proofs.Common.{◌∙◌, ap}
+use Rattle.std.specs.List.{list_all}
+use Rattle.mama_rounds.specs.World.{is_empty}
+use Rattle.mama_seats.specs.Sender.{Sender}
+use Rattle.mama_drive.proofs.SystemLemmas.{publishers_looked}
+use Rattle.mama_drive.proofs.system.System.look_at_publishers.Goals as goal
+
+pub invariant_of-self : goal.invariant_of-self
+invariant_of-self c = publishers_looked _ _ _ _ _ _ _ _ _ c.self.invariant c.are_publishers_quiet.result
+    (c.are_publishers_quiet.ensures ∙ ap (list_all (λ (s : Sender). is_empty s.lane)) c.as_slice.ensures.value)

@@ -1,0 +1,6 @@
+use Rattle.mama_rounds.specs.Stage.{publisher_step}
+use Rattle.mama_drive.specs.Scene.{Advances, SteppedAll}
+use Rattle.mama_drive.proofs.system.System.publisher_steps.Given as goal
+
+abbrev pub invariant-loop-number : goal.invariant-loop-number
+invariant-loop-number l = Advances (SteppedAll publisher_step l.number) l.initial.self l.self

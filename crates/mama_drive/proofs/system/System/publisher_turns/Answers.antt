@@ -1,0 +1,13 @@
+use Rattle.mama_rounds.specs.World.{publisher_turn}
+use Rattle.mama_drive.proofs.SceneLemmas.{moves_none}
+use Rattle.mama_drive.proofs.TurnLemmas.{turn_more, publishers_idle_to}
+use Rattle.mama_drive.proofs.system.System.publisher_turns.Goals as goal
+
+pub returns-then-not-self : goal.returns-then-not-self
+returns-then-not-self c = publishers_idle_to _ c.args.self.now c.self.view_is (c.self.invariant.quiet_publishers c.if-not-self.true)
+
+pub loop-number-init : goal.loop-number-init
+loop-number-init c = moves_none _
+
+pub loop-number-preserved : goal.loop-number-preserved
+loop-number-preserved c = turn_more publisher_turn c.args.self.now c.loop-number.self c.publisher_turn.new.self c.loop-number.number c.loop-number.invariant c.in_ok-publisher_turn.ensures

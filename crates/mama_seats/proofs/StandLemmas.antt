@@ -1,0 +1,127 @@
+-- How a client's seat makes a step.
+use Rattle.std.proofs.Common.{◌≡◌, ℕ, zero, suc, ◌+◌, ◌-◌, ◌<◌, ◌≤◌, Bool, true, false, List, [], ◌∷◌, ◌++◌, length, drop, refl, sym, ◌∙◌, ap, append_assoc, arith, subst, add-one, get_or}
+use Rattle.std.proofs.lemmas.List.{length-append}
+use Rattle.std.proofs.Math.Seq.{drop-append_seam, drop-cons}
+use Rattle.std.specs.Prelude.{replicate}
+use Rattle.mama_script.specs.declared.client.ClientLine.{ClientLine}
+use Rattle.mama_script.specs.declared.client.ClientLine.TheVariants as line
+use Rattle.mama_event.specs.declared.to_bridge.BridgeNote.TheVariants as b
+use Rattle.mama_event.specs.declared.to_timers.TimersNote.TheVariants as t
+use Rattle.mama_queue_rules.specs.Queue.{QueuePut, to_bridge, to_timers}
+use Rattle.mama_rounds.specs.Client.{Standing, steps_from, line_steps, after_line, first_moment, later_moments}
+use Rattle.mama_seats.specs.declared.names.Names.{Names}
+use Rattle.mama_seats.specs.Names.{standing_of, DoesLine}
+use Rattle.mama_seats.specs.Sender.{first_step, later_steps}
+use Rattle.mama_seats.specs.Stand.{Stand, standing_in, left_after, client_left, BeginsWith, IsStep}
+use Rattle.mama_seats.proofs.ListLemmas.{append_nil}
+
+apart : {b : Bool} → b ≡ false → b ≡ true → ⊥
+apart untrue holds = cc
+
+itself : (xs : List ℕ) → BeginsWith xs xs
+itself xs = ([], append_nil xs)
+
+-- no step is left
+pub over_step : (s : Stand) → s.over ≡ true → IsStep s s []
+over_step s over = record {
+  number = refl;
+  queues = refl;
+  read = itself s.read;
+  puts_are = λ ms h. ap (λ o. first_step (left_after o s.pause (steps_from s.queues s.number (standing_in ms s) s.lines))) over;
+  left = λ ms h. ap (λ o. left_after o s.pause (steps_from s.queues s.number (standing_in ms s) s.lines)) over
+      ∙ sym (ap (λ o. later_steps (left_after o s.pause (steps_from s.queues s.number (standing_in ms s) s.lines))) over);
+  told = refl;
+  ends = λ h. h;
+}
+
+-- a step of a pause
+pub pause_step : (s : Stand) (k : ℕ) → s.over ≡ false → s.pause ≡ suc k → IsStep s (record s { pause = k }) []
+pause_step s k over pause = record {
+  number = refl;
+  queues = refl;
+  read = itself s.read;
+  puts_are = λ ms h. rw (over, pause) refl;
+  left = λ ms h. rw (over, pause) refl;
+  told = refl;
+  ends = λ h. h;
+}
+
+-- the first step of a pause
+pub pause_begins : (s : Stand) (k : ℕ) (rest : List ClientLine) → s.over ≡ false → s.pause ≡ 0 → s.lines ≡ line.Pause (suc k) ∷ rest
+    → IsStep s (record s { pause = k; lines = rest }) []
+pause_begins s k rest over pause lines = record {
+  number = refl;
+  queues = refl;
+  read = itself s.read;
+  puts_are = λ ms h. rw (over, pause, lines) refl;
+  left = λ ms h. rw (over, pause, lines) refl;
+  told = rw lines refl;
+  ends = λ h o. absurd (apart over o);
+}
+
+-- the last step
+pub end_step : (s : Stand) → s.over ≡ false → s.pause ≡ 0 → s.lines ≡ []
+    → IsStep s (record s { over = true }) (to_timers t.ClientDone ∷ to_bridge b.ClientDone ∷ [])
+end_step s over pause lines = record {
+  number = refl;
+  queues = refl;
+  read = itself s.read;
+  puts_are = λ ms h. rw (over, pause, lines) refl;
+  left = λ ms h. rw (over, pause, lines) refl;
+  told = refl;
+  ends = λ h o. lines;
+}
+
+-- a line that is no pause and no reading of the clock
+pub line_step : (s : Stand) (l : ClientLine) (rest : List ClientLine) (names : Names) (put : QueuePut) → s.over ≡ false → s.pause ≡ 0 → s.lines ≡ l ∷ rest
+    → DoesLine s.queues s.number s.names names l put
+    → IsStep s (record s { names = names; lines = rest }) (put ∷ [])
+line_step s l rest names put over pause lines does = record {
+  number = refl;
+  queues = refl;
+  read = itself s.read;
+  puts_are = λ ms h. rw (over, pause, lines, does.step (drop (length s.read) ms)) refl;
+  left = λ ms h. rw (over, pause, lines, does.step (drop (length s.read) ms), does.after (drop (length s.read) ms)) refl;
+  told = rw (lines, does.silent) refl;
+  ends = λ h o. absurd (apart over o);
+}
+
+-- a reading of the clock
+pub clock_step : (s : Stand) (m : ℕ) (rest : List ClientLine) → s.over ≡ false → s.pause ≡ 0 → s.lines ≡ line.NowClock ∷ rest
+    → IsStep s (record s { lines = rest; read = s.read ++ m ∷ [] }) (to_timers (t.Now m) ∷ [])
+clock_step s m rest over pause lines = record {
+  number = refl;
+  queues = refl;
+  read = (m ∷ [], refl);
+  puts_are = λ ms h. rw (over, pause, lines, ← h.1, append_assoc s.read (m ∷ []) h.0, drop-append_seam s.read (m ∷ h.0)) refl;
+  left = λ ms h.
+      rw (over, pause, lines, ← h.1, drop-append_seam (s.read ++ m ∷ []) h.0, append_assoc s.read (m ∷ []) h.0, drop-append_seam s.read (m ∷ h.0)) refl;
+  told = rw (lines, length-append s.read (m ∷ [])) (omega arith);
+  ends = λ h o. absurd (apart over o);
+}
+
+-- what is left of a list from a place on
+pub next_line : {A : Type 0} → (xs : List A) (n : ℕ) (r x : A) → n < length xs → r ≡ get_or xs n r → r ≡ x → drop n xs ≡ x ∷ drop (n + 1) xs
+next_line xs n r x within is same =
+    drop-cons xs n r within ∙ ap (λ y. y ∷ drop (suc n) xs) (sym is ∙ same) ∙ ap (λ k. x ∷ drop k xs) (sym (add-one n))
+
+-- the same of a seat that stands at a place in its lines: a pause begins
+pub pause_moves : (s old : Stand) (whole : List ClientLine) (at m n : ℕ) (r : ClientLine) (puts : List QueuePut) → s ≡ old → s.over ≡ false → s.pause ≤ 0
+    → s.lines ≡ drop at whole → at < length whole → r ≡ get_or whole at r → r ≡ line.Pause n → suc m ≡ n → puts ≡ []
+    → IsStep old (record s { pause = m; lines = drop (at + 1) whole }) puts
+pause_moves s old whole at m n r puts is over pause own within read same counted none =
+    let no_pause : s.pause ≡ 0 = omega arith in
+    let lines : s.lines ≡ line.Pause (suc m) ∷ drop (at + 1) whole = own ∙ next_line whole at r (line.Pause (suc m)) within read (same ∙ ap line.Pause (sym counted)) in
+    subst (λ (o : Stand). IsStep o (record s { pause = m; lines = drop (at + 1) whole }) puts) is
+    (subst (λ (p : List QueuePut). IsStep s (record s { pause = m; lines = drop (at + 1) whole }) p) (sym none)
+    (pause_begins s m (drop (at + 1) whole) over no_pause lines))
+
+-- a line is done
+pub line_moves : (s old : Stand) (whole : List ClientLine) (at : ℕ) (r l : ClientLine) (names : Names) (put : QueuePut) (puts : List QueuePut) → s ≡ old → s.over ≡ false → s.pause ≤ 0
+    → s.lines ≡ drop at whole → at < length whole → r ≡ get_or whole at r → r ≡ l → DoesLine s.queues s.number s.names names l put → puts ≡ put ∷ []
+    → IsStep old (record s { names = names; lines = drop (at + 1) whole }) puts
+line_moves s old whole at r l names put puts is over pause own within read same does puts_are =
+    let no_pause : s.pause ≡ 0 = omega arith in
+    subst (λ (o : Stand). IsStep o (record s { names = names; lines = drop (at + 1) whole }) puts) is
+    (subst (λ (p : List QueuePut). IsStep s (record s { names = names; lines = drop (at + 1) whole }) p) (sym puts_are)
+    (line_step s l (drop (at + 1) whole) names put over no_pause (own ∙ next_line whole at r l within read same) does))

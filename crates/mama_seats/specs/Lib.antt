@@ -1,0 +1,4 @@
+pub mod Names
+pub mod Sender
+pub mod Stand
+pub mod Planning

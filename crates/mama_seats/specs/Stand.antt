@@ -1,0 +1,54 @@
+-- A client's seat: where the client stands in its lines, and the moments that it has read.
+use Rattle.std.specs.Prelude.{◌≡◌, ℕ, ◌+◌, Bool, true, false, List, [], ◌∷◌, ◌++◌, length, drop, replicate}
+use Rattle.mama_script.specs.declared.client.ClientLine.{ClientLine}
+use Rattle.mama_queue_rules.specs.Queue.{QueuePut}
+use Rattle.mama_rounds.specs.Client.{Standing, steps_from, clock_lines}
+use Rattle.mama_seats.specs.declared.names.Names.{Names}
+use Rattle.mama_seats.specs.Names.{standing_of}
+use Rattle.mama_seats.specs.Sender.{first_step, later_steps}
+
+-- the client's number, how many queues there are, whether it is done, how many steps it still pauses, what it has
+-- named so far, the lines that are left, and the moments that its clock has told
+pub record Stand : Type 0 where
+  pub number : ℕ
+  pub queues : ℕ
+  pub over : Bool
+  pub pause : ℕ
+  pub names : Names
+  pub lines : List ClientLine
+  pub read : List ℕ
+
+-- where it stands, if these are all the moments that its clock will have told in the end
+abbrev pub standing_in : List ℕ → Stand → Standing
+standing_in moments s = standing_of s.names (drop (length s.read) moments)
+
+abbrev pub left_after : Bool → ℕ → List (List QueuePut) → List (List QueuePut)
+left_after true pause steps = []
+left_after false pause steps = replicate pause [] ++ steps
+
+-- the steps that it has still to make
+abbrev pub client_left : List ℕ → Stand → List (List QueuePut)
+client_left moments s = left_after s.over s.pause (steps_from s.queues s.number (standing_in moments s) s.lines)
+
+-- a list begins with another
+abbrev pub BeginsWith : List ℕ → List ℕ → Type 0
+BeginsWith front whole = (rest : List ℕ) × (front ++ rest ≡ whole)
+
+-- how many moments it will have read in the end
+abbrev pub reading : Stand → ℕ
+reading s = length s.read + clock_lines s.lines
+
+-- one that is done has no lines left
+abbrev pub Ends : Stand → Type 0
+Ends s = s.over ≡ true → s.lines ≡ []
+
+-- A client made its next step, and these are its puts, whatever its clock will tell later. It read a moment exactly
+-- where it did a line that reads one.
+pub record IsStep (old new : Stand) (puts : List QueuePut) : Type 0 where
+  pub number : new.number ≡ old.number
+  pub queues : new.queues ≡ old.queues
+  pub read : BeginsWith old.read new.read
+  pub puts_are : (moments : List ℕ) → BeginsWith new.read moments → first_step (client_left moments old) ≡ puts
+  pub left : (moments : List ℕ) → BeginsWith new.read moments → client_left moments new ≡ later_steps (client_left moments old)
+  pub told : reading new ≡ reading old
+  pub ends : Ends old → Ends new

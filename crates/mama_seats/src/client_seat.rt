@@ -1,0 +1,168 @@
+ghost use Rattle.std.specs.Prelude.{◌≡◌, ◌+◌, ◌-◌, ◌^◌, ◌<◌, List, ℕ, Bool, true, false, [], ◌∷◌, ◌++◌, map, IfOk, OnOk};
+ghost use Rattle.mama_event.specs.declared.to_bridge.BridgeNote.TheVariants as bridge;
+ghost use Rattle.mama_event.specs.declared.to_timers.TimersNote.TheVariants as timers;
+ghost use Rattle.mama_queue_rules.specs.Queue.{to_bridge, to_timers};
+ghost use Rattle.mama_seats.specs.Stand.{IsStep};
+ghost use Rattle.mama_queue_seat.specs.Put.{note_of, notes_of};
+
+use crate::names::Names;
+use mama_edge::Clock;
+use mama_event::{ToBridge, ToTimers};
+use mama_link::Outbox;
+use mama_memory::OutOfMemory;
+use mama_queue_seat::Put;
+use mama_script::ClientLine;
+use std::alloc::Global;
+use std::marker::Model;
+
+/// A client with its lines: where it stands, what it has named so far, and the moments that it has read.
+#[derive(Drop)]
+pub struct ClientSeat<'a> {
+    alloc: Global,
+    number: u32,
+    queues: u32,
+    over: bool,
+    pause: u32,
+    names: Names,
+    lines: &'a [ClientLine],
+    line: usize,
+    moments: Vec<u64>,
+}
+
+impl<'a> Model for ClientSeat<'a> {
+    ghost use Rattle.std.specs.Prelude.{drop};
+    ghost use Rattle.mama_seats.specs.Stand.{Stand};
+
+    ghost Value = { Stand };
+
+    ghost view = { λ s. record { number = s.number; queues = s.queues; over = s.over; pause = s.pause; names = s.names; lines = drop s.line s.lines.now; read = s.moments.items } };
+}
+
+impl<'a> ClientSeat<'a> {
+    /// The client of this number and these lines, where there are so many queues. It has done nothing yet.
+    pub fn new(alloc: Global, number: u32, queues: u32, lines: &'a [ClientLine]) -> ClientSeat<'a>
+        ensures { result ≡ record { number = number; queues = queues; over = false; pause = 0; names = record { subs = 0; timers = 0; inboxes = 0; turns = 0 }; lines = lines.now; read = [] } }
+    {
+        ClientSeat {
+            alloc,
+            number,
+            queues,
+            over: false,
+            pause: 0,
+            names: Names::none(),
+            lines,
+            line: 0,
+            moments: Vec::new(alloc),
+        }
+    }
+
+    /// Whether it has made all its steps.
+    pub fn is_over(&self) -> bool
+        ensures { result ≡ self.now.over }
+    {
+        self.over
+    }
+
+    /// How many steps it surely does nothing in before it does something; none where it is over.
+    pub fn idle(&self) -> Option<u32> {
+        if self.over {
+            return None;
+        }
+        if self.pause > 0 {
+            return Some(self.pause);
+        }
+        match self.lines.get(self.line) {
+            Some(ClientLine::Pause(steps)) => Some(*steps),
+            _ => Some(0),
+        }
+    }
+
+    /// Makes as many steps, in which it does nothing.
+    pub fn rest(&mut self, steps: u32) {
+        if self.over {
+            return;
+        }
+        if self.pause == 0 {
+            if let Some(ClientLine::Pause(pause)) = self.lines.get(self.line) {
+                self.pause = *pause;
+                self.line += 1;
+            }
+        }
+        self.pause = self.pause.saturating_sub(steps);
+    }
+
+    /// The moments that it has read, in order.
+    pub fn into_moments(self) -> Vec<u64>
+        ensures { result.items ≡ self.entry.read }
+    {
+        self.moments
+    }
+
+    /// Makes the next step, and gives what it puts: nothing during a pause and after the last step. The error is want
+    /// of memory, or a number that no accepted script reaches.
+    pub fn step<C: Clock>(&mut self, clock: &mut C) -> Result<Outbox<Put>, OutOfMemory>
+        ensures { IfOk result (λ out. IsStep self.old self.new (notes_of out.items)) }
+    {
+        if self.over {
+            return Ok(Outbox::new(self.alloc));
+        }
+        if self.pause > 0 {
+            self.pause -= 1;
+            return Ok(Outbox::new(self.alloc));
+        }
+        if self.line >= self.lines.len() {
+            let out = last_words(self.alloc)?;
+            self.over = true;
+            return Ok(out);
+        }
+        match &self.lines[self.line] {
+            ClientLine::Pause(steps) => {
+                let steps = *steps;
+                if steps == 0 {
+                    return Err(OutOfMemory);
+                }
+                self.pause = steps - 1;
+                self.line += 1;
+                Ok(Outbox::new(self.alloc))
+            }
+            ClientLine::NowClock => {
+                let moment = clock.now();
+                let out = one(self.alloc, Put::Timers(ToTimers::Now { moment }))?;
+                self.moments.push(moment)?;
+                self.line += 1;
+                Ok(out)
+            }
+            line => match self.names.line(self.number, self.queues, line)? {
+                Some((put, names)) => {
+                    let out = one(self.alloc, put)?;
+                    self.names = names;
+                    self.line += 1;
+                    Ok(out)
+                }
+                None => Err(OutOfMemory),
+            },
+        }
+    }
+}
+
+/// One event.
+fn one(alloc: Global, put: Put) -> Result<Outbox<Put>, OutOfMemory>
+    ensures { IfOk result (λ out. notes_of out.items ≡ note_of put ∷ []) }
+{
+    let mut out = Outbox::new(alloc);
+    match out.push(put) {
+        Ok(()) => Ok(out),
+        Err(_) => Err(OutOfMemory),
+    }
+}
+
+/// What a client puts last: it tells the timer service, and then the bridge, that it is done.
+fn last_words(alloc: Global) -> Result<Outbox<Put>, OutOfMemory>
+    ensures { IfOk result (λ out. notes_of out.items ≡ to_timers timers.ClientDone ∷ to_bridge bridge.ClientDone ∷ []) }
+{
+    let mut out = Outbox::new(alloc);
+    out.reserve(2)?;
+    out.push_reserved(Put::Timers(ToTimers::ClientDone));
+    out.push_reserved(Put::Bridge(ToBridge::ClientDone));
+    Ok(out)
+}
