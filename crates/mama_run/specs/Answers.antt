@@ -6,6 +6,14 @@ use Rattle.mama_script.specs.Reading.{script_in}
 use Rattle.mama_script.specs.declared.fault.ScriptFault.TheVariants as f
 use Rattle.mama_record.specs.RunData.{RunData}
 use Rattle.mama_record.specs.LogText.{log_text}
+use Rattle.std.specs.List.{AllZip}
+use Rattle.mama_rounds.specs.Round.{IsRound, publishers_from, setting_of}
+use Rattle.mama_legal.specs.Edges.{AreEdges}
+use Rattle.mama_legal.specs.Lines.{AreLines}
+use Rattle.mama_legal.specs.Calls.{IsShapedFor, AreCalls}
+use Rattle.mama_genuine.specs.Sent.{AreSent}
+use Rattle.mama_genuine.specs.Records.{AreRecords}
+use Rattle.mama_genuine.specs.Gaps.{HasTrueGaps}
 use Rattle.mama_run.specs.declared.status.Status.{Status}
 use Rattle.mama_run.specs.declared.status.Status.TheVariants as s
 use Rattle.mama_run.specs.declared.run.NoLog.{NoLog}
@@ -16,9 +24,29 @@ pub record GaveAll (old new : Option (List ℕ)) (text : List ℕ) : Type 0 wher
   pub whole : IfSome old (λ left. (text ≡ left) × (new ≡ Some []))
   pub within : length text ≤ 67108864
 
--- the text spells an accepted script, and the other is the log of some record, its ports named by the script's shape
-abbrev pub IsLogOf : List ℕ → List ℕ → Type 0
-IsLogOf text log = (script : ScriptData) × IsScript script × (text ≡ script_text script) × (run : RunData) × (log ≡ log_text script.shape run)
+-- What is promised of the record of a run. It is the record of the script's run in rounds, which is the only one where
+-- the clients read these moments. On every edge what was taken is all that was put, by the rules of the actor that put
+-- it, and in order. Each line of the script was done. The callbacks are those that the queues make, with the orders of the plans.
+-- And whatever the links lose, repeat and hold back: each message that was delivered is its sender's own, each image
+-- that is ok is its sender's record at its number, and each gap that was told is true.
+pub record IsRun (script : ScriptData) (run : RunData) : Type 0 where
+  pub round : IsRound script run
+  pub shape : IsShapedFor script run
+  pub lines : AreLines script run
+  pub edges : AreEdges script run
+  pub calls : AreCalls script run
+  pub messages : AreSent (publishers_from 0 script.publishers) run.queues
+  pub images : AreRecords (publishers_from 0 script.publishers) run.images
+  pub gaps : AllZip (HasTrueGaps (setting_of script) run.queues) (setting_of script).objects run.calls
+
+-- the text spells an accepted script, and the other is the log of a run of it, its ports named by the script's shape
+pub record IsLogOf (text log : List ℕ) : Type 0 where
+  pub script : ScriptData
+  pub accepted : IsScript script
+  pub spelled : text ≡ script_text script
+  pub record_of : RunData
+  pub run : IsRun script record_of
+  pub told : log ≡ log_text script.shape record_of
 
 -- why there is no log of a text: its first line with a fault, its first line past a limit, or want of memory
 abbrev pub IsCause : List ℕ → NoLog → Type 0

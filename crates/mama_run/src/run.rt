@@ -4,14 +4,16 @@ ghost use Rattle.mama_edge.specs.Told.{Appended, Lost};
 ghost use Rattle.mama_script.specs.Reading.{script_in};
 ghost use Rattle.mama_script.specs.declared.fault.ScriptFault.TheVariants as script;
 ghost use Rattle.mama_run.specs.Command.{is_serial};
-ghost use Rattle.mama_run.specs.Answers.{GaveAll, IsLogOf, IsCause, IfWriteFault, IfBadScript, IfOverLimit, OnSilent};
+ghost use Rattle.mama_run.specs.Answers.{GaveAll, IsRun, IsLogOf, IsCause, IfWriteFault, IfBadScript, IfOverLimit, OnSilent};
 
 use crate::status::Status;
 use mama_drive::serial;
 use mama_edge::{Clock, ReadAll, Sink, Source, read_all, write_all_counted};
+use mama_genuine::{delivered_messages_are_sent, ok_images_are_records, told_gaps_are_true};
+use mama_legal::{rounds_are_shaped, rounds_are_whole, rounds_do_all_lines, rounds_tell_calls};
 use mama_memory::OutOfMemory;
-use mama_record::print_log;
-use mama_script::{ScriptFault, parse};
+use mama_record::{RunRecord, print_log};
+use mama_script::{Script, ScriptFault, parse};
 use std::alloc::Global;
 
 /// The most bytes of input.
@@ -29,8 +31,8 @@ pub enum NoLog {
 /// Serves the command that the words name: `serial` reads a script from the source, plays it on one thread and writes
 /// its log to the sink. The clock is read once for each line of the script that asks for it. It always returns.
 ///
-/// No clause ties want of memory to its cause, and none says yet that the record is a run of the script: that is
-/// tested.
+/// At `Ok` the log is that of the one record that the script has where its clients read the moments of that record: `IsRun`
+/// says what is promised of it. No clause ties want of memory to its cause, nor the moments to the clock.
 pub fn run_plain<S: Source, K: Sink, C: Clock>(
     alloc: Global,
     words: &[String],
@@ -55,8 +57,8 @@ pub fn run_plain<S: Source, K: Sink, C: Clock>(
     ensures over_limit { IfOverLimit result (λ line limit. (line ≢ 0) → (text : List ℕ) × GaveAll (S.left source.old) (S.left source.new) text
         × (script_in text ≡ Err (script.OverLimit line limit))) }
 
-    // At Ok the source gave the text of an accepted script and no more, and a log of it was written whole. At a write
-    // fault a part of one was written, which is not the whole.
+    // At Ok the source gave the text of an accepted script and no more, and the log of a run of it was written whole. At
+    // a write fault a part of one was written, which is not the whole.
     ensures ok { result ≡ Status.Ok → (text log : List ℕ) × GaveAll (S.left source.old) (S.left source.new) text × IsLogOf text log
         × Appended (K.written sink.old) (K.written sink.new) log }
     ensures part { IfWriteFault result (λ written. (text log : List ℕ) × GaveAll (S.left source.old) (S.left source.new) text × IsLogOf text log
@@ -105,7 +107,7 @@ fn log_of<C: Clock>(alloc: Global, text: &[u8], clock: &mut C) -> Result<Vec<u8>
         Ok(script) => script,
         Err(fault) => return Err(NoLog::Script(fault)),
     };
-    let run = match serial(alloc, &script, clock) {
+    let run = match play(alloc, &script, clock) {
         Ok(run) => run,
         Err(OutOfMemory) => return Err(NoLog::Memory),
     };
@@ -113,6 +115,21 @@ fn log_of<C: Clock>(alloc: Global, text: &[u8], clock: &mut C) -> Result<Vec<u8>
         Ok(log) => Ok(log),
         Err(OutOfMemory) => Err(NoLog::Memory),
     }
+}
+
+/// Plays the script on one thread, with what is promised of the record.
+fn play<C: Clock>(alloc: Global, script: &Script, clock: &mut C) -> Result<RunRecord, OutOfMemory>
+    ensures { IfOk result (λ run. IsRun script.now run) }
+{
+    let _shape = script.shape();
+    rounds_are_shaped();
+    rounds_do_all_lines();
+    rounds_are_whole();
+    rounds_tell_calls();
+    delivered_messages_are_sent();
+    ok_images_are_records();
+    told_gaps_are_true();
+    serial(alloc, script, clock)
 }
 
 /// The answer where there is no log. Only the input as a whole has line 0.
