@@ -9,8 +9,12 @@ ghost use Rattle.mama_run.specs.Answers.{GaveAll, IsRun, IsLogOf, IsCause, IfWri
 use crate::status::Status;
 use mama_drive::serial;
 use mama_edge::{Clock, ReadAll, Sink, Source, read_all, write_all_counted};
-use mama_genuine::{delivered_messages_are_sent, ok_images_are_records, told_gaps_are_true};
-use mama_legal::{rounds_are_shaped, rounds_are_whole, rounds_do_all_lines, rounds_tell_calls};
+use mama_genuine::{
+    messages_of_rounds_are_sent, ok_images_of_rounds_are_records, told_gaps_of_rounds_are_true,
+};
+use mama_legal::{
+    rounds_are_shaped, rounds_are_whole, rounds_do_all_lines, rounds_have_last, rounds_tell_calls,
+};
 use mama_memory::OutOfMemory;
 use mama_record::{RunRecord, print_log};
 use mama_script::{Script, ScriptFault, parse};
@@ -126,9 +130,10 @@ fn play<C: Clock>(alloc: Global, script: &Script, clock: &mut C) -> Result<RunRe
     rounds_do_all_lines();
     rounds_are_whole();
     rounds_tell_calls();
-    delivered_messages_are_sent();
-    ok_images_are_records();
-    told_gaps_are_true();
+    rounds_have_last();
+    messages_of_rounds_are_sent();
+    ok_images_of_rounds_are_records();
+    told_gaps_of_rounds_are_true();
     serial(alloc, script, clock)
 }
 
