@@ -10,6 +10,7 @@ use Rattle.std.specs.List.{AllZip}
 use Rattle.mama_rounds.specs.Round.{IsRound, publishers_from, setting_of}
 use Rattle.mama_legal.specs.Edges.{AreEdges}
 use Rattle.mama_legal.specs.Last.{HaveLast}
+use Rattle.mama_legal.specs.Streams.{AreSubStreams, AreInboxStreams}
 use Rattle.mama_legal.specs.Lines.{AreLines}
 use Rattle.mama_legal.specs.Calls.{IsShapedFor, AreCalls}
 use Rattle.mama_genuine.specs.Sent.{AreSent}
@@ -28,7 +29,8 @@ pub record GaveAll (old new : Option (List ℕ)) (text : List ℕ) : Type 0 wher
 -- What is promised of the record of a run. It is the record of the script's run in rounds, which is the only one where
 -- the clients read these moments. On every edge what was taken is all that was put, by the rules of the actor that put
 -- it, and in order. Each line of the script was done, and the last event of every port was taken. The callbacks are those
--- that the queues make, with the orders of the plans, and the images those that the strategy leaves. And whatever the links lose, repeat and hold back: each message that was delivered is its sender's own, each image
+-- that the queues make, with the orders of the plans, and the images those that the strategy leaves. What was taken of a
+-- subscription is its Create, what its link lets through of what was sent while it was live, and its Gone; so of an inbox. And whatever the links lose, repeat and hold back: each message that was delivered is its sender's own, each image
 -- that is ok is its sender's record at its number, and each gap that was told is true.
 pub record IsRun (script : ScriptData) (run : RunData) : Type 0 where
   pub round : IsRound script run
@@ -36,6 +38,8 @@ pub record IsRun (script : ScriptData) (run : RunData) : Type 0 where
   pub lines : AreLines script run
   pub edges : AreEdges script run
   pub last : HaveLast script run
+  pub subs : AreSubStreams script run
+  pub inboxes : AreInboxStreams script run
   pub calls : AreCalls script run
   pub messages : AreSent (publishers_from 0 script.publishers) run.queues
   pub images : AreRecords (publishers_from 0 script.publishers) run.images

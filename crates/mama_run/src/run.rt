@@ -13,7 +13,8 @@ use mama_genuine::{
     messages_of_rounds_are_sent, ok_images_of_rounds_are_records, told_gaps_of_rounds_are_true,
 };
 use mama_legal::{
-    rounds_are_shaped, rounds_are_whole, rounds_do_all_lines, rounds_have_last, rounds_tell_calls,
+    rounds_are_shaped, rounds_are_whole, rounds_do_all_lines, rounds_give_inboxes_their_streams,
+    rounds_give_subs_their_streams, rounds_have_last, rounds_tell_calls,
 };
 use mama_memory::OutOfMemory;
 use mama_record::{RunRecord, print_log};
@@ -131,6 +132,8 @@ fn play<C: Clock>(alloc: Global, script: &Script, clock: &mut C) -> Result<RunRe
     rounds_are_whole();
     rounds_tell_calls();
     rounds_have_last();
+    rounds_give_subs_their_streams();
+    rounds_give_inboxes_their_streams();
     messages_of_rounds_are_sent();
     ok_images_of_rounds_are_records();
     told_gaps_of_rounds_are_true();
