@@ -185,7 +185,7 @@ pub record SaidLast {V : Type 0} (test : V → Bool) (xs : List V) : Type 0 wher
   pub is : test last ≡ true
   pub before : list_any test front ≡ false
 
-no_pause : {V : Type 0} (part : QueuePut → List V) (n : ℕ) → flat_map part (all_steps (replicate n [])) ≡ []
+pub no_pause : {V : Type 0} (part : QueuePut → List V) (n : ℕ) → flat_map part (all_steps (replicate n [])) ≡ []
 no_pause part zero = refl
 no_pause part (suc n) = no_pause part n
 
@@ -243,7 +243,7 @@ nothing_after test (a ∷ cs) x bs (y ∷ ys) n same none =
 
 -- ---- once settling has begun nothing is joined, where each client's last words are its last
 
-below_at : (n : ℕ) (f : ℕ → Bool) (k : ℕ) → k < n → all_below n f ≡ true → f k ≡ true
+pub below_at : (n : ℕ) (f : ℕ → Bool) (k : ℕ) → k < n → all_below n f ≡ true → f k ≡ true
 below_at zero f k small h = absurd (omega arith)
 below_at (suc n) f k small h =
     let parts = and_parts (all_below n f) (f n) h in

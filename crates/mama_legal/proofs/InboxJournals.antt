@@ -167,7 +167,7 @@ inbox_journals script run orderly is = record {
       record {
         slot = stream.slot;
         tag = stream.tag;
-        whole = one_port (Inbox s) journal (λ port apart. other_ports (Inbox s) (λ t. refl) shape run.bridge run.timers k journal port apart (edges.queues k on port))
+        whole = one_port (Inbox s) 0 journal (λ port apart. other_ports (Inbox s) (λ t. refl) shape run.bridge run.timers k journal port apart (edges.queues k on port))
             ∙ ap (filter (is_of (Inbox s))) (edges.queues k on 0) ∙ part_stream (Inbox s) k (bridge_puts shape run.bridge) ∙ ap (by_port k) stream.whole
             ∙ on_one_queue k (q.Create stream.slot (Inbox s) make.Inbox stream.tag) (q.Gone stream.slot (Inbox s)) (λ m. q.Reply stream.slot s m) (through terms.faults (reply_window shape s es));
       };

@@ -99,12 +99,12 @@ filter_none s k (x ∷ xs) h =
     by_case true ih none = ap (λ (c : Bool). cond c (x.1 ∷ filter (is_of s) (by_port k xs)) (filter (is_of s) (by_port k xs))) none ∙ ih
     by_case false ih none = ih
 
--- where only port 0 has events of an object, all its events came by port 0
-pub one_port : (o : ObjectId) (journal : List (ℕ × QueueNote)) → ((port : ℕ) → (port ≡ 0 → ⊥) → filter (is_of o) (by_port port journal) ≡ []) → events_of o journal ≡ filter (is_of o) (by_port 0 journal)
-one_port o [] none = refl
-one_port o (e ∷ es) none = by_case (is_of o e.1) refl (e.0 == 0) refl (one_port o es rest)
+-- where only port n has events of an object, all its events came by port n
+pub one_port : (o : ObjectId) (n : ℕ) (journal : List (ℕ × QueueNote)) → ((port : ℕ) → (port ≡ n → ⊥) → filter (is_of o) (by_port port journal) ≡ []) → events_of o journal ≡ filter (is_of o) (by_port n journal)
+one_port o n [] none = refl
+one_port o n (e ∷ es) none = by_case (is_of o e.1) refl (e.0 == n) refl (one_port o n es rest)
   where
-    rest : (port : ℕ) → (port ≡ 0 → ⊥) → filter (is_of o) (by_port port es) ≡ []
+    rest : (port : ℕ) → (port ≡ n → ⊥) → filter (is_of o) (by_port port es) ≡ []
     rest port apart = either_port (e.0 == port) (is_of o e.1) refl (none port apart)
       where
         either_port : (c d : Bool) → is_of o e.1 ≡ d → filter (is_of o) (cond c (e.1 ∷ by_port port es) (by_port port es)) ≡ [] → filter (is_of o) (by_port port es) ≡ []
@@ -112,13 +112,13 @@ one_port o (e ∷ es) none = by_case (is_of o e.1) refl (e.0 == 0) refl (one_por
         either_port true false is h = sym (ap (λ (c : Bool). cond c (e.1 ∷ filter (is_of o) (by_port port es)) (filter (is_of o) (by_port port es))) is) ∙ h
         either_port true true is h = absurd (no_end [] e.1 (filter (is_of o) (by_port port es)) (sym (ap (λ (c : Bool). cond c (e.1 ∷ filter (is_of o) (by_port port es)) (filter (is_of o) (by_port port es))) is) ∙ h))
 
-    by_case : (d : Bool) → is_of o e.1 ≡ d → (c : Bool) → (e.0 == 0) ≡ c → events_of o es ≡ filter (is_of o) (by_port 0 es)
-        → cond (is_of o e.1) (e.1 ∷ events_of o es) (events_of o es) ≡ filter (is_of o) (cond c (e.1 ∷ by_port 0 es) (by_port 0 es))
+    by_case : (d : Bool) → is_of o e.1 ≡ d → (c : Bool) → (e.0 == n) ≡ c → events_of o es ≡ filter (is_of o) (by_port n es)
+        → cond (is_of o e.1) (e.1 ∷ events_of o es) (events_of o es) ≡ filter (is_of o) (cond c (e.1 ∷ by_port n es) (by_port n es))
     by_case d is true at ih = ap (λ (ws : List QueueNote). cond (is_of o e.1) (e.1 ∷ ws) ws) ih
     by_case false is false at ih = ap (λ (c : Bool). cond c (e.1 ∷ events_of o es) (events_of o es)) is ∙ ih
     by_case true is false at ih = absurd (no_end [] e.1 (filter (is_of o) (by_port e.0 es))
         (sym (ap (λ (c : Bool). filter (is_of o) (cond c (e.1 ∷ by_port e.0 es) (by_port e.0 es))) (eq-eqb e.0 e.0 refl) ∙ ap (λ (c : Bool). cond c (e.1 ∷ filter (is_of o) (by_port e.0 es)) (filter (is_of o) (by_port e.0 es))) is)
-        ∙ none e.0 (eqb-false e.0 0 at)))
+        ∙ none e.0 (eqb-false e.0 n at)))
 
 -- of what goes to one queue, what is for an object is the part of its stream for that queue
 pub part_stream : (o : ObjectId) (k : ℕ) (puts : List BridgePut) → filter (is_of o) (flat_map (queue_part k) puts) ≡ by_port k (stream_of o puts)

@@ -58,7 +58,7 @@ settled_last _ is = absurd (both_ways false refl is)
 
 -- ---- the timers' ports
 
-timers_client : (shape : Shape) (c : ℕ) → c < clients_of shape → timers_putter shape c ≡ ByClient c
+pub timers_client : (shape : Shape) (c : ℕ) → c < clients_of shape → timers_putter shape c ≡ ByClient c
 timers_client shape c small = by_timers_port shape (λ port who. port ≡ c → who ≡ ByClient c)
     (λ d within same. ap ByClient same)
     (λ q within same. absurd (omega arith))
@@ -92,7 +92,7 @@ timing_up shape k n test means (e ∷ es) h = by_case (e.0 == k) refl h (timing_
         (or_cases (n e.1) (list_any n (by_port k es)) h)
     by_case false same h ih = or_right (test (timing.put_by (timers_putter shape e.0) e.1)) (list_any test (timing.heard shape es)) (ih h)
 
-abbrev timers_done : TimersNote → Bool
+abbrev pub timers_done : TimersNote → Bool
 timers_done t.ClientDone = true
 timers_done _ = false
 
@@ -126,7 +126,7 @@ module _ (script : ScriptData) (run : RunData) (shaped : IsShaped script) (someo
   client_small = subst (λ (n : ℕ). 0 < n) (sym shaped.clients) someone
 
   -- on the timers' lane
-  timers_of_client : (c : ℕ) → c < clients_of script.shape → list_any timers_done (by_port c run.timers) ≡ true
+  pub timers_of_client : (c : ℕ) → c < clients_of script.shape → list_any timers_done (by_port c run.timers) ≡ true
   timers_of_client c small =
       let steps = steps_at (queues_of script.shape) 0 run.clients script.clients c (subst (λ (n : ℕ). c < n) shaped.clients small) in
       ap (list_any timers_done) (edges.timers c ∙ ap (put_on_timers (setting_of script) (client_puts script run.clients) run.queues run.bridge) (timers_client script.shape c small))
@@ -151,7 +151,7 @@ module _ (script : ScriptData) (run : RunData) (shaped : IsShaped script) (someo
       ∙ any_flat timers_fin_note timer_part (bridge_puts script.shape run.bridge)
       ∙ bridge_fin_timers script.shape (λ out. list_any timers_fin_note (timer_part out)) (bridging.heard script.shape run.bridge) refl not_at_first bridge_ended
 
-  timers_ended : timing.has_ending script.shape (timing.heard script.shape run.timers) ≡ true
+  pub timers_ended : timing.has_ending script.shape (timing.heard script.shape run.timers) ≡ true
   timers_ended = and_from (all_below (clients_of script.shape) (λ c. list_any (timing.ends_client c) (timing.heard script.shape run.timers))) (list_any timing.is_fin (timing.heard script.shape run.timers))
       (below_from (clients_of script.shape) (λ c. list_any (timing.ends_client c) (timing.heard script.shape run.timers))
       (λ c small. timing_up script.shape c timers_done (timing.ends_client c) (λ note says. ap (λ (who : Putter). timing.ends_client c (timing.put_by who note)) (timers_client script.shape c small) ∙ done c note says) run.timers (timers_of_client c small)))

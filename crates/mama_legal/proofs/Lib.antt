@@ -23,3 +23,6 @@ pub mod InboxStreams
 pub mod InboxJournals
 pub mod TimerLives
 pub mod TimerStreams
+pub mod NoTimers
+pub mod TimerJournals
+pub mod LegalRounds

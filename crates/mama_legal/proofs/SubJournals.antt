@@ -167,7 +167,7 @@ sub_journals script run orderly is = record {
       record {
         slot = stream.slot;
         tag = stream.tag;
-        whole = one_port (Sub s) journal (λ port apart. other_ports (Sub s) (λ t. refl) shape run.bridge run.timers k journal port apart (edges.queues k on port))
+        whole = one_port (Sub s) 0 journal (λ port apart. other_ports (Sub s) (λ t. refl) shape run.bridge run.timers k journal port apart (edges.queues k on port))
             ∙ ap (filter (is_of (Sub s))) (edges.queues k on 0) ∙ part_stream (Sub s) k (bridge_puts shape run.bridge) ∙ ap (by_port k) stream.whole
             ∙ on_one_queue k (q.Create stream.slot (Sub s) (make.Sub terms.kind terms.cache) stream.tag) (q.Gone stream.slot (Sub s)) (λ m. q.Deliver stream.slot s m) (through terms.faults (window shape s es));
       };

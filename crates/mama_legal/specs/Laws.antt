@@ -22,6 +22,7 @@ use Rattle.mama_legal.specs.Lines.{AreLines}
 use Rattle.mama_legal.specs.Last.{HaveLast}
 use Rattle.mama_legal.specs.Streams.{WasLive, WasOpen, IsSubStream, IsInboxStream, stream_of, AreSubStreams, AreInboxStreams}
 use Rattle.mama_legal.specs.Ticks.{WasArmed, ticks, timer_stream, IsTimerStream, AreTimerStreams}
+use Rattle.mama_legal.specs.Legal.{IsLegal}
 use Rattle.mama_legal.specs.Calls.{IsShapedFor, AreCalls}
 
 -- in the record of a run in rounds every edge is whole
@@ -76,3 +77,11 @@ RoundsGiveInboxesTheirStreams = (script : ScriptData) (run : RunData) → IsOrde
 abbrev pub TimersGetTheirStreams : Type 0
 TimersGetTheirStreams = (shape : Shape) (journal : List (ℕ × TimersNote)) (timer : TimerId) (terms : ℕ × ℕ) → WasArmed shape timer (timing.heard shape journal) → timing.is_live shape timer (timing.heard shape journal) ≡ false
     → first_said (timing.terms_in timer) (timing.heard shape journal) ≡ Some terms → IsTimerStream timer terms.0 (ticks shape timer (timing.heard shape journal)) (timer_stream timer (timers_puts shape journal))
+
+-- in the record of a run in rounds the journals of queues have the streams of the timers
+abbrev pub RoundsGiveTimersTheirStreams : Type 0
+RoundsGiveTimersTheirStreams = (script : ScriptData) (run : RunData) → IsOrderly script → IsRound script run → AreTimerStreams script run
+
+-- the record of a run in rounds is legal
+abbrev pub RoundsAreLegal : Type 0
+RoundsAreLegal = (script : ScriptData) (run : RunData) → IsOrderly script → IsRound script run → IsLegal script run

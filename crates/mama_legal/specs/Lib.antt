@@ -4,4 +4,5 @@ pub mod Last
 pub mod Streams
 pub mod Ticks
 pub mod Calls
+pub mod Legal
 pub mod Laws

@@ -1,4 +1,4 @@
-ghost use Rattle.mama_legal.specs.Laws.{RoundsAreWhole, RoundsAreShaped, RoundsTellCalls, RoundsGiveOneRecord, RoundsDoAllLines, RoundsHaveLast, SubsGetTheirStreams, RoundsGiveSubsTheirStreams, InboxesGetTheirStreams, RoundsGiveInboxesTheirStreams, TimersGetTheirStreams};
+ghost use Rattle.mama_legal.specs.Laws.{RoundsAreWhole, RoundsAreShaped, RoundsTellCalls, RoundsGiveOneRecord, RoundsDoAllLines, RoundsHaveLast, SubsGetTheirStreams, RoundsGiveSubsTheirStreams, InboxesGetTheirStreams, RoundsGiveInboxesTheirStreams, TimersGetTheirStreams, RoundsGiveTimersTheirStreams, RoundsAreLegal};
 
 /// A law: in the record of a run in rounds every edge is whole: what each actor took by each port is all that was put
 /// there, in order.
@@ -61,4 +61,16 @@ pub fn rounds_give_inboxes_their_streams()
 /// to its queue is its `Create`, its ticks, and its `Gone`, in one slot.
 pub fn timers_get_their_streams()
     ensures { TimersGetTheirStreams }
+{}
+
+/// A law: in the record of a run in rounds the journal of its queue has, of each timer that the script arms, its
+/// `Create`, its ticks, and its `Gone`, and nothing else.
+pub fn rounds_give_timers_their_streams()
+    ensures { RoundsGiveTimersTheirStreams }
+{}
+
+/// A law: the record of a run in rounds is legal for its script, where the shape of the script counts what the script has
+/// and there is a client.
+pub fn round_is_legal()
+    ensures { RoundsAreLegal }
 {}

@@ -1,0 +1,279 @@
+-- In the record of a run in rounds the journals of queues have the streams of the timers.
+use Rattle.std.specs.Prelude.{slice_index_or, not, filter, Option, None, Some, is_some, replicate}
+use Rattle.std.specs.List.{flat_map, list_any}
+use Rattle.std.specs.Option.{option_or}
+use Rattle.std.proofs.Common.{◌≡◌, ℕ, zero, suc, ◌+◌, ◌<◌, ◌≤◌, ◌==◌, Bool, true, false, ◌&&◌, ◌||◌, cond, List, [], ◌∷◌, ◌++◌, length, map, refl, sym, ◌∙◌, ap, subst, arith, inl, inr, ⊎_elim, append-nil, append_assoc}
+use Rattle.std.proofs.lemmas.Bool.{and_parts, and_from, or_left, or_right, or_cases, or_parts, or_from, both_ways, cases_Bool, cases_eq, eqb-true, eqb-false, eq-eqb, ne_eqb, false_from_ne_true}
+use Rattle.std.proofs.lemmas.List.{map-append}
+use Rattle.std.proofs.lemmas.List.Folds.{list_any-append}
+use Rattle.mama_journal.specs.Journal.{first_said, all_puts, all_below}
+use Rattle.mama_journal.specs.Lane.{by_port}
+use Rattle.mama_event.specs.declared.ids.TimerId.{TimerId}
+use Rattle.mama_event.specs.declared.ids.ObjectId.{ObjectId}
+use Rattle.mama_event.specs.declared.ids.ObjectId.TheVariants.{Sub, Timer, Inbox}
+use Rattle.mama_event.specs.declared.order.Order.TheVariants as order
+use Rattle.mama_event.specs.declared.shape.Shape.{Shape}
+use Rattle.mama_event.specs.declared.to_timers.TimersNote.{TimersNote}
+use Rattle.mama_event.specs.declared.to_timers.TimersNote.TheVariants as t
+use Rattle.mama_event.specs.declared.to_queue.Make.TheVariants as make
+use Rattle.mama_event.specs.declared.to_queue.QueueNote.{QueueNote}
+use Rattle.mama_event.specs.declared.to_queue.QueueNote.TheVariants as q
+use Rattle.mama_event.specs.Ports.{clients_of, publishers_of, queues_of}
+use Rattle.mama_event.specs.Object.{same_timer}
+use Rattle.mama_rules.specs.Bridge.{bridge_puts}
+use Rattle.mama_rules.specs.Bridge as bridging
+use Rattle.mama_rules.specs.Timers.{TimersEvent, arms, disarms, now, client_done, bye, fin, no_event, from_client, from_queue, from_bridge, put_by, heard, terms_in, arms_timer, disarms_timer, ends_client, is_fin, has_ending, is_armed, is_live, timers_puts}
+use Rattle.mama_rules.specs.Ports.{Putter, ByBridge, ByTimers, ByNobody, timers_putter, queue_putter}
+use Rattle.mama_queue_rules.specs.Queue.{QueuePut}
+use Rattle.mama_queue_rules.specs.Queue as queue
+use Rattle.mama_script.specs.declared.client.ClientLine.{ClientLine}
+use Rattle.mama_script.specs.declared.client.ClientLine.TheVariants as line
+use Rattle.mama_script.specs.Script.{ScriptData}
+use Rattle.mama_script.specs.Tree.{IsShaped}
+use Rattle.mama_record.specs.RunData.{RunData}
+use Rattle.mama_rounds.specs.Client.{Standing, timers_part, line_steps, after_line, steps_from}
+use Rattle.mama_rounds.specs.World.{queue_part}
+use Rattle.mama_rounds.specs.Round.{setting_of, IsRound}
+use Rattle.mama_legal.specs.Edges.{all_steps, client_puts, put_on_timers, put_on_queue, AreEdges}
+use Rattle.mama_legal.specs.Streams.{is_of, events_of}
+use Rattle.mama_legal.specs.Ticks.{ticks, timer_stream, WasArmed, arming_noted, arming_put, arming_of, IsTimerJournal, AreTimerStreams}
+use Rattle.mama_legal.specs.Laws.{RoundsGiveTimersTheirStreams}
+use Rattle.mama_legal.proofs.Lists.{by_entries, by_port-append}
+use Rattle.mama_legal.proofs.Putters.{by_timers_port, by_queue_port}
+use Rattle.mama_legal.proofs.Whole.{whole_edges}
+use Rattle.mama_legal.proofs.Heard.{SaidLast, no_pause, part_of_steps, below_at, nothing_after}
+use Rattle.mama_legal.proofs.AllSent.{steps_at}
+use Rattle.mama_legal.proofs.LastEvents.{timers_done, timers_client, timers_ended}
+use Rattle.mama_legal.proofs.Lives.{any_last}
+use Rattle.mama_legal.proofs.Journals.{one_port, part_stream, on_one_queue}
+use Rattle.mama_legal.proofs.NoTimers.{bridge_none}
+use Rattle.mama_legal.proofs.TimerLives.{is_armed-push, is_word, ending_same}
+use Rattle.mama_legal.proofs.TimerStreams.{said_came, timers_streams}
+
+-- ---- what each client said last to the service
+
+line_not_done : (queues c : ℕ) (s : Standing) (l : ClientLine) → list_any timers_done (flat_map timers_part (all_steps (line_steps queues c s l))) ≡ false
+line_not_done queues c s (line.Sub topic kind queue cache recaps faults plan) = refl
+line_not_done queues c s (line.Timer queue interval plan) = refl
+line_not_done queues c s (line.Inbox queue faults plan) = refl
+line_not_done queues c s (line.Order (order.Stop x)) = refl
+line_not_done queues c s (line.Order (order.Disarm x)) = refl
+line_not_done queues c s (line.Order (order.Close x)) = refl
+line_not_done queues c s (line.Order (order.Ask x topic fids)) = refl
+line_not_done queues c s (line.Now m) = refl
+line_not_done queues c s line.NowClock = refl
+line_not_done queues c s (line.Pause n) = ap (list_any timers_done) (no_pause timers_part n)
+
+steps_said : (queues c : ℕ) (s : Standing) (ls : List ClientLine) → SaidLast timers_done (flat_map timers_part (all_steps (steps_from queues c s ls)))
+steps_said queues c s [] = record { front = []; last = t.ClientDone; whole = refl; is = refl; before = refl }
+steps_said queues c s (l ∷ ls) =
+    let ih = steps_said queues c (after_line s l) ls in
+    let here : List TimersNote = flat_map timers_part (all_steps (line_steps queues c s l)) in
+    record {
+      front = here ++ ih.front;
+      last = ih.last;
+      whole = part_of_steps timers_part (line_steps queues c s l) (steps_from queues c (after_line s l) ls)
+          ∙ ap (λ (ws : List TimersNote). here ++ ws) ih.whole ∙ sym (append_assoc here ih.front (ih.last ∷ []));
+      is = ih.is;
+      before = list_any-append timers_done here ih.front ∙ or_from (list_any timers_done here) (list_any timers_done ih.front) (line_not_done queues c s l) ih.before;
+    }
+
+said : (script : ScriptData) (run : RunData) → IsShaped script → AreEdges script run → (c : ℕ) → c < clients_of script.shape → SaidLast timers_done (by_port c run.timers)
+said script run shaped edges c small =
+    let steps = steps_at (queues_of script.shape) 0 run.clients script.clients c (subst (λ (n : ℕ). c < n) shaped.clients small) in
+    subst (SaidLast timers_done) (sym (edges.timers c ∙ ap (put_on_timers (setting_of script) (client_puts script run.clients) run.queues run.bridge) (timers_client script.shape c small)))
+    (subst (λ (xs : List (List QueuePut)). SaidLast timers_done (flat_map timers_part (all_steps xs))) (sym steps.same) (steps_said (queues_of script.shape) steps.number steps.standing steps.lines))
+
+-- ---- who says what
+
+done_client : (c d : ℕ) (note : TimersNote) → ends_client c (from_client d note) ≡ true → (d ≡ c) × (timers_done note ≡ true)
+done_client c d (t.Arm timer queue interval tag) h = absurd (both_ways (ends_client c (from_client d (t.Arm timer queue interval tag))) (off (timer.client == d)) h)
+  where
+    off : (b : Bool) → ends_client c (cond b (arms timer queue interval tag) no_event) ≡ false
+    off true = refl
+    off false = refl
+done_client c d t.ClientDone h = (eqb-true d c h, refl)
+done_client c d _ h = absurd (both_ways false refl h)
+
+done_queue : (c k : ℕ) (note : TimersNote) → ends_client c (from_queue k note) ≡ false
+done_queue c k t.Bye = refl
+done_queue c k _ = refl
+
+done_bridge : (c : ℕ) (note : TimersNote) → ends_client c (from_bridge note) ≡ false
+done_bridge c t.Fin = refl
+done_bridge c _ = refl
+
+who_ends : (shape : Shape) (c port : ℕ) (note : TimersNote) → ends_client c (put_by (timers_putter shape port) note) ≡ true → (port ≡ c) × (timers_done note ≡ true)
+who_ends shape c port = by_timers_port shape (λ port who. (note : TimersNote) → ends_client c (put_by who note) ≡ true → (port ≡ c) × (timers_done note ≡ true))
+    (λ d within note h. done_client c d note h)
+    (λ k within note h. absurd (both_ways (ends_client c (from_queue k note)) (done_queue c k note) h))
+    (λ note h. absurd (both_ways (ends_client c (from_bridge note)) (done_bridge c note) h))
+    (λ n past note h. absurd (both_ways false refl h)) port
+
+heard_down : (shape : Shape) (c : ℕ) (journal : List (ℕ × TimersNote)) → list_any (ends_client c) (heard shape journal) ≡ true → list_any timers_done (by_port c journal) ≡ true
+heard_down shape c [] h = absurd (both_ways false refl h)
+heard_down shape c (e ∷ es) h = ⊎_elim
+    (λ here. let parts = who_ends shape c e.0 e.1 here in
+    ap (λ (b : Bool). list_any timers_done (cond b (e.1 ∷ by_port c es) (by_port c es))) (eq-eqb e.0 c parts.0) ∙ or_left (timers_done e.1) (list_any timers_done (by_port c es)) parts.1)
+    (λ later. either (e.0 == c) (heard_down shape c es later))
+    (or_cases (ends_client c (put_by (timers_putter shape e.0) e.1)) (list_any (ends_client c) (heard shape es)) h)
+  where
+    either : (b : Bool) → list_any timers_done (by_port c es) ≡ true → list_any timers_done (cond b (e.1 ∷ by_port c es) (by_port c es)) ≡ true
+    either true h = or_right (timers_done e.1) (list_any timers_done (by_port c es)) h
+    either false h = h
+
+-- ---- which arming the service heard of
+
+same : {X : Type 0} (c : Bool) (x : X) → x ≡ cond c x x
+same true x = refl
+same false x = refl
+
+arms_queue : (timer : TimerId) (k : ℕ) (note : TimersNote) → terms_in timer (from_queue k note) ≡ None
+arms_queue timer k t.Bye = refl
+arms_queue timer k _ = refl
+
+arms_bridge : (timer : TimerId) (note : TimersNote) → terms_in timer (from_bridge note) ≡ None
+arms_bridge timer t.Fin = refl
+arms_bridge timer _ = refl
+
+arms_client : (timer : TimerId) (d : ℕ) (note : TimersNote) → terms_in timer (from_client d note) ≡ cond (d == timer.client) (arming_noted timer note) None
+arms_client timer d (t.Arm r queue interval tag) = by_case (r.client == d) refl (d == timer.client) refl
+  where
+    by_case : (a : Bool) → (r.client == d) ≡ a → (c : Bool) → (d == timer.client) ≡ c → terms_in timer (cond a (arms r queue interval tag) no_event) ≡ cond c (cond (same_timer r timer) (Some (queue, interval)) None) None
+    by_case true own true here = refl
+    by_case true own false other = ap (λ (x : Bool). cond {A = Option (ℕ × ℕ)} (x && r.number == timer.number) (Some (queue, interval)) None)
+        (ne_eqb r.client timer.client (λ is. both_ways (d == timer.client) other (eq-eqb d timer.client (sym (eqb-true r.client d own) ∙ is))))
+    by_case false own true here = sym (ap (λ (x : Bool). cond {A = Option (ℕ × ℕ)} (x && r.number == timer.number) (Some (queue, interval)) None)
+        (ne_eqb r.client timer.client (λ is. eqb-false r.client d own (is ∙ sym (eqb-true d timer.client here)))))
+    by_case false own false other = refl
+arms_client timer d (t.Disarm r) = same (d == timer.client) None
+arms_client timer d (t.Now m) = same (d == timer.client) None
+arms_client timer d t.ClientDone = same (d == timer.client) None
+arms_client timer d t.Bye = same (d == timer.client) None
+arms_client timer d t.Fin = same (d == timer.client) None
+
+terms_by : (shape : Shape) (timer : TimerId) → timer.client < clients_of shape → (port : ℕ) (note : TimersNote) → terms_in timer (put_by (timers_putter shape port) note) ≡ cond (port == timer.client) (arming_noted timer note) None
+terms_by shape timer small = by_timers_port shape (λ port who. (note : TimersNote) → terms_in timer (put_by who note) ≡ cond (port == timer.client) (arming_noted timer note) None)
+    (λ d within note. arms_client timer d note)
+    (λ k within note. arms_queue timer k note ∙ ap (λ (c : Bool). cond c (arming_noted timer note) None) (sym (ne_eqb (clients_of shape + k) timer.client (λ is. absurd (omega arith)))))
+    (λ note. arms_bridge timer note ∙ ap (λ (c : Bool). cond c (arming_noted timer note) None) (sym (ne_eqb (clients_of shape + queues_of shape) timer.client (λ is. absurd (omega arith)))))
+    (λ n past note. ap (λ (c : Bool). cond c (arming_noted timer note) None) (sym (ne_eqb n timer.client (λ is. absurd (omega arith)))))
+
+arming_heard : (shape : Shape) (timer : TimerId) → timer.client < clients_of shape → (journal : List (ℕ × TimersNote)) → first_said (terms_in timer) (heard shape journal) ≡ first_said (arming_noted timer) (by_port timer.client journal)
+arming_heard shape timer small [] = refl
+arming_heard shape timer small (e ∷ es) =
+    ap (λ (o : Option (ℕ × ℕ)). option_or o (first_said (terms_in timer) (heard shape es))) (terms_by shape timer small e.0 e.1) ∙ by_case (e.0 == timer.client) (arming_heard shape timer small es)
+  where
+    by_case : (c : Bool) → first_said (terms_in timer) (heard shape es) ≡ first_said (arming_noted timer) (by_port timer.client es)
+        → option_or (cond c (arming_noted timer e.1) None) (first_said (terms_in timer) (heard shape es)) ≡ first_said (arming_noted timer) (cond c (e.1 ∷ by_port timer.client es) (by_port timer.client es))
+    by_case true ih = ap (λ (o : Option (ℕ × ℕ)). option_or (arming_noted timer e.1) o) ih
+    by_case false ih = ih
+
+arming_said : (timer : TimerId) (puts : List QueuePut) → first_said (arming_noted timer) (flat_map timers_part puts) ≡ first_said (arming_put timer) puts
+arming_said timer [] = refl
+arming_said timer (queue.to_bridge note ∷ puts) = arming_said timer puts
+arming_said timer (queue.to_timers note ∷ puts) = ap (λ (o : Option (ℕ × ℕ)). option_or (arming_noted timer note) o) (arming_said timer puts)
+
+-- ---- what was armed was live
+
+arms_from : (d : ℕ) (timer : TimerId) (port : ℕ) (shape : Shape) (note : TimersNote) → arms_timer timer (put_by (timers_putter shape port) note) ≡ true → port < clients_of shape
+arms_from d timer port shape = by_timers_port shape (λ port who. (note : TimersNote) → arms_timer timer (put_by who note) ≡ true → port < clients_of shape)
+    (λ c within note h. within)
+    (λ k within note h. absurd (both_ways (is_some (terms_in timer (from_queue k note))) (ap is_some (arms_queue timer k note)) h))
+    (λ note h. absurd (both_ways (is_some (terms_in timer (from_bridge note))) (ap is_some (arms_bridge timer note)) h))
+    (λ n past note h. absurd (both_ways false refl h)) port
+
+no_late_arm : (shape : Shape) (timer : TimerId) (before : List (ℕ × TimersNote)) (e : ℕ × TimersNote) (after : List (ℕ × TimersNote))
+    → ((c : ℕ) → c < clients_of shape → SaidLast timers_done (by_port c (before ++ e ∷ after))) → has_ending shape (heard shape before) ≡ true → arms_timer timer (put_by (timers_putter shape e.0) e.1) ≡ false
+no_late_arm shape timer before e after said ended = false_from_ne_true (arms_timer timer (put_by (timers_putter shape e.0) e.1)) (λ arming.
+    let small : e.0 < clients_of shape = arms_from 0 timer e.0 shape e.1 arming in
+    let last = said e.0 small in
+    let all = (and_parts (all_below (clients_of shape) (λ c. list_any (ends_client c) (heard shape before))) (list_any is_fin (heard shape before)) ended).0 in
+    let there : list_any timers_done (by_port e.0 before) ≡ true = heard_down shape e.0 before (below_at (clients_of shape) (λ c. list_any (ends_client c) (heard shape before)) e.0 small all) in
+    let split : by_port e.0 before ++ e.1 ∷ by_port e.0 after ≡ last.front ++ last.last ∷ [] =
+    ap (λ (b : Bool). by_port e.0 before ++ cond b (e.1 ∷ by_port e.0 after) (by_port e.0 after)) (sym (eq-eqb e.0 e.0 refl)) ∙ sym (by_port-append e.0 before (e ∷ after)) ∙ last.whole in
+    both_ways (list_any timers_done (by_port e.0 before)) (nothing_after timers_done (by_port e.0 before) e.1 (by_port e.0 after) last.front last.last split last.before) there)
+
+arms_no_word : (timer : TimerId) (e : TimersEvent) → arms_timer timer e ≡ true → is_word e ≡ false
+arms_no_word timer (arms r queue interval tag) h = refl
+arms_no_word timer _ h = absurd (both_ways false refl h)
+
+was_armed : (shape : Shape) (timer : TimerId) (journal : List (ℕ × TimersNote))
+    → ((before : List (ℕ × TimersNote)) (e : ℕ × TimersNote) (after : List (ℕ × TimersNote)) → journal ≡ before ++ e ∷ after → has_ending shape (heard shape before) ≡ true → arms_timer timer (put_by (timers_putter shape e.0) e.1) ≡ false)
+    → list_any (arms_timer timer) (heard shape journal) ≡ true → WasArmed shape timer (heard shape journal)
+was_armed shape timer journal = by_entries (λ (j : List (ℕ × TimersNote)).
+    ((before : List (ℕ × TimersNote)) (e : ℕ × TimersNote) (after : List (ℕ × TimersNote)) → j ≡ before ++ e ∷ after → has_ending shape (heard shape before) ≡ true → arms_timer timer (put_by (timers_putter shape e.0) e.1) ≡ false)
+    → list_any (arms_timer timer) (heard shape j) ≡ true → WasArmed shape timer (heard shape j))
+    (λ timely came. absurd (both_ways false refl came))
+    (λ j e ih timely came.
+    let x : TimersEvent = put_by (timers_putter shape e.0) e.1 in
+    let grown : heard shape (j ++ e ∷ []) ≡ heard shape j ++ x ∷ [] = map-append (λ (y : ℕ × TimersNote). put_by (timers_putter shape y.0) y.1) j (e ∷ []) in
+    subst (WasArmed shape timer) (sym grown) (⊎_elim
+    (λ old. let was = ih (λ before y after is. timely before y (after ++ e ∷ []) (ap (λ (xs : List (ℕ × TimersNote)). xs ++ e ∷ []) is ∙ append_assoc before (y ∷ after) (e ∷ []))) old in
+    record { before = was.before; after = was.after ++ x ∷ []; whole = ap (λ (xs : List TimersEvent). xs ++ x ∷ []) was.whole ∙ append_assoc was.before was.after (x ∷ []); live = was.live })
+    (λ new. first (heard shape j) x new (λ ended. timely j e [] refl ended) (sym (ap (list_any (arms_timer timer)) grown) ∙ came))
+    (cases_Bool (list_any (arms_timer timer) (heard shape j))))) journal
+  where
+    first : (es : List TimersEvent) (x : TimersEvent) → list_any (arms_timer timer) es ≡ false → (has_ending shape es ≡ true → arms_timer timer x ≡ false) → list_any (arms_timer timer) (es ++ x ∷ []) ≡ true → WasArmed shape timer (es ++ x ∷ [])
+    first es x new late came =
+        let armed : arms_timer timer x ≡ true = ap (λ (c : Bool). c || arms_timer timer x) (sym new) ∙ sym (any_last (arms_timer timer) es x) ∙ came in
+        let yet : has_ending shape es ≡ false = false_from_ne_true (has_ending shape es) (λ ended. both_ways (arms_timer timer x) (late ended) armed) in
+        record {
+          before = es ++ x ∷ [];
+          after = [];
+          whole = sym (append-nil (es ++ x ∷ []));
+          live = and_from (is_armed timer (es ++ x ∷ [])) (not (has_ending shape (es ++ x ∷ [])))
+              (is_armed-push timer es x ∙ ap (λ (c : Bool). cond c (is_armed timer es && not (disarms_timer timer x)) (arms_timer timer x)) new ∙ armed)
+              (ap not (ending_same shape es x (arms_no_word timer x armed) ∙ yet));
+        }
+
+-- ---- from the service's puts to a queue's journal
+
+part_of_timer : (timer : TimerId) (k : ℕ) (outs : List (ℕ × QueueNote)) → filter (is_of (Timer timer)) (by_port k outs) ≡ by_port k (timer_stream timer outs)
+part_of_timer timer k [] = refl
+part_of_timer timer k (x ∷ outs) = by_case (x.0 == k) refl (is_of (Timer timer) x.1) refl (part_of_timer timer k outs)
+  where
+    by_case : (c : Bool) → (x.0 == k) ≡ c → (d : Bool) → is_of (Timer timer) x.1 ≡ d → filter (is_of (Timer timer)) (by_port k outs) ≡ by_port k (timer_stream timer outs)
+        → filter (is_of (Timer timer)) (cond c (x.1 ∷ by_port k outs) (by_port k outs)) ≡ by_port k (cond d (x ∷ timer_stream timer outs) (timer_stream timer outs))
+    by_case true at true is ih = ap (λ (c : Bool). cond c (x.1 ∷ filter (is_of (Timer timer)) (by_port k outs)) (filter (is_of (Timer timer)) (by_port k outs))) is
+        ∙ ap (λ (ws : List QueueNote). x.1 ∷ ws) ih ∙ ap (λ (c : Bool). cond c (x.1 ∷ by_port k (timer_stream timer outs)) (by_port k (timer_stream timer outs))) (sym at)
+    by_case true at false is ih = ap (λ (c : Bool). cond c (x.1 ∷ filter (is_of (Timer timer)) (by_port k outs)) (filter (is_of (Timer timer)) (by_port k outs))) is ∙ ih
+    by_case false at true is ih = ih ∙ ap (λ (c : Bool). cond c (x.1 ∷ by_port k (timer_stream timer outs)) (by_port k (timer_stream timer outs))) (sym at)
+    by_case false at false is ih = ih
+
+other_ports : (timer : TimerId) (shape : Shape) (run : RunData) (k : ℕ) (journal : List (ℕ × QueueNote)) (port : ℕ) → (port ≡ 1 → ⊥)
+    → by_port port journal ≡ put_on_queue shape run.bridge run.timers k (queue_putter port) → filter (is_of (Timer timer)) (by_port port journal) ≡ []
+other_ports timer shape run k journal port apart put = ap (filter (is_of (Timer timer))) put
+    ∙ by_queue_port (λ n who. (n ≡ 1 → ⊥) → filter (is_of (Timer timer)) (put_on_queue shape run.bridge run.timers k who) ≡ [])
+    (λ away. part_stream (Timer timer) k (bridge_puts shape run.bridge) ∙ ap (by_port k) (bridge_none timer shape (bridging.heard shape run.bridge)))
+    (λ away. absurd (away refl)) (λ n past away. refl) port apart
+
+pub timer_journals : RoundsGiveTimersTheirStreams
+timer_journals script run orderly is = record {
+  each = λ timer terms small says on.
+      let shape : Shape = script.shape in
+      let edges = whole_edges script run is in
+      let es : List TimersEvent = heard shape run.timers in
+      let k : ℕ = terms.0 in
+      let journal : List (ℕ × QueueNote) = slice_index_or run.queues k [] in
+      let heard_terms : first_said (terms_in timer) es ≡ Some terms =
+      arming_heard shape timer small run.timers
+      ∙ ap (first_said (arming_noted timer)) (edges.timers timer.client ∙ ap (put_on_timers (setting_of script) (client_puts script run.clients) run.queues run.bridge) (timers_client shape timer.client small))
+      ∙ arming_said timer (client_puts script run.clients timer.client) ∙ says in
+      let was = was_armed shape timer run.timers
+      (λ before e after whole ended. no_late_arm shape timer before e after (λ c less. subst (λ (j : List (ℕ × TimersNote)). SaidLast timers_done (by_port c j)) whole (said script run orderly.shaped edges c less)) ended)
+      (said_came timer es terms heard_terms) in
+      let dead : is_live shape timer es ≡ false = ap (λ (c : Bool). is_armed timer es && not c) (timers_ended script run orderly.shaped orderly.someone is) ∙ none_and (is_armed timer es) in
+      let stream = timers_streams shape run.timers timer terms was dead heard_terms in
+      record {
+        slot = stream.slot;
+        tag = stream.tag;
+        whole = one_port (Timer timer) 1 journal (λ port apart. other_ports timer shape run k journal port apart (edges.queues k on port))
+            ∙ ap (filter (is_of (Timer timer))) (edges.queues k on 1) ∙ part_of_timer timer k (timers_puts shape run.timers) ∙ ap (by_port k) stream.whole
+            ∙ on_one_queue k (q.Create stream.slot (Timer timer) make.Timer stream.tag) (q.Gone stream.slot (Timer timer)) (λ m. q.Tick stream.slot timer m) (ticks shape timer es);
+      };
+}
+  where
+    none_and : (c : Bool) → (c && false) ≡ false
+    none_and true = refl
+    none_and false = refl
