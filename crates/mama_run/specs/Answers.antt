@@ -8,11 +8,7 @@ use Rattle.mama_record.specs.RunData.{RunData}
 use Rattle.mama_record.specs.LogText.{log_text}
 use Rattle.std.specs.List.{AllZip}
 use Rattle.mama_rounds.specs.Round.{IsRound, publishers_from, setting_of}
-use Rattle.mama_legal.specs.Edges.{AreEdges}
-use Rattle.mama_legal.specs.Last.{HaveLast}
-use Rattle.mama_legal.specs.Streams.{AreSubStreams, AreInboxStreams}
-use Rattle.mama_legal.specs.Lines.{AreLines}
-use Rattle.mama_legal.specs.Calls.{IsShapedFor, AreCalls}
+use Rattle.mama_legal.specs.Legal.{IsLegal}
 use Rattle.mama_genuine.specs.Sent.{AreSent}
 use Rattle.mama_genuine.specs.Records.{AreRecords}
 use Rattle.mama_genuine.specs.Gaps.{HasTrueGaps}
@@ -26,21 +22,15 @@ pub record GaveAll (old new : Option (List ℕ)) (text : List ℕ) : Type 0 wher
   pub whole : IfSome old (λ left. (text ≡ left) × (new ≡ Some []))
   pub within : length text ≤ 67108864
 
--- What is promised of the record of a run. It is the record of the script's run in rounds, which is the only one where
--- the clients read these moments. On every edge what was taken is all that was put, by the rules of the actor that put
--- it, and in order. Each line of the script was done, and the last event of every port was taken. The callbacks are those
--- that the queues make, with the orders of the plans, and the images those that the strategy leaves. What was taken of a
--- subscription is its Create, what its link lets through of what was sent while it was live, and its Gone; so of an inbox. And whatever the links lose, repeat and hold back: each message that was delivered is its sender's own, each image
--- that is ok is its sender's record at its number, and each gap that was told is true.
+-- What is promised of the record of a run. It is the record that the script has when it is played in rounds, of which there
+-- is one for the moments that its clients read. It is legal: every line was done; on every edge what was taken is all that was put,
+-- in order; what a queue took of a subscription is its Create, what its link lets through of what was sent while it was
+-- live, and its Gone, and likewise of timers and inboxes; the callbacks are those that the queues make, with the orders of
+-- the plans. And whatever the links lose, repeat and hold back: each message that was delivered is its sender's own, each
+-- image that is ok is its sender's record at its number, and each gap that was told is true.
 pub record IsRun (script : ScriptData) (run : RunData) : Type 0 where
   pub round : IsRound script run
-  pub shape : IsShapedFor script run
-  pub lines : AreLines script run
-  pub edges : AreEdges script run
-  pub last : HaveLast script run
-  pub subs : AreSubStreams script run
-  pub inboxes : AreInboxStreams script run
-  pub calls : AreCalls script run
+  pub legal : IsLegal script run
   pub messages : AreSent (publishers_from 0 script.publishers) run.queues
   pub images : AreRecords (publishers_from 0 script.publishers) run.images
   pub gaps : AllZip (HasTrueGaps (setting_of script) run.queues) (setting_of script).objects run.calls

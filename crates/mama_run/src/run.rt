@@ -12,10 +12,7 @@ use mama_edge::{Clock, ReadAll, Sink, Source, read_all, write_all_counted};
 use mama_genuine::{
     messages_of_rounds_are_sent, ok_images_of_rounds_are_records, told_gaps_of_rounds_are_true,
 };
-use mama_legal::{
-    rounds_are_shaped, rounds_are_whole, rounds_do_all_lines, rounds_give_inboxes_their_streams,
-    rounds_give_subs_their_streams, rounds_have_last, rounds_tell_calls,
-};
+use mama_legal::round_is_legal;
 use mama_memory::OutOfMemory;
 use mama_record::{RunRecord, print_log};
 use mama_script::{Script, ScriptFault, parse};
@@ -127,13 +124,7 @@ fn play<C: Clock>(alloc: Global, script: &Script, clock: &mut C) -> Result<RunRe
     ensures { IfOk result (λ run. IsRun script.now run) }
 {
     let _shape = script.shape();
-    rounds_are_shaped();
-    rounds_do_all_lines();
-    rounds_are_whole();
-    rounds_tell_calls();
-    rounds_have_last();
-    rounds_give_subs_their_streams();
-    rounds_give_inboxes_their_streams();
+    round_is_legal();
     messages_of_rounds_are_sent();
     ok_images_of_rounds_are_records();
     told_gaps_of_rounds_are_true();
