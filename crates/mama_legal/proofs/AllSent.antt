@@ -1,8 +1,8 @@
 -- In the record of a run in rounds each line of the script was done.
-use Rattle.std.specs.Prelude.{slice_index_or, slice_set}
-use Rattle.std.specs.List.{flat_map, list_any, list_all}
-use Rattle.std.proofs.Common.{◌≡◌, ℕ, zero, suc, ◌+◌, ◌<◌, ◌≤◌, ◌==◌, Bool, true, false, ◌&&◌, ◌||◌, cond, List, [], ◌∷◌, ◌++◌, length, map, refl, sym, ◌∙◌, ap, subst, arith, inl, inr, ⊎_elim, append-nil, append_assoc}
-use Rattle.std.proofs.lemmas.Bool.{and_parts, and_from, or_left, or_right, or_cases, or_from, cases_Bool, both_ways, cases_eq, false_from_ne_true}
+use Rattle.std.specs.Prelude.{slice_index_or}
+use Rattle.std.specs.List.{flat_map, list_any}
+use Rattle.std.proofs.Common.{◌≡◌, ℕ, zero, suc, ◌+◌, ◌<◌, Bool, true, false, List, [], ◌∷◌, ◌++◌, length, map, refl, sym, ◌∙◌, ap, subst, arith, append-nil, append_assoc}
+use Rattle.std.proofs.lemmas.Bool.{and_from, or_right, both_ways, false_from_ne_true}
 use Rattle.std.proofs.lemmas.List.{length-map, map-append}
 use Rattle.std.proofs.lemmas.List.Folds.{list_any-append}
 use Rattle.mama_journal.specs.Journal.{all_puts, all_below}
@@ -16,25 +16,24 @@ use Rattle.mama_event.specs.declared.publisher_entry.PublisherEntry.TheVariants.
 use Rattle.mama_event.specs.Ports.{clients_of, publishers_of, queues_of}
 use Rattle.mama_event.specs.Publisher.{PublisherScript, SendLine, publisher_puts}
 use Rattle.mama_rules.specs.Bridge.{BridgeEvent, bridge_puts, bridge_reaction, heard, put_by, is_settling, has_ending, ends_client, ends_sends, settles}
-use Rattle.mama_rules.specs.Ports.{Putter, ByClient, ByPublisher, bridge_putter}
+use Rattle.mama_rules.specs.Ports.{bridge_putter}
 use Rattle.mama_queue_rules.specs.Queue.{QueuePut}
 use Rattle.mama_script.specs.declared.client.ClientLine.{ClientLine}
 use Rattle.mama_script.specs.Script.{ScriptData}
 use Rattle.mama_script.specs.Tree.{IsShaped, topic_of_part}
 use Rattle.mama_record.specs.RunData.{RunData}
-use Rattle.mama_rounds.specs.Client.{Standing, at_first, bridge_part, steps_from, client_steps}
+use Rattle.mama_rounds.specs.Client.{Standing, at_first, bridge_part, steps_from}
 use Rattle.mama_rounds.specs.World.{Setting, no_section}
-use Rattle.mama_rounds.specs.Stage.{Stage}
-use Rattle.mama_rounds.specs.Round.{publisher_steps, all_client_steps, setting_of, start, record_of, IsRound}
-use Rattle.mama_legal.specs.Edges.{all_steps, client_puts, put_on_bridge, put_to_publisher, taken_in, taken_by, AreEdges}
-use Rattle.mama_legal.specs.Lines.{is_done, takes_settle, IsSentOut, AreLines}
+use Rattle.mama_rounds.specs.Round.{publisher_steps, all_client_steps, setting_of, start, IsRound}
+use Rattle.mama_legal.specs.Edges.{all_steps, client_puts, put_on_bridge, put_to_publisher, taken_by, AreEdges}
+use Rattle.mama_legal.specs.Lines.{takes_settle}
 use Rattle.mama_legal.specs.Laws.{RoundsDoAllLines}
 use Rattle.mama_legal.proofs.Lists.{by_entries, all_empty}
 use Rattle.mama_legal.proofs.Stages.{rounds_keep}
 use Rattle.mama_legal.proofs.Whole.{nothing_at, sections_len, resting_at_start, whole_edges}
-use Rattle.mama_legal.proofs.Endings.{is_ending, is_joining, part, tail, Told, told_more, told_none}
+use Rattle.mama_legal.proofs.Endings.{is_joining, part, tail, Told, told_more, told_none}
 use Rattle.mama_legal.proofs.Heard.{is_client_done, is_sends_done, is_settled, putter_client, putter_publisher, hears_client, hears_sends, hears_settled, settled_publisher, SaidLast, steps_said, said_has, no_late_join}
-use Rattle.mama_legal.proofs.Entries.{own_by, in_order, Ordered, sends_at, has_done_at_end, sent_out}
+use Rattle.mama_legal.proofs.Entries.{own_by, in_order, sends_at, has_done_at_end, sent_out}
 use Rattle.mama_legal.proofs.Sends.{says_done, says_settled, Sending, sending_kept}
 
 -- ---- what the rounds leave in a publisher's journal

@@ -1,15 +1,15 @@
 -- What one entry of the bridge puts for a subscription.
-use Rattle.std.specs.Prelude.{not, filter, position, Option, None, Some, is_some, ◌-◌}
+use Rattle.std.specs.Prelude.{not, position, Option, None, Some, is_some, ◌-◌}
 use Rattle.std.specs.List.{flat_map, list_any}
-use Rattle.std.proofs.Common.{◌≡◌, ℕ, zero, suc, ◌+◌, ◌==◌, Bool, true, false, ◌&&◌, ◌||◌, cond, List, [], ◌∷◌, ◌++◌, length, map, refl, sym, ◌∙◌, ap, subst, inl, inr, ⊎_elim, append-nil, append_assoc}
-use Rattle.std.proofs.lemmas.Bool.{both_ways, cases_Bool}
-use Rattle.mama_journal.specs.Journal.{puts, all_puts, turns, first_said, numbers_below, count_of}
+use Rattle.std.proofs.Common.{◌≡◌, ℕ, ◌==◌, Bool, true, false, ◌&&◌, cond, List, [], ◌∷◌, ◌++◌, map, refl, sym, ◌∙◌, ap, append-nil}
+use Rattle.std.proofs.lemmas.Bool.{both_ways}
+use Rattle.mama_journal.specs.Journal.{turns, first_said, numbers_below}
 use Rattle.mama_msg.specs.Field.{FieldData}
 use Rattle.mama_link.specs.Link.{rest}
 use Rattle.mama_event.specs.declared.ids.SubId.{SubId}
 use Rattle.mama_event.specs.declared.ids.InboxId.{InboxId}
 use Rattle.mama_event.specs.declared.ids.ObjectId.{ObjectId}
-use Rattle.mama_event.specs.declared.ids.ObjectId.TheVariants.{Sub, Timer, Inbox}
+use Rattle.mama_event.specs.declared.ids.ObjectId.TheVariants.{Sub, Inbox}
 use Rattle.mama_event.specs.declared.market.MarketMsg.{MarketMsg}
 use Rattle.mama_event.specs.declared.market.MsgKind.TheVariants.{Initial, Recap}
 use Rattle.mama_event.specs.declared.market.SubKind.{SubKind}
@@ -23,10 +23,8 @@ use Rattle.mama_event.specs.declared.to_queue.Make.TheVariants as make
 use Rattle.mama_event.specs.declared.to_queue.QueueNote.{QueueNote}
 use Rattle.mama_event.specs.declared.to_queue.QueueNote.TheVariants as q
 use Rattle.mama_event.specs.Ports.{publishers_of, queues_of}
-use Rattle.mama_event.specs.Object.{same_sub, same_object}
-use Rattle.mama_rules.specs.Bridge.{BridgeEvent, joins, leaves, opens, closes, asks, publishes, images, replies, wishes, client_done, sends_done, settled, bye, no_event, BridgePut, to_publisher, to_queue, to_timers, is_settling, has_ending, is_live, is_open, terms_in, inbox_terms_in, joins_sub, leaves_sub, opens_inbox, live_subs, open_inboxes, sent_to, sent_with, window, reply_window, replied_to, faults_of, inbox_faults_of, place_of, free_slot, to_found, to_first, wants_image, delivered, replied, gone, passed_on, passed, passed_reply, ended, ended_inbox, may_wish, answer, settle_begins, ending_comes, bridge_reaction}
-use Rattle.mama_legal.specs.Streams.{is_of, put_for}
-use Rattle.mama_legal.proofs.Lists.{by_entries}
+use Rattle.mama_event.specs.Object.{same_sub}
+use Rattle.mama_rules.specs.Bridge.{BridgeEvent, joins, leaves, opens, closes, asks, publishes, images, replies, wishes, client_done, sends_done, settled, bye, no_event, BridgePut, to_publisher, to_queue, to_timers, is_settling, has_ending, is_live, is_open, terms_in, inbox_terms_in, joins_sub, leaves_sub, opens_inbox, live_subs, open_inboxes, sent_to, sent_with, window, reply_window, replied_to, faults_of, inbox_faults_of, free_slot, to_found, to_first, wants_image, delivered, replied, gone, passed_on, passed, passed_reply, ended, ended_inbox, may_wish, answer, settle_begins, ending_comes, bridge_reaction}
 use Rattle.mama_legal.proofs.Lives.{same_sub-is, same_sub-itself, is_word, stream, stream-append, stream_flat, delivered_other, gone_other, replied_other, over_live}
 
 -- ---- what is for others

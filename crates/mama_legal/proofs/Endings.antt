@@ -1,17 +1,16 @@
 -- What the bridge puts to a publisher: at last Settle, and then Fin.
-use Rattle.std.specs.Prelude.{slice_index_or, Option, None, Some, not, nat_lt, nat_le, filter, position, ◌-◌}
+use Rattle.std.specs.Prelude.{Option, None, Some, not, nat_lt, nat_le, position, ◌-◌}
 use Rattle.std.specs.List.{flat_map, list_any}
-use Rattle.std.proofs.Common.{◌≡◌, ℕ, zero, suc, ◌+◌, ◌<◌, ◌≤◌, ◌==◌, Bool, true, false, ◌&&◌, ◌||◌, cond, List, [], ◌∷◌, ◌++◌, length, map, refl, sym, ◌∙◌, ap, subst, arith, inl, inr, ⊎_elim, append-nil, append_assoc}
-use Rattle.std.proofs.lemmas.Bool.{and_parts, and_from, or_left, or_cases, or_from, cases_Bool, both_ways, cases_eq, eq-eqb, ne_eqb, cond_both, false_from_ne_true}
+use Rattle.std.proofs.Common.{◌≡◌, ℕ, zero, suc, ◌<◌, ◌≤◌, ◌==◌, Bool, true, false, ◌&&◌, cond, List, [], ◌∷◌, ◌++◌, map, refl, sym, ◌∙◌, ap, arith, ⊎_elim, append-nil, append_assoc}
+use Rattle.std.proofs.lemmas.Bool.{and_parts, and_from, or_left, or_from, both_ways, cases_eq, eq-eqb, ne_eqb}
 use Rattle.std.proofs.lemmas.List.{map-append}
 use Rattle.std.proofs.lemmas.List.Concat.{flat_map-append}
 use Rattle.std.proofs.lemmas.List.Folds.{list_any-append}
-use Rattle.mama_journal.specs.Journal.{puts, all_puts, turns, all_below, numbers_below, count_of, first_said}
+use Rattle.mama_journal.specs.Journal.{all_puts, turns, all_below, numbers_below, count_of, first_said}
 use Rattle.mama_link.specs.Link.{rest}
 use Rattle.mama_event.specs.declared.ids.SubId.{SubId}
 use Rattle.mama_event.specs.declared.ids.InboxId.{InboxId}
-use Rattle.mama_event.specs.declared.ids.ObjectId.{ObjectId}
-use Rattle.mama_event.specs.declared.ids.ObjectId.TheVariants.{Sub, Timer, Inbox}
+use Rattle.mama_event.specs.declared.ids.ObjectId.TheVariants.{Sub, Inbox}
 use Rattle.mama_event.specs.declared.market.MarketMsg.{MarketMsg}
 use Rattle.mama_event.specs.declared.market.MsgKind.TheVariants.{Initial, Recap}
 use Rattle.mama_event.specs.declared.market.SubKind.{SubKind}
@@ -28,7 +27,7 @@ use Rattle.mama_event.specs.Ports.{clients_of, publishers_of, queues_of}
 use Rattle.mama_msg.specs.Field.{FieldData}
 use Rattle.mama_rules.specs.Bridge.{BridgeEvent, joins, leaves, opens, closes, asks, publishes, images, replies, wishes, client_done, sends_done, settled, bye, no_event, BridgePut, to_publisher, to_queue, to_timers, ends_client, ends_sends, settles, is_settling, has_ending, is_live, is_open, joins_sub, opens_inbox, terms_in, inbox_terms_in, faults_of, inbox_faults_of, window, reply_window, passed_on, sent_with, replied_to, free_slot, is_recap_want, live_subs, open_inboxes, may_wish, to_place, to_found, to_first, wants_image, delivered, replied, gone, passed, passed_reply, ended, ended_inbox, answer, settle_begins, ending_comes, bridge_reaction}
 use Rattle.mama_rounds.specs.World.{publisher_part}
-use Rattle.mama_legal.proofs.Lists.{by_entries, all_puts-push}
+use Rattle.mama_legal.proofs.Lists.{all_puts-push}
 
 -- Settle or Fin
 abbrev pub is_ending : PublisherNote → Bool

@@ -1,8 +1,8 @@
 -- The journal of a publisher: what it makes of its own accord, what it takes, and in which order.
-use Rattle.std.specs.Prelude.{slice_index_or, slice_set, not, replicate, Option, None, Some}
+use Rattle.std.specs.Prelude.{slice_index_or, slice_set, not, replicate}
 use Rattle.std.specs.List.{flat_map, list_any, list_all}
-use Rattle.std.proofs.Common.{◌≡◌, ℕ, zero, suc, ◌+◌, ◌<◌, ◌≤◌, ◌==◌, Bool, true, false, ◌&&◌, ◌||◌, cond, List, [], ◌∷◌, ◌++◌, length, map, refl, sym, ◌∙◌, ap, subst, arith, inl, inr, ⊎_elim, append-nil, append_assoc}
-use Rattle.std.proofs.lemmas.Bool.{and_parts, and_from, or_left, or_right, or_cases, or_from, or_parts, cases_Bool, both_ways, cases_eq, false_from_ne_true}
+use Rattle.std.proofs.Common.{◌≡◌, ℕ, zero, suc, ◌<◌, Bool, true, false, ◌&&◌, ◌||◌, List, [], ◌∷◌, ◌++◌, length, map, refl, sym, ◌∙◌, ap, subst, arith, ⊎_elim, append-nil, append_assoc}
+use Rattle.std.proofs.lemmas.Bool.{and_parts, and_from, or_left, or_right, or_cases, or_from, or_parts, both_ways, false_from_ne_true}
 use Rattle.std.proofs.lemmas.List.{length-set, get_or-set_same, get_or-set_other}
 use Rattle.std.proofs.lemmas.List.Concat.{flat_map-append}
 use Rattle.std.proofs.lemmas.List.Folds.{list_any-append}
@@ -11,7 +11,7 @@ use Rattle.mama_event.specs.declared.to_publisher.PublisherNote.{PublisherNote}
 use Rattle.mama_event.specs.declared.to_publisher.PublisherNote.TheVariants.{Want, Ask, Settle, Fin}
 use Rattle.mama_event.specs.declared.publisher_entry.PublisherEntry.{PublisherEntry}
 use Rattle.mama_event.specs.declared.publisher_entry.PublisherEntry.TheVariants.{Send, Done, Took}
-use Rattle.mama_event.specs.Publisher.{PublisherScript, SendLine, is_send}
+use Rattle.mama_event.specs.Publisher.{SendLine, is_send}
 use Rattle.mama_script.specs.declared.publisher.PublisherLine.{PublisherLine}
 use Rattle.mama_script.specs.declared.publisher.PublisherLine.TheVariants as line
 use Rattle.mama_script.specs.declared.publisher.PublisherPart.{PublisherPart}

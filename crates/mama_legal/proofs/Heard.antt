@@ -1,22 +1,20 @@
 -- What the bridge heard, and by which port it came.
-use Rattle.std.specs.Prelude.{slice_index_or, not, replicate}
+use Rattle.std.specs.Prelude.{replicate}
 use Rattle.std.specs.List.{flat_map, list_any}
-use Rattle.std.proofs.Common.{◌≡◌, ℕ, zero, suc, ◌+◌, ◌<◌, ◌≤◌, ◌==◌, Bool, true, false, ◌&&◌, ◌||◌, cond, List, [], ◌∷◌, ◌++◌, length, map, refl, sym, ◌∙◌, ap, subst, arith, inl, inr, ⊎_elim, append-nil, append_assoc}
-use Rattle.std.proofs.lemmas.Bool.{and_parts, and_from, or_left, or_right, or_cases, or_from, or_parts, cases_Bool, both_ways, cases_eq, eqb-true, eq-eqb, false_from_ne_true}
-use Rattle.std.proofs.lemmas.List.{map-append}
+use Rattle.std.proofs.Common.{◌≡◌, ℕ, zero, suc, ◌+◌, ◌<◌, ◌==◌, Bool, true, false, ◌||◌, cond, List, [], ◌∷◌, ◌++◌, refl, sym, ◌∙◌, ap, arith, ⊎_elim, append_assoc}
+use Rattle.std.proofs.lemmas.Bool.{and_parts, or_left, or_right, or_cases, or_from, or_parts, both_ways, cases_eq, eqb-true, eq-eqb, false_from_ne_true}
 use Rattle.std.proofs.lemmas.List.Concat.{flat_map-append}
 use Rattle.std.proofs.lemmas.List.Folds.{list_any-append}
 use Rattle.mama_journal.specs.Journal.{all_below}
 use Rattle.mama_journal.specs.Lane.{by_port}
 use Rattle.mama_event.specs.declared.shape.Shape.{Shape}
-use Rattle.mama_event.specs.declared.order.Order.{Order}
 use Rattle.mama_event.specs.declared.order.Order.TheVariants as order
 use Rattle.mama_event.specs.declared.to_bridge.BridgeNote.{BridgeNote}
 use Rattle.mama_event.specs.declared.to_bridge.BridgeNote.TheVariants as b
 use Rattle.mama_event.specs.Ports.{clients_of, publishers_of, queues_of}
 use Rattle.mama_rules.specs.Bridge.{BridgeEvent, joins, no_event, opens, from_client, from_publisher, from_queue, put_by, heard, ends_client, ends_sends, settles, is_settling}
-use Rattle.mama_rules.specs.Ports.{Putter, ByClient, ByPublisher, ByQueue, ByNobody, bridge_putter}
-use Rattle.mama_queue_rules.specs.Queue.{QueuePut, order_put}
+use Rattle.mama_rules.specs.Ports.{Putter, ByClient, ByPublisher, ByQueue, bridge_putter}
+use Rattle.mama_queue_rules.specs.Queue.{QueuePut}
 use Rattle.mama_script.specs.declared.client.ClientLine.{ClientLine}
 use Rattle.mama_script.specs.declared.client.ClientLine.TheVariants as line
 use Rattle.mama_rounds.specs.Client.{Standing, bridge_part, line_steps, after_line, steps_from}

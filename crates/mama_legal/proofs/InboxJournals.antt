@@ -1,19 +1,15 @@
 -- In the record of a run in rounds the journals of queues have the streams of the inboxes.
-use Rattle.std.specs.Prelude.{slice_index_or, not, filter, Option, None, Some, is_some}
+use Rattle.std.specs.Prelude.{slice_index_or, not, filter, Option, None, Some}
 use Rattle.std.specs.List.{flat_map, list_any}
 use Rattle.std.specs.Option.{option_or}
-use Rattle.std.proofs.Common.{◌≡◌, ℕ, zero, suc, ◌+◌, ◌<◌, ◌≤◌, ◌==◌, Bool, true, false, ◌&&◌, ◌||◌, cond, List, [], ◌∷◌, ◌++◌, length, map, refl, sym, ◌∙◌, ap, subst, arith, inl, inr, ⊎_elim, append-nil, append_assoc}
-use Rattle.std.proofs.lemmas.Bool.{and_parts, and_from, or_left, or_cases, or_parts, or_from, both_ways, cases_Bool, cases_eq, eqb-true, eqb-false, eq-eqb, ne_eqb, false_from_ne_true}
+use Rattle.std.proofs.Common.{◌≡◌, ℕ, ◌+◌, ◌<◌, ◌==◌, Bool, true, false, ◌&&◌, ◌||◌, cond, List, [], ◌∷◌, ◌++◌, refl, sym, ◌∙◌, ap, subst, arith, ⊎_elim, append-nil, append_assoc}
+use Rattle.std.proofs.lemmas.Bool.{and_from, both_ways, cases_Bool, eqb-true, eqb-false, eq-eqb, ne_eqb, false_from_ne_true}
 use Rattle.std.proofs.lemmas.List.{map-append}
-use Rattle.std.proofs.lemmas.List.Folds.{list_any-append}
-use Rattle.mama_journal.specs.Journal.{first_said, all_puts, turns, numbers_below}
-use Rattle.mama_journal.specs.Lane.{by_port, from_port}
+use Rattle.mama_journal.specs.Journal.{first_said}
+use Rattle.mama_journal.specs.Lane.{by_port}
 use Rattle.mama_link.specs.Link.{through}
 use Rattle.mama_event.specs.declared.ids.InboxId.{InboxId}
-use Rattle.mama_event.specs.declared.ids.ObjectId.{ObjectId}
-use Rattle.mama_event.specs.declared.ids.ObjectId.TheVariants.{Sub, Timer, Inbox}
-use Rattle.mama_event.specs.declared.ids.TimerId.{TimerId}
-use Rattle.mama_msg.specs.Field.{FieldData}
+use Rattle.mama_event.specs.declared.ids.ObjectId.TheVariants.{Inbox}
 use Rattle.mama_event.specs.declared.shape.Shape.{Shape}
 use Rattle.mama_event.specs.declared.to_bridge.InboxTerms.{InboxTerms}
 use Rattle.mama_event.specs.declared.to_bridge.BridgeNote.{BridgeNote}
@@ -21,31 +17,25 @@ use Rattle.mama_event.specs.declared.to_bridge.BridgeNote.TheVariants as b
 use Rattle.mama_event.specs.declared.to_queue.Make.TheVariants as make
 use Rattle.mama_event.specs.declared.to_queue.QueueNote.{QueueNote}
 use Rattle.mama_event.specs.declared.to_queue.QueueNote.TheVariants as q
-use Rattle.mama_event.specs.Ports.{clients_of, publishers_of, queues_of}
-use Rattle.mama_event.specs.Object.{same_inbox, same_object}
-use Rattle.mama_rules.specs.Bridge.{BridgeEvent, joins, no_event, opens, BridgePut, to_publisher, to_queue, to_timers, from_client, from_publisher, from_queue, put_by, heard, inbox_terms_in, opens_inbox, closes_inbox, lives, is_open, is_settling, has_ending, reply_window, bridge_puts}
-use Rattle.mama_rules.specs.Timers.{TimersEvent, arms, disarms, now, timers_puts, timers_reaction, live_timers}
-use Rattle.mama_rules.specs.Timers as timing
-use Rattle.mama_rules.specs.Ports.{Putter, ByClient, bridge_putter, queue_putter}
+use Rattle.mama_event.specs.Ports.{clients_of, publishers_of}
+use Rattle.mama_event.specs.Object.{same_inbox}
+use Rattle.mama_rules.specs.Bridge.{BridgeEvent, joins, no_event, opens, from_client, from_publisher, from_queue, put_by, heard, inbox_terms_in, opens_inbox, closes_inbox, lives, is_open, is_settling, has_ending, reply_window, bridge_puts}
+use Rattle.mama_rules.specs.Ports.{bridge_putter}
 use Rattle.mama_queue_rules.specs.Queue.{QueuePut}
 use Rattle.mama_queue_rules.specs.Queue as queue
-use Rattle.mama_script.specs.Script.{ScriptData}
-use Rattle.mama_script.specs.Tree.{IsShaped}
-use Rattle.mama_record.specs.RunData.{RunData}
 use Rattle.mama_rounds.specs.Client.{bridge_part}
-use Rattle.mama_rounds.specs.World.{queue_part}
-use Rattle.mama_rounds.specs.Round.{setting_of, IsRound}
-use Rattle.mama_legal.specs.Edges.{client_puts, put_on_bridge, put_on_queue, AreEdges}
-use Rattle.mama_legal.specs.Streams.{is_of, put_for, stream_of, events_of, inbox_terms_noted, inbox_terms_put, inbox_terms_of, WasOpen, IsInboxJournal, AreInboxStreams}
+use Rattle.mama_rounds.specs.Round.{setting_of}
+use Rattle.mama_legal.specs.Edges.{client_puts, put_on_bridge}
+use Rattle.mama_legal.specs.Streams.{is_of, inbox_terms_noted, inbox_terms_put, WasOpen}
 use Rattle.mama_legal.specs.Laws.{RoundsGiveInboxesTheirStreams}
-use Rattle.mama_legal.proofs.Lists.{by_entries, all_puts-push, by_port-append, by_port-from}
-use Rattle.mama_legal.proofs.Putters.{by_bridge_port, by_queue_port}
+use Rattle.mama_legal.proofs.Lists.{by_entries}
+use Rattle.mama_legal.proofs.Putters.{by_bridge_port}
 use Rattle.mama_legal.proofs.Whole.{whole_edges}
 use Rattle.mama_legal.proofs.Endings.{ending_settles}
 use Rattle.mama_legal.proofs.Heard.{is_client_done, is_opening, SaidLast, putter_client, no_late_opening}
 use Rattle.mama_legal.proofs.AllSent.{said, ending_came}
 use Rattle.mama_legal.proofs.Journals.{one_port, part_stream, on_one_queue, other_ports}
-use Rattle.mama_legal.proofs.Lives.{any_last, lives-push, lives_came, ending_same, is_word}
+use Rattle.mama_legal.proofs.Lives.{any_last, lives-push, ending_same, is_word}
 use Rattle.mama_legal.proofs.InboxStreams.{said_came, inboxes_streams}
 
 -- ---- which terms the bridge heard of

@@ -1,28 +1,26 @@
 -- What of the bridge's puts is for an inbox.
-use Rattle.std.specs.Prelude.{slice_index_or, not, filter, Option, None, Some, is_some, if◌then◌else◌}
+use Rattle.std.specs.Prelude.{not, filter, Option, None, Some, is_some}
 use Rattle.std.specs.List.{flat_map, list_any}
 use Rattle.std.specs.Option.{option_or}
-use Rattle.std.proofs.Common.{◌≡◌, ℕ, zero, suc, ◌+◌, ◌<◌, ◌≤◌, ◌==◌, Bool, true, false, ◌&&◌, ◌||◌, cond, List, [], ◌∷◌, ◌++◌, length, map, refl, sym, ◌∙◌, ap, subst, arith, inl, inr, ⊎_elim, append-nil, append_assoc}
-use Rattle.std.proofs.lemmas.Bool.{and_parts, and_from, or_left, or_right, or_cases, or_from, cases_Bool, both_ways, cases_eq, eq-eqb, eqb-true, false_from_ne_true}
+use Rattle.std.proofs.Common.{◌≡◌, ℕ, ◌==◌, Bool, true, false, ◌&&◌, ◌||◌, cond, List, [], ◌∷◌, ◌++◌, map, refl, sym, ◌∙◌, ap, append-nil}
+use Rattle.std.proofs.lemmas.Bool.{and_parts, and_from, eq-eqb, eqb-true}
 use Rattle.std.proofs.lemmas.List.Concat.{flat_map-append}
-use Rattle.std.proofs.lemmas.List.Folds.{list_any-append}
-use Rattle.mama_journal.specs.Journal.{puts, all_puts, first_said, all_below, turns}
+use Rattle.mama_journal.specs.Journal.{puts, first_said}
 use Rattle.mama_msg.specs.Field.{FieldData}
 use Rattle.mama_event.specs.declared.ids.SubId.{SubId}
 use Rattle.mama_event.specs.declared.ids.InboxId.{InboxId}
 use Rattle.mama_event.specs.declared.ids.ObjectId.{ObjectId}
-use Rattle.mama_event.specs.declared.ids.ObjectId.TheVariants.{Sub, Timer, Inbox}
+use Rattle.mama_event.specs.declared.ids.ObjectId.TheVariants.{Sub, Inbox}
 use Rattle.mama_event.specs.declared.market.MarketMsg.{MarketMsg}
 use Rattle.mama_event.specs.declared.shape.Shape.{Shape}
 use Rattle.mama_event.specs.declared.to_bridge.InboxTerms.{InboxTerms}
 use Rattle.mama_event.specs.declared.to_queue.QueueNote.{QueueNote}
 use Rattle.mama_event.specs.declared.to_queue.QueueNote.TheVariants as q
-use Rattle.mama_event.specs.Ports.{clients_of, publishers_of}
 use Rattle.mama_event.specs.Object.{same_inbox, same_object}
-use Rattle.mama_rules.specs.Bridge.{BridgeEvent, joins, leaves, opens, closes, asks, publishes, images, replies, wishes, client_done, sends_done, settled, bye, no_event, BridgePut, to_publisher, to_queue, to_timers, ends_client, ends_sends, settles, is_settling, has_ending, lives, is_open, inbox_terms_in, opens_inbox, closes_inbox, newly_opened, open_inboxes, created_by, created_in, place_of, to_place, delivered, replied, gone}
-use Rattle.mama_legal.specs.Streams.{is_of, put_for, stream_of}
+use Rattle.mama_rules.specs.Bridge.{BridgeEvent, joins, leaves, opens, closes, asks, publishes, images, replies, wishes, client_done, sends_done, settled, bye, no_event, BridgePut, to_publisher, to_queue, to_timers, has_ending, lives, is_open, opens_inbox, closes_inbox, newly_opened, open_inboxes, created_by, created_in, place_of, to_place, delivered, replied, gone}
+use Rattle.mama_legal.specs.Streams.{is_of, put_for}
 use Rattle.mama_legal.proofs.Lists.{by_entries, puts-push}
-use Rattle.mama_legal.proofs.Lives.{any_last, lives-push, lives_came, first_said-append}
+use Rattle.mama_legal.proofs.Lives.{any_last, lives_came, first_said-append}
 
 -- ---- one inbox
 

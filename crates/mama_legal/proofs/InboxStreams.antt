@@ -1,16 +1,16 @@
 -- The stream of an inbox: its Create, what its link lets through of the replies put while it was open, and its Gone.
-use Rattle.std.specs.Prelude.{not, slice_index, Option, None, Some, is_some}
-use Rattle.std.specs.List.{flat_map, list_any}
+use Rattle.std.specs.Prelude.{not, Option, None, Some, is_some}
+use Rattle.std.specs.List.{list_any}
 use Rattle.std.specs.Option.{option_or}
-use Rattle.std.proofs.Common.{◌≡◌, ℕ, zero, suc, ◌+◌, ◌==◌, Bool, true, false, ◌&&◌, ◌||◌, cond, List, [], ◌∷◌, ◌++◌, length, map, refl, sym, ◌∙◌, ap, subst, inl, inr, ⊎_elim, ◌⊎◌, append-nil, append_assoc}
-use Rattle.std.proofs.lemmas.Bool.{and_parts, and_from, or_parts, both_ways, cases_Bool, false_from_ne_true, or_left}
+use Rattle.std.proofs.Common.{◌≡◌, ℕ, Bool, true, false, ◌&&◌, ◌||◌, cond, List, [], ◌∷◌, ◌++◌, map, refl, sym, ◌∙◌, ap, subst, inl, inr, ⊎_elim, ◌⊎◌, append-nil, append_assoc}
+use Rattle.std.proofs.lemmas.Bool.{and_parts, and_from, both_ways, cases_Bool, false_from_ne_true, or_left}
 use Rattle.std.proofs.lemmas.List.{map-append}
-use Rattle.mama_journal.specs.Journal.{puts, all_puts, turns, first_said}
-use Rattle.mama_link.specs.Link.{emit, rest, through}
+use Rattle.mama_journal.specs.Journal.{all_puts, turns, first_said}
+use Rattle.mama_link.specs.Link.{rest, through}
 use Rattle.mama_link.specs.declared.faults.FaultRow.{FaultRow}
 use Rattle.mama_event.specs.declared.ids.InboxId.{InboxId}
 use Rattle.mama_event.specs.declared.ids.ObjectId.{ObjectId}
-use Rattle.mama_event.specs.declared.ids.ObjectId.TheVariants.{Sub, Timer, Inbox}
+use Rattle.mama_event.specs.declared.ids.ObjectId.TheVariants.{Inbox}
 use Rattle.mama_msg.specs.Field.{FieldData}
 use Rattle.mama_event.specs.declared.shape.Shape.{Shape}
 use Rattle.mama_event.specs.declared.to_bridge.InboxTerms.{InboxTerms}
@@ -18,7 +18,7 @@ use Rattle.mama_event.specs.declared.to_queue.Make.TheVariants as make
 use Rattle.mama_event.specs.declared.to_queue.QueueNote.{QueueNote}
 use Rattle.mama_event.specs.declared.to_queue.QueueNote.TheVariants as q
 use Rattle.mama_event.specs.Object.{same_inbox}
-use Rattle.mama_rules.specs.Bridge.{BridgeEvent, joins, leaves, opens, closes, asks, publishes, images, replies, wishes, client_done, sends_done, settled, bye, no_event, BridgePut, has_ending, lives, is_open, inbox_terms_in, opens_inbox, closes_inbox, replied_to, reply_window, inbox_faults_of, place_of, free_slot, replied, gone, passed_on, passed_reply, ended_inbox, answer, bridge_reaction, heard}
+use Rattle.mama_rules.specs.Bridge.{BridgeEvent, opens, closes, replies, has_ending, lives, is_open, inbox_terms_in, opens_inbox, closes_inbox, replied_to, reply_window, inbox_faults_of, place_of, free_slot, replied, gone, passed_on, passed_reply, ended_inbox, bridge_reaction, heard}
 use Rattle.mama_legal.specs.Streams.{IsInboxStream}
 use Rattle.mama_legal.specs.Laws.{InboxesGetTheirStreams}
 use Rattle.mama_legal.proofs.Lists.{by_entries, puts-push, all_puts-push}

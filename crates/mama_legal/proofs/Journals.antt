@@ -1,15 +1,13 @@
 -- From what the bridge puts to the journal of a queue.
-use Rattle.std.specs.Prelude.{slice_index_or, not, filter, Option, None, Some, is_some}
+use Rattle.std.specs.Prelude.{filter, Option, None, Some}
 use Rattle.std.specs.List.{flat_map, list_any}
-use Rattle.std.specs.Option.{option_or}
-use Rattle.std.proofs.Common.{◌≡◌, ℕ, zero, suc, ◌+◌, ◌<◌, ◌≤◌, ◌==◌, Bool, true, false, ◌&&◌, ◌||◌, cond, List, [], ◌∷◌, ◌++◌, length, map, refl, sym, ◌∙◌, ap, subst, arith, inl, inr, ⊎_elim, append-nil, append_assoc}
-use Rattle.std.proofs.lemmas.Bool.{and_parts, and_from, or_left, or_cases, or_parts, or_from, both_ways, cases_Bool, cases_eq, eqb-true, eqb-false, eq-eqb, ne_eqb, false_from_ne_true}
-use Rattle.std.proofs.lemmas.List.{map-append}
+use Rattle.std.proofs.Common.{◌≡◌, ℕ, ◌==◌, Bool, true, false, ◌||◌, cond, List, [], ◌∷◌, ◌++◌, map, refl, sym, ◌∙◌, ap}
+use Rattle.std.proofs.lemmas.Bool.{or_parts, or_from, eqb-false, eq-eqb}
 use Rattle.std.proofs.lemmas.List.Folds.{list_any-append}
-use Rattle.mama_journal.specs.Journal.{first_said, all_puts, turns, numbers_below}
-use Rattle.mama_journal.specs.Lane.{by_port, from_port}
+use Rattle.mama_journal.specs.Journal.{all_puts, turns, numbers_below}
+use Rattle.mama_journal.specs.Lane.{by_port}
 use Rattle.mama_event.specs.declared.ids.ObjectId.{ObjectId}
-use Rattle.mama_event.specs.declared.ids.ObjectId.TheVariants.{Sub, Timer, Inbox}
+use Rattle.mama_event.specs.declared.ids.ObjectId.TheVariants.{Timer}
 use Rattle.mama_event.specs.declared.ids.TimerId.{TimerId}
 use Rattle.mama_event.specs.declared.shape.Shape.{Shape}
 use Rattle.mama_event.specs.declared.to_timers.TimersNote.{TimersNote}
@@ -17,18 +15,18 @@ use Rattle.mama_event.specs.declared.to_bridge.BridgeNote.{BridgeNote}
 use Rattle.mama_event.specs.declared.to_queue.Make.TheVariants as make
 use Rattle.mama_event.specs.declared.to_queue.QueueNote.{QueueNote}
 use Rattle.mama_event.specs.declared.to_queue.QueueNote.TheVariants as q
-use Rattle.mama_event.specs.Ports.{clients_of, publishers_of, queues_of}
-use Rattle.mama_event.specs.Object.{same_sub, same_object}
-use Rattle.mama_rules.specs.Bridge.{BridgeEvent, joins, no_event, opens, BridgePut, to_publisher, to_queue, to_timers, from_client, from_publisher, from_queue, put_by, heard, terms_in, joins_sub, leaves_sub, lives, is_live, is_settling, has_ending, window, bridge_puts}
+use Rattle.mama_event.specs.Ports.{queues_of}
+use Rattle.mama_event.specs.Object.{same_object}
+use Rattle.mama_rules.specs.Bridge.{BridgePut, to_publisher, to_queue, to_timers}
 use Rattle.mama_rules.specs.Timers.{TimersEvent, arms, disarms, now, timers_puts, timers_reaction, live_timers}
 use Rattle.mama_rules.specs.Timers as timing
-use Rattle.mama_rules.specs.Ports.{Putter, ByClient, bridge_putter, queue_putter}
+use Rattle.mama_rules.specs.Ports.{queue_putter}
 use Rattle.mama_rounds.specs.World.{queue_part}
-use Rattle.mama_legal.specs.Edges.{client_puts, put_on_bridge, put_on_queue, AreEdges}
-use Rattle.mama_legal.specs.Streams.{is_of, put_for, stream_of, events_of}
-use Rattle.mama_legal.proofs.Lists.{by_entries, all_puts-push, by_port-append, by_port-from}
-use Rattle.mama_legal.proofs.Putters.{by_bridge_port, by_queue_port}
-use Rattle.mama_legal.proofs.Heard.{is_client_done, SaidLast, putter_client, no_late_join, no_end}
+use Rattle.mama_legal.specs.Edges.{put_on_queue}
+use Rattle.mama_legal.specs.Streams.{is_of, stream_of, events_of}
+use Rattle.mama_legal.proofs.Lists.{by_entries, all_puts-push, by_port-append}
+use Rattle.mama_legal.proofs.Putters.{by_queue_port}
+use Rattle.mama_legal.proofs.Heard.{no_end}
 
 -- ---- the timers put nothing for an object that is no timer
 

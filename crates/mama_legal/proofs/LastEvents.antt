@@ -1,21 +1,18 @@
 -- In the record of a run in rounds every port's stream has its last event.
-use Rattle.std.specs.Prelude.{slice_index_or, not}
+use Rattle.std.specs.Prelude.{slice_index_or}
 use Rattle.std.specs.List.{flat_map, list_any}
-use Rattle.std.proofs.Common.{◌≡◌, ℕ, zero, suc, ◌+◌, ◌<◌, ◌≤◌, ◌==◌, Bool, true, false, ◌&&◌, ◌||◌, cond, List, [], ◌∷◌, ◌++◌, length, map, refl, sym, ◌∙◌, ap, subst, arith, inl, inr, ⊎_elim, append-nil, append_assoc}
-use Rattle.std.proofs.lemmas.Bool.{and_parts, and_from, or_left, or_right, or_cases, both_ways, cases_eq, cases_lt, eq-eqb, eqb-true, false_from_ne_true}
+use Rattle.std.proofs.Common.{◌≡◌, ℕ, ◌+◌, ◌<◌, ◌≤◌, ◌==◌, Bool, true, false, ◌&&◌, ◌||◌, cond, List, [], ◌∷◌, ◌++◌, length, refl, sym, ◌∙◌, ap, subst, arith, ⊎_elim}
+use Rattle.std.proofs.lemmas.Bool.{and_parts, and_from, or_left, or_right, or_cases, both_ways, cases_eq, eq-eqb, eqb-true, false_from_ne_true}
 use Rattle.std.proofs.lemmas.List.Folds.{list_any-append}
-use Rattle.mama_journal.specs.Journal.{all_puts, all_below, count_of}
+use Rattle.mama_journal.specs.Journal.{all_below, count_of}
 use Rattle.mama_journal.specs.Lane.{by_port}
 use Rattle.mama_event.specs.declared.shape.Shape.{Shape}
 use Rattle.mama_event.specs.declared.to_bridge.BridgeNote.{BridgeNote}
 use Rattle.mama_event.specs.declared.to_bridge.BridgeNote.TheVariants as b
 use Rattle.mama_event.specs.declared.to_timers.TimersNote.{TimersNote}
 use Rattle.mama_event.specs.declared.to_timers.TimersNote.TheVariants as t
-use Rattle.mama_event.specs.declared.to_publisher.PublisherNote.{PublisherNote}
 use Rattle.mama_event.specs.declared.to_publisher.PublisherNote.TheVariants.{Settle, Fin}
-use Rattle.mama_event.specs.declared.to_queue.QueueNote.{QueueNote}
 use Rattle.mama_event.specs.declared.to_queue.QueueNote.TheVariants as q
-use Rattle.mama_event.specs.declared.publisher_entry.PublisherEntry.{PublisherEntry}
 use Rattle.mama_event.specs.Ports.{clients_of, publishers_of, queues_of, bridge_ports, timers_port_of_bridge}
 use Rattle.mama_event.specs.ToBridge as bridge
 use Rattle.mama_event.specs.ToPublisher as publisher
@@ -25,7 +22,7 @@ use Rattle.mama_rules.specs.Bridge.{BridgeEvent, bridge_puts}
 use Rattle.mama_rules.specs.Bridge as bridging
 use Rattle.mama_rules.specs.Timers.{TimersEvent, timers_puts}
 use Rattle.mama_rules.specs.Timers as timing
-use Rattle.mama_rules.specs.Ports.{Putter, ByClient, ByPublisher, ByQueue, ByBridge, ByTimers, timers_putter, bridge_putter, queue_putter}
+use Rattle.mama_rules.specs.Ports.{Putter, ByClient, ByQueue, ByBridge, timers_putter}
 use Rattle.mama_queue_rules.specs.Queue.{QueuePut, is_fin}
 use Rattle.mama_script.specs.declared.client.ClientLine.{ClientLine}
 use Rattle.mama_script.specs.Script.{ScriptData}
@@ -33,14 +30,14 @@ use Rattle.mama_script.specs.Tree.{IsShaped}
 use Rattle.mama_record.specs.RunData.{RunData}
 use Rattle.mama_rounds.specs.Client.{Standing, timers_part, bridge_part, after_line, line_steps, steps_from}
 use Rattle.mama_rounds.specs.World.{timer_part, queue_part}
-use Rattle.mama_rounds.specs.Round.{all_client_steps, setting_of, IsRound}
-use Rattle.mama_legal.specs.Edges.{all_steps, client_puts, queue_puts, put_on_bridge, put_on_timers, put_on_queue, taken_by, AreEdges}
+use Rattle.mama_rounds.specs.Round.{setting_of, IsRound}
+use Rattle.mama_legal.specs.Edges.{all_steps, client_puts, queue_puts, put_on_bridge, put_on_timers, AreEdges}
 use Rattle.mama_legal.specs.Last.{HaveLast}
 use Rattle.mama_legal.specs.Laws.{RoundsHaveLast}
 use Rattle.mama_legal.proofs.Whole.{whole_edges}
 use Rattle.mama_legal.proofs.Putters.{by_bridge_port, by_timers_port}
 use Rattle.mama_legal.proofs.Endings.{tail}
-use Rattle.mama_legal.proofs.Heard.{is_client_done, is_settled, putter_client, putter_publisher, putter_queue, part_of_steps, SaidLast, said_has, settled_client}
+use Rattle.mama_legal.proofs.Heard.{is_client_done, is_settled, putter_queue, part_of_steps, said_has, settled_client}
 use Rattle.mama_legal.proofs.AllSent.{count_publishers, below_from, said, settling_came, told_end, ending_came, steps_at, publisher_settled}
 use Rattle.mama_legal.proofs.Turns.{any_flat, any_port, bridge_fin_timers, bridge_fin_queue, timers_fin, queue_bye, two_fins}
 

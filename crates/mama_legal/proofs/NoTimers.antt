@@ -1,7 +1,7 @@
 -- The bridge puts nothing for a timer.
-use Rattle.std.specs.Prelude.{not, filter, position, Option, None, Some, ◌-◌}
+use Rattle.std.specs.Prelude.{not, position, Option, None, Some, ◌-◌}
 use Rattle.std.specs.List.{flat_map, list_any}
-use Rattle.std.proofs.Common.{◌≡◌, ℕ, zero, suc, ◌==◌, Bool, true, false, ◌&&◌, cond, List, [], ◌∷◌, ◌++◌, map, refl, sym, ◌∙◌, ap, append-nil}
+use Rattle.std.proofs.Common.{◌≡◌, ℕ, ◌==◌, Bool, true, false, ◌&&◌, cond, List, [], ◌∷◌, ◌++◌, map, refl, ◌∙◌, ap}
 use Rattle.std.proofs.lemmas.List.Concat.{flat_map-append}
 use Rattle.mama_journal.specs.Journal.{all_puts, turns, first_said, numbers_below}
 use Rattle.mama_msg.specs.Field.{FieldData}
@@ -9,7 +9,6 @@ use Rattle.mama_link.specs.Link.{rest}
 use Rattle.mama_event.specs.declared.ids.SubId.{SubId}
 use Rattle.mama_event.specs.declared.ids.InboxId.{InboxId}
 use Rattle.mama_event.specs.declared.ids.TimerId.{TimerId}
-use Rattle.mama_event.specs.declared.ids.ObjectId.{ObjectId}
 use Rattle.mama_event.specs.declared.ids.ObjectId.TheVariants.{Sub, Timer, Inbox}
 use Rattle.mama_event.specs.declared.market.MarketMsg.{MarketMsg}
 use Rattle.mama_event.specs.declared.market.MsgKind.TheVariants.{Initial, Recap}

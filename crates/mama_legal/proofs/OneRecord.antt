@@ -1,14 +1,10 @@
 -- The rounds of a script give one record.
-use Rattle.std.specs.Prelude.{slice_index_or, slice_set}
-use Rattle.std.specs.List.{list_all}
-use Rattle.std.proofs.Common.{◌≡◌, ℕ, zero, suc, ◌+◌, ◌-◌, ◌<◌, ◌≤◌, Bool, true, List, [], ◌∷◌, refl, sym, ◌∙◌, ap, subst, arith, inl, inr, ⊎_elim}
+use Rattle.std.proofs.Common.{◌≡◌, ℕ, zero, suc, ◌+◌, ◌-◌, ◌≤◌, List, refl, sym, ◌∙◌, ap, subst, arith, ⊎_elim}
 use Rattle.std.proofs.lemmas.Bool.{cases_lt}
 use Rattle.mama_event.specs.Ports.{clients_of, publishers_of, queues_of}
-use Rattle.mama_script.specs.Script.{ScriptData}
-use Rattle.mama_record.specs.RunData.{RunData}
 use Rattle.mama_rounds.specs.World.{Setting, World, bridge_took, bridge_turn, timers_took, timers_turn, publisher_took, publisher_turn, queue_took, queue_turn, in_turn, pass, passes, IsQuiet, IsDrained}
 use Rattle.mama_rounds.specs.Stage.{Stage, client_stepped, client_step, publisher_stepped, publisher_step, IsStageDrained, AreSteps, IsOneRound, AreRounds, IsOver}
-use Rattle.mama_rounds.specs.Round.{setting_of, start, record_of, IsRound}
+use Rattle.mama_rounds.specs.Round.{setting_of, start, record_of}
 use Rattle.mama_legal.specs.Laws.{RoundsGiveOneRecord}
 use Rattle.mama_legal.proofs.Lists.{all_empty}
 use Rattle.mama_legal.proofs.Whole.{at_rest}

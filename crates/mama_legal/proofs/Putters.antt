@@ -1,19 +1,18 @@
 -- Which actor puts by a port, by cases, and what one entry more puts on each lane.
 use Rattle.std.specs.Prelude.{slice_index_or, slice_set, nat_lt, nat_le, ◌-◌}
 use Rattle.std.specs.List.{flat_map}
-use Rattle.std.proofs.Common.{◌≡◌, ℕ, zero, suc, ◌+◌, ◌<◌, ◌≤◌, ◌==◌, Bool, true, false, ◌&&◌, cond, List, [], ◌∷◌, ◌++◌, length, map, refl, sym, ◌∙◌, ap, subst, arith, inl, inr, ⊎_elim}
-use Rattle.std.proofs.lemmas.Bool.{and_parts, and_from, cond_both, cases_eq, ltb-true, ltb-false, leb-true, leb-false, eqb-true, eqb-false, lt-ltb, le-leb, both_ways}
+use Rattle.std.proofs.Common.{◌≡◌, ℕ, ◌+◌, ◌<◌, ◌≤◌, ◌==◌, Bool, true, false, ◌&&◌, cond, List, [], ◌∷◌, ◌++◌, length, refl, sym, ◌∙◌, ap, subst, arith}
+use Rattle.std.proofs.lemmas.Bool.{and_parts, cond_both, ltb-true, ltb-false, leb-true, eqb-true, eqb-false, le-leb}
 use Rattle.std.proofs.lemmas.List.{map-append, get_or-set_same, get_or-set_other}
 use Rattle.std.proofs.lemmas.List.Concat.{flat_map-append}
-use Rattle.mama_journal.specs.Journal.{puts, all_puts}
+use Rattle.mama_journal.specs.Journal.{all_puts}
 use Rattle.mama_journal.specs.Lane.{by_port}
 use Rattle.mama_event.specs.declared.shape.Shape.{Shape}
 use Rattle.mama_event.specs.declared.to_bridge.BridgeNote.{BridgeNote}
-use Rattle.mama_event.specs.declared.to_publisher.PublisherNote.{PublisherNote}
 use Rattle.mama_event.specs.declared.to_timers.TimersNote.{TimersNote}
 use Rattle.mama_event.specs.declared.to_queue.QueueNote.{QueueNote}
 use Rattle.mama_event.specs.declared.publisher_entry.PublisherEntry.{PublisherEntry}
-use Rattle.mama_event.specs.Ports.{clients_of, publishers_of, queues_of, bridge_ports, bridge_port_of_client, bridge_port_of_publisher, bridge_port_of_queue, timers_port_of_client, timers_port_of_queue, timers_port_of_bridge, queue_port_of_bridge, queue_port_of_timers}
+use Rattle.mama_event.specs.Ports.{clients_of, publishers_of, queues_of, bridge_port_of_publisher, bridge_port_of_queue, timers_port_of_queue, timers_port_of_bridge, queue_port_of_bridge, queue_port_of_timers}
 use Rattle.mama_event.specs.Publisher.{publisher_puts, publisher_puts_at}
 use Rattle.mama_rules.specs.Bridge.{BridgePut, bridge_puts, bridge_puts_at, bridge_reaction}
 use Rattle.mama_rules.specs.Bridge as bridge
@@ -22,8 +21,8 @@ use Rattle.mama_rules.specs.Timers as timers
 use Rattle.mama_rules.specs.Ports.{Putter, ByClient, ByPublisher, ByQueue, ByBridge, ByTimers, ByNobody, bridge_putter, timers_putter, queue_putter}
 use Rattle.mama_queue_rules.specs.Queue.{QueuePut, queue_puts_at}
 use Rattle.mama_rounds.specs.Client.{bridge_part, timers_part}
-use Rattle.mama_rounds.specs.World.{Setting, no_section, orders_by, publisher_part, queue_part, timer_part}
-use Rattle.mama_legal.specs.Edges.{put_on_bridge, put_on_timers, put_on_queue, put_to_publisher, queue_puts}
+use Rattle.mama_rounds.specs.World.{Setting, no_section, orders_by, queue_part, timer_part}
+use Rattle.mama_legal.specs.Edges.{put_on_bridge, put_on_timers, put_on_queue, queue_puts}
 use Rattle.mama_legal.proofs.Lists.{puts-push, all_puts-push, by_port-append, grows}
 
 -- ---- which actor puts by a port

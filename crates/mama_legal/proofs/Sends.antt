@@ -1,12 +1,12 @@
 -- In a run in rounds each publisher sends all its lines, and ends with Settle and Fin.
 use Rattle.std.specs.Prelude.{slice_index_or, slice_set, not, Option, None, Some}
-use Rattle.std.specs.List.{flat_map, list_any, list_all}
-use Rattle.std.proofs.Common.{◌≡◌, ℕ, zero, suc, ◌+◌, ◌<◌, ◌≤◌, ◌==◌, Bool, true, false, ◌&&◌, ◌||◌, cond, List, [], ◌∷◌, ◌++◌, length, map, refl, sym, ◌∙◌, ap, subst, arith, inl, inr, ⊎_elim, append-nil, append_assoc}
-use Rattle.std.proofs.lemmas.Bool.{and_parts, and_from, or_left, or_right, or_cases, or_from, cases_Bool, both_ways, cases_eq}
-use Rattle.std.proofs.lemmas.List.{length-map, get_or-set_same, get_or-set_other}
+use Rattle.std.specs.List.{list_any, list_all}
+use Rattle.std.proofs.Common.{◌≡◌, ℕ, ◌+◌, ◌<◌, Bool, true, false, ◌&&◌, cond, List, [], ◌∷◌, ◌++◌, length, refl, sym, ◌∙◌, ap, subst, ⊎_elim}
+use Rattle.std.proofs.lemmas.Bool.{and_parts, or_left, or_right, or_from, cases_Bool, both_ways, cases_eq}
+use Rattle.std.proofs.lemmas.List.{get_or-set_same, get_or-set_other}
 use Rattle.std.proofs.lemmas.List.Concat.{flat_map-append}
 use Rattle.std.proofs.lemmas.List.Folds.{list_any-append}
-use Rattle.mama_journal.specs.Journal.{puts, all_puts, turns, all_below}
+use Rattle.mama_journal.specs.Journal.{all_puts, turns}
 use Rattle.mama_journal.specs.Lane.{by_port}
 use Rattle.mama_msg.specs.Field.{FieldData}
 use Rattle.mama_event.specs.declared.shape.Shape.{Shape}
@@ -17,24 +17,21 @@ use Rattle.mama_event.specs.declared.to_timers.TimersNote.{TimersNote}
 use Rattle.mama_event.specs.declared.to_queue.QueueNote.{QueueNote}
 use Rattle.mama_event.specs.declared.publisher_entry.PublisherEntry.{PublisherEntry}
 use Rattle.mama_event.specs.declared.publisher_entry.PublisherEntry.TheVariants.{Send, Done, Took}
-use Rattle.mama_event.specs.Ports.{clients_of, publishers_of, queues_of}
+use Rattle.mama_event.specs.Ports.{clients_of, publishers_of}
 use Rattle.mama_event.specs.Publisher.{PublisherScript, SendLine, Update, Recap, publisher_puts, publisher_puts_at, sent_of, answer_of}
-use Rattle.mama_rules.specs.Bridge.{BridgeEvent, bridge_puts, bridge_reaction, answer, heard, put_by, is_settling, has_ending, ends_client, ends_sends, settles}
-use Rattle.mama_rules.specs.Ports.{Putter, bridge_putter}
+use Rattle.mama_rules.specs.Bridge.{BridgeEvent, bridge_reaction, answer, heard, is_settling, has_ending, ends_sends}
 use Rattle.mama_queue_rules.specs.Queue.{QueuePut}
-use Rattle.mama_script.specs.Script.{ScriptData}
-use Rattle.mama_rounds.specs.World.{Setting, World, no_section, publisher_did, bridge_took, bridge_turn, timers_took, timers_turn, publisher_took, publisher_turn, queue_took, queue_turn, IsDrained}
+use Rattle.mama_rounds.specs.World.{Setting, World, no_section, publisher_did, bridge_took, bridge_turn, timers_took, timers_turn, publisher_took, publisher_turn, queue_took, queue_turn}
 use Rattle.mama_rounds.specs.Stage.{Stage, client_stepped, client_step, entries_done, publisher_stepped, publisher_step, IsStageDrained}
-use Rattle.mama_rounds.specs.Round.{publisher_steps, setting_of, start}
-use Rattle.mama_legal.specs.Edges.{all_steps, client_puts, put_on_bridge, put_to_publisher, taken_by}
+use Rattle.mama_legal.specs.Edges.{all_steps, put_on_bridge, put_to_publisher, taken_by}
 use Rattle.mama_legal.specs.Lines.{is_done, takes_settle}
 use Rattle.mama_legal.proofs.Lists.{by_entries, all_puts-push, within}
 use Rattle.mama_legal.proofs.Worlds.{Holds, bridge_turn_keeps, timers_turn_keeps, publisher_turn_keeps, queue_turn_keeps}
 use Rattle.mama_legal.proofs.Stages.{IsKept, drain_keeps, IsKeptByRounds}
-use Rattle.mama_legal.proofs.Whole.{is_own, are_own, Running, Resting, drained, client_runs, publisher_runs}
-use Rattle.mama_legal.proofs.Endings.{is_ending, part, tail, part_reaction, calm_answer, settling_stays, ending_settles}
+use Rattle.mama_legal.proofs.Whole.{is_own, are_own, Running, drained, client_runs, publisher_runs}
+use Rattle.mama_legal.proofs.Endings.{is_ending, part, part_reaction, calm_answer, settling_stays, ending_settles}
 use Rattle.mama_legal.proofs.Heard.{is_sends_done, is_settled, putter_publisher, heard_down, who_ends_sends, settled_publisher}
-use Rattle.mama_legal.proofs.Entries.{own_in, own_by, takes_ending, in_order, Ordered, ordered_here, ordered_other, puts_from, puts_have}
+use Rattle.mama_legal.proofs.Entries.{Ordered, ordered_here, ordered_other, puts_from, puts_have}
 
 -- ---- before settling has begun, no publisher is told to settle or to end
 

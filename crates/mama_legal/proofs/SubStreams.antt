@@ -1,16 +1,16 @@
 -- The stream of a subscription: its Create, what its link lets through of its window, and its Gone.
 use Rattle.std.specs.Prelude.{not, slice_index, Option, None, Some, is_some}
-use Rattle.std.specs.List.{flat_map, list_any}
+use Rattle.std.specs.List.{list_any}
 use Rattle.std.specs.Option.{option_or}
-use Rattle.std.proofs.Common.{◌≡◌, ℕ, zero, suc, ◌+◌, ◌==◌, Bool, true, false, ◌&&◌, ◌||◌, cond, List, [], ◌∷◌, ◌++◌, length, map, refl, sym, ◌∙◌, ap, subst, inl, inr, ⊎_elim, ◌⊎◌, append-nil, append_assoc}
-use Rattle.std.proofs.lemmas.Bool.{and_parts, and_from, or_parts, both_ways, cases_Bool, false_from_ne_true, or_left}
+use Rattle.std.proofs.Common.{◌≡◌, ℕ, ◌==◌, Bool, true, false, ◌&&◌, ◌||◌, cond, List, [], ◌∷◌, ◌++◌, map, refl, sym, ◌∙◌, ap, subst, inl, inr, ⊎_elim, ◌⊎◌, append-nil, append_assoc}
+use Rattle.std.proofs.lemmas.Bool.{and_parts, and_from, both_ways, cases_Bool, false_from_ne_true, or_left}
 use Rattle.std.proofs.lemmas.List.{map-append}
-use Rattle.mama_journal.specs.Journal.{puts, all_puts, turns, first_said}
-use Rattle.mama_link.specs.Link.{emit, rest, through}
+use Rattle.mama_journal.specs.Journal.{all_puts, turns, first_said}
+use Rattle.mama_link.specs.Link.{rest, through}
 use Rattle.mama_link.specs.declared.faults.FaultRow.{FaultRow}
 use Rattle.mama_event.specs.declared.ids.SubId.{SubId}
 use Rattle.mama_event.specs.declared.ids.ObjectId.{ObjectId}
-use Rattle.mama_event.specs.declared.ids.ObjectId.TheVariants.{Sub, Timer, Inbox}
+use Rattle.mama_event.specs.declared.ids.ObjectId.TheVariants.{Sub}
 use Rattle.mama_event.specs.declared.market.MarketMsg.{MarketMsg}
 use Rattle.mama_event.specs.declared.shape.Shape.{Shape}
 use Rattle.mama_event.specs.declared.to_bridge.SubTerms.{SubTerms}
@@ -18,7 +18,7 @@ use Rattle.mama_event.specs.declared.to_queue.Make.TheVariants as make
 use Rattle.mama_event.specs.declared.to_queue.QueueNote.{QueueNote}
 use Rattle.mama_event.specs.declared.to_queue.QueueNote.TheVariants as q
 use Rattle.mama_event.specs.Object.{same_sub}
-use Rattle.mama_rules.specs.Bridge.{BridgeEvent, joins, leaves, opens, closes, asks, publishes, images, replies, wishes, client_done, sends_done, settled, bye, no_event, BridgePut, has_ending, lives, is_live, terms_in, joins_sub, leaves_sub, sent_to, sent_with, window, faults_of, place_of, free_slot, delivered, gone, passed_on, passed, ended, answer, bridge_reaction, heard}
+use Rattle.mama_rules.specs.Bridge.{BridgeEvent, joins, leaves, publishes, images, has_ending, lives, is_live, terms_in, joins_sub, leaves_sub, sent_with, window, faults_of, place_of, free_slot, delivered, gone, passed_on, passed, ended, bridge_reaction, heard}
 use Rattle.mama_legal.specs.Streams.{IsSubStream}
 use Rattle.mama_legal.specs.Laws.{SubsGetTheirStreams}
 use Rattle.mama_legal.proofs.Lists.{by_entries, puts-push, all_puts-push}

@@ -1,16 +1,15 @@
 -- In the record of a run in rounds the journals of queues have the streams of the timers.
-use Rattle.std.specs.Prelude.{slice_index_or, not, filter, Option, None, Some, is_some, replicate}
+use Rattle.std.specs.Prelude.{slice_index_or, not, filter, Option, None, Some, is_some}
 use Rattle.std.specs.List.{flat_map, list_any}
 use Rattle.std.specs.Option.{option_or}
-use Rattle.std.proofs.Common.{◌≡◌, ℕ, zero, suc, ◌+◌, ◌<◌, ◌≤◌, ◌==◌, Bool, true, false, ◌&&◌, ◌||◌, cond, List, [], ◌∷◌, ◌++◌, length, map, refl, sym, ◌∙◌, ap, subst, arith, inl, inr, ⊎_elim, append-nil, append_assoc}
-use Rattle.std.proofs.lemmas.Bool.{and_parts, and_from, or_left, or_right, or_cases, or_parts, or_from, both_ways, cases_Bool, cases_eq, eqb-true, eqb-false, eq-eqb, ne_eqb, false_from_ne_true}
+use Rattle.std.proofs.Common.{◌≡◌, ℕ, ◌+◌, ◌<◌, ◌==◌, Bool, true, false, ◌&&◌, ◌||◌, cond, List, [], ◌∷◌, ◌++◌, refl, sym, ◌∙◌, ap, subst, arith, ⊎_elim, append-nil, append_assoc}
+use Rattle.std.proofs.lemmas.Bool.{and_parts, and_from, or_left, or_right, or_cases, or_from, both_ways, cases_Bool, eqb-true, eqb-false, eq-eqb, ne_eqb, false_from_ne_true}
 use Rattle.std.proofs.lemmas.List.{map-append}
 use Rattle.std.proofs.lemmas.List.Folds.{list_any-append}
-use Rattle.mama_journal.specs.Journal.{first_said, all_puts, all_below}
+use Rattle.mama_journal.specs.Journal.{first_said, all_below}
 use Rattle.mama_journal.specs.Lane.{by_port}
 use Rattle.mama_event.specs.declared.ids.TimerId.{TimerId}
-use Rattle.mama_event.specs.declared.ids.ObjectId.{ObjectId}
-use Rattle.mama_event.specs.declared.ids.ObjectId.TheVariants.{Sub, Timer, Inbox}
+use Rattle.mama_event.specs.declared.ids.ObjectId.TheVariants.{Timer}
 use Rattle.mama_event.specs.declared.order.Order.TheVariants as order
 use Rattle.mama_event.specs.declared.shape.Shape.{Shape}
 use Rattle.mama_event.specs.declared.to_timers.TimersNote.{TimersNote}
@@ -18,12 +17,12 @@ use Rattle.mama_event.specs.declared.to_timers.TimersNote.TheVariants as t
 use Rattle.mama_event.specs.declared.to_queue.Make.TheVariants as make
 use Rattle.mama_event.specs.declared.to_queue.QueueNote.{QueueNote}
 use Rattle.mama_event.specs.declared.to_queue.QueueNote.TheVariants as q
-use Rattle.mama_event.specs.Ports.{clients_of, publishers_of, queues_of}
+use Rattle.mama_event.specs.Ports.{clients_of, queues_of}
 use Rattle.mama_event.specs.Object.{same_timer}
 use Rattle.mama_rules.specs.Bridge.{bridge_puts}
 use Rattle.mama_rules.specs.Bridge as bridging
-use Rattle.mama_rules.specs.Timers.{TimersEvent, arms, disarms, now, client_done, bye, fin, no_event, from_client, from_queue, from_bridge, put_by, heard, terms_in, arms_timer, disarms_timer, ends_client, is_fin, has_ending, is_armed, is_live, timers_puts}
-use Rattle.mama_rules.specs.Ports.{Putter, ByBridge, ByTimers, ByNobody, timers_putter, queue_putter}
+use Rattle.mama_rules.specs.Timers.{TimersEvent, arms, no_event, from_client, from_queue, from_bridge, put_by, heard, terms_in, arms_timer, disarms_timer, ends_client, is_fin, has_ending, is_armed, is_live, timers_puts}
+use Rattle.mama_rules.specs.Ports.{timers_putter, queue_putter}
 use Rattle.mama_queue_rules.specs.Queue.{QueuePut}
 use Rattle.mama_queue_rules.specs.Queue as queue
 use Rattle.mama_script.specs.declared.client.ClientLine.{ClientLine}
@@ -32,11 +31,10 @@ use Rattle.mama_script.specs.Script.{ScriptData}
 use Rattle.mama_script.specs.Tree.{IsShaped}
 use Rattle.mama_record.specs.RunData.{RunData}
 use Rattle.mama_rounds.specs.Client.{Standing, timers_part, line_steps, after_line, steps_from}
-use Rattle.mama_rounds.specs.World.{queue_part}
-use Rattle.mama_rounds.specs.Round.{setting_of, IsRound}
+use Rattle.mama_rounds.specs.Round.{setting_of}
 use Rattle.mama_legal.specs.Edges.{all_steps, client_puts, put_on_timers, put_on_queue, AreEdges}
-use Rattle.mama_legal.specs.Streams.{is_of, events_of}
-use Rattle.mama_legal.specs.Ticks.{ticks, timer_stream, WasArmed, arming_noted, arming_put, arming_of, IsTimerJournal, AreTimerStreams}
+use Rattle.mama_legal.specs.Streams.{is_of}
+use Rattle.mama_legal.specs.Ticks.{ticks, timer_stream, WasArmed, arming_noted, arming_put}
 use Rattle.mama_legal.specs.Laws.{RoundsGiveTimersTheirStreams}
 use Rattle.mama_legal.proofs.Lists.{by_entries, by_port-append}
 use Rattle.mama_legal.proofs.Putters.{by_timers_port, by_queue_port}

@@ -2,8 +2,8 @@
 use Rattle.std.specs.Prelude.{not, nat_le, Option, None, Some, is_some}
 use Rattle.std.specs.List.{flat_map, list_any}
 use Rattle.std.specs.Option.{option_or}
-use Rattle.std.proofs.Common.{◌≡◌, ℕ, zero, suc, ◌+◌, ◌==◌, Bool, true, false, ◌&&◌, ◌||◌, cond, List, [], ◌∷◌, ◌++◌, length, map, filter, refl, sym, ◌∙◌, ap, subst, inl, inr, ⊎_elim, append-nil, append_assoc}
-use Rattle.std.proofs.lemmas.Bool.{and_parts, and_from, or_left, or_right, both_ways, eq-eqb, eqb-true}
+use Rattle.std.proofs.Common.{◌≡◌, ℕ, zero, suc, ◌==◌, Bool, true, false, ◌&&◌, ◌||◌, cond, List, [], ◌∷◌, ◌++◌, map, filter, refl, sym, ◌∙◌, ap, append-nil}
+use Rattle.std.proofs.lemmas.Bool.{and_parts, and_from, or_left, both_ways, eq-eqb, eqb-true}
 use Rattle.std.proofs.lemmas.List.Elements.{filter-append}
 use Rattle.std.proofs.lemmas.List.Concat.{flat_map-append}
 use Rattle.std.proofs.lemmas.List.Folds.{list_any-append}
@@ -16,10 +16,9 @@ use Rattle.mama_event.specs.declared.to_queue.Make.TheVariants as make
 use Rattle.mama_event.specs.declared.to_queue.QueueNote.{QueueNote}
 use Rattle.mama_event.specs.declared.to_queue.QueueNote.TheVariants as q
 use Rattle.mama_event.specs.Ports.{clients_of, queues_of}
-use Rattle.mama_event.specs.Object.{same_timer, same_object}
-use Rattle.mama_rules.specs.Timers.{TimersEvent, arms, disarms, now, client_done, bye, fin, no_event, clock, terms_in, arms_timer, disarms_timer, ends_client, is_fin, has_ending, is_armed, is_live, due, newly_armed, comes_first, fires_first, put_in, in_order, live_timers, firing, created_by, created_in, place_of, to_place, free_slot, gone, answer, ending_comes, timers_reaction}
+use Rattle.mama_event.specs.Object.{same_timer}
+use Rattle.mama_rules.specs.Timers.{TimersEvent, arms, disarms, now, client_done, bye, fin, no_event, clock, arms_timer, disarms_timer, ends_client, is_fin, has_ending, is_armed, is_live, due, newly_armed, comes_first, fires_first, put_in, in_order, live_timers, firing, created_by, created_in, place_of, to_place, free_slot, gone, answer, ending_comes, timers_reaction}
 use Rattle.mama_legal.specs.Streams.{is_of}
-use Rattle.mama_legal.specs.Ticks.{timer_stream}
 use Rattle.mama_legal.proofs.Lists.{by_entries, puts-push}
 use Rattle.mama_legal.proofs.Lives.{any_last}
 

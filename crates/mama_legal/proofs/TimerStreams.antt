@@ -1,11 +1,11 @@
 -- The stream of a timer: its Create, its ticks, and its Gone.
 use Rattle.std.specs.Prelude.{not, nat_le, Option, None, Some, is_some}
-use Rattle.std.specs.List.{flat_map, list_any}
+use Rattle.std.specs.List.{list_any}
 use Rattle.std.specs.Option.{option_or}
-use Rattle.std.proofs.Common.{◌≡◌, ℕ, zero, suc, ◌+◌, ◌==◌, Bool, true, false, ◌&&◌, ◌||◌, cond, List, [], ◌∷◌, ◌++◌, length, map, refl, sym, ◌∙◌, ap, subst, inl, inr, ⊎_elim, ◌⊎◌, append-nil, append_assoc}
+use Rattle.std.proofs.Common.{◌≡◌, ℕ, Bool, true, false, ◌&&◌, ◌||◌, cond, List, [], ◌∷◌, ◌++◌, map, refl, sym, ◌∙◌, ap, subst, inl, inr, ⊎_elim, ◌⊎◌, append-nil, append_assoc}
 use Rattle.std.proofs.lemmas.Bool.{and_parts, and_from, both_ways, cases_Bool, false_from_ne_true, or_left}
 use Rattle.std.proofs.lemmas.List.{map-append}
-use Rattle.mama_journal.specs.Journal.{puts, all_puts, turns, first_said}
+use Rattle.mama_journal.specs.Journal.{all_puts, turns, first_said}
 use Rattle.mama_event.specs.declared.ids.TimerId.{TimerId}
 use Rattle.mama_event.specs.declared.ids.ObjectId.{ObjectId}
 use Rattle.mama_event.specs.declared.ids.ObjectId.TheVariants.{Timer}
@@ -14,7 +14,7 @@ use Rattle.mama_event.specs.declared.to_queue.Make.TheVariants as make
 use Rattle.mama_event.specs.declared.to_queue.QueueNote.{QueueNote}
 use Rattle.mama_event.specs.declared.to_queue.QueueNote.TheVariants as q
 use Rattle.mama_event.specs.Object.{same_timer}
-use Rattle.mama_rules.specs.Timers.{TimersEvent, arms, disarms, now, client_done, bye, fin, no_event, clock, terms_in, arms_timer, disarms_timer, has_ending, is_armed, is_live, due, created_in, place_of, to_place, free_slot, gone, answer, timers_reaction, heard}
+use Rattle.mama_rules.specs.Timers.{TimersEvent, arms, disarms, now, client_done, bye, fin, no_event, clock, terms_in, arms_timer, disarms_timer, has_ending, is_armed, is_live, due, created_in, place_of, free_slot, gone, timers_reaction, heard}
 use Rattle.mama_legal.specs.Ticks.{tick_at, ticks, IsTimerStream}
 use Rattle.mama_legal.specs.Laws.{TimersGetTheirStreams}
 use Rattle.mama_legal.proofs.Lists.{by_entries, puts-push, all_puts-push}

@@ -1,21 +1,19 @@
 -- What is put at the entry that makes a test true, and the Fins and Byes that come of it.
-use Rattle.std.specs.Prelude.{slice_index_or, not, nat_le}
+use Rattle.std.specs.Prelude.{not, nat_le}
 use Rattle.std.specs.List.{flat_map, list_any}
-use Rattle.std.proofs.Common.{◌≡◌, ℕ, zero, suc, ◌+◌, ◌<◌, ◌≤◌, ◌==◌, Bool, true, false, ◌&&◌, ◌||◌, cond, List, [], ◌∷◌, ◌++◌, length, map, refl, sym, ◌∙◌, ap, subst, arith, inl, inr, ⊎_elim, append-nil, append_assoc}
-use Rattle.std.proofs.lemmas.Bool.{and_parts, and_from, or_left, or_right, or_cases, or_from, cases_Bool, both_ways, cases_eq, eq-eqb, eqb-true, leb-true, leb-false, le-leb, ne_eqb}
+use Rattle.std.proofs.Common.{◌≡◌, ℕ, zero, suc, ◌+◌, ◌<◌, ◌≤◌, ◌==◌, Bool, true, false, ◌&&◌, ◌||◌, cond, List, [], ◌∷◌, ◌++◌, map, refl, sym, ◌∙◌, ap, subst, arith, ⊎_elim}
+use Rattle.std.proofs.lemmas.Bool.{and_parts, and_from, or_left, or_right, or_cases, cases_Bool, both_ways, cases_eq, eq-eqb, leb-true, leb-false, le-leb, ne_eqb}
 use Rattle.std.proofs.lemmas.List.{map-append}
 use Rattle.std.proofs.lemmas.List.Folds.{list_any-append}
 use Rattle.mama_journal.specs.Journal.{puts, all_puts, turns, numbers_below, count_of}
 use Rattle.mama_journal.specs.Lane.{by_port}
 use Rattle.mama_event.specs.declared.shape.Shape.{Shape}
-use Rattle.mama_event.specs.declared.to_bridge.BridgeNote.{BridgeNote}
 use Rattle.mama_event.specs.declared.to_bridge.BridgeNote.TheVariants as b
-use Rattle.mama_event.specs.declared.to_timers.TimersNote.{TimersNote}
 use Rattle.mama_event.specs.declared.to_timers.TimersNote.TheVariants as t
 use Rattle.mama_event.specs.declared.to_publisher.PublisherNote.TheVariants as p
 use Rattle.mama_event.specs.declared.to_queue.QueueNote.{QueueNote}
 use Rattle.mama_event.specs.declared.to_queue.QueueNote.TheVariants as q
-use Rattle.mama_event.specs.Ports.{clients_of, publishers_of, queues_of}
+use Rattle.mama_event.specs.Ports.{publishers_of, queues_of}
 use Rattle.mama_event.specs.ToQueue as queue
 use Rattle.mama_rules.specs.Bridge.{BridgeEvent, BridgePut, to_publisher, to_queue, to_timers, live_subs, open_inboxes, ended, ended_inbox, bridge_reaction}
 use Rattle.mama_rules.specs.Bridge as bridge

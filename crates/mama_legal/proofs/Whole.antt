@@ -1,8 +1,8 @@
 -- In the record of a run in rounds every edge is whole.
 use Rattle.std.specs.Prelude.{slice_index_or, slice_set, replicate}
-use Rattle.std.specs.List.{flat_map, list_all, list_any}
-use Rattle.std.proofs.Common.{◌≡◌, ℕ, zero, suc, ◌+◌, ◌<◌, ◌≤◌, ◌==◌, Bool, true, false, cond, List, [], ◌∷◌, ◌++◌, length, map, refl, sym, ◌∙◌, ap, subst, arith, inl, inr, ⊎_elim, append-nil, append_assoc}
-use Rattle.std.proofs.lemmas.Bool.{cases_eq, eq-eqb, ne_eqb, and_parts, and_from, false≢true}
+use Rattle.std.specs.List.{flat_map, list_all}
+use Rattle.std.proofs.Common.{◌≡◌, ℕ, zero, suc, ◌<◌, ◌==◌, Bool, true, false, cond, List, [], ◌∷◌, ◌++◌, length, map, refl, sym, ◌∙◌, ap, subst, arith, ⊎_elim, append-nil, append_assoc}
+use Rattle.std.proofs.lemmas.Bool.{cases_eq, eq-eqb, ne_eqb, and_parts, false≢true}
 use Rattle.std.proofs.lemmas.List.{length-map, length-set, length_push, get_or-set_same, get_or-set_other}
 use Rattle.mama_journal.specs.Journal.{numbers_below}
 use Rattle.mama_journal.specs.Lane.{by_port}
@@ -10,9 +10,9 @@ use Rattle.mama_event.specs.declared.publisher_entry.PublisherEntry.{PublisherEn
 use Rattle.mama_event.specs.declared.publisher_entry.PublisherEntry.TheVariants.{Send, Done, Took}
 use Rattle.mama_event.specs.declared.to_publisher.PublisherNote.{PublisherNote}
 use Rattle.mama_event.specs.declared.to_queue.QueueNote.{QueueNote}
-use Rattle.mama_event.specs.Ports.{clients_of, publishers_of, queues_of, bridge_port_of_client, timers_port_of_client}
+use Rattle.mama_event.specs.Ports.{clients_of, publishers_of, queues_of}
 use Rattle.mama_event.specs.Publisher.{publisher_puts}
-use Rattle.mama_rules.specs.Ports.{bridge_putter, timers_putter, queue_putter}
+use Rattle.mama_rules.specs.Ports.{bridge_putter, timers_putter}
 use Rattle.mama_queue_rules.specs.Queue.{QueuePut}
 use Rattle.mama_script.specs.declared.publisher.PublisherLine.{PublisherLine}
 use Rattle.mama_script.specs.declared.publisher.PublisherLine.TheVariants as line
@@ -20,10 +20,10 @@ use Rattle.mama_script.specs.declared.publisher.PublisherPart.{PublisherPart}
 use Rattle.mama_script.specs.Script.{ScriptData}
 use Rattle.mama_record.specs.RunData.{RunData}
 use Rattle.mama_rounds.specs.Client.{bridge_part, timers_part}
-use Rattle.mama_rounds.specs.World.{Setting, World, no_section, with_puts, publisher_did, bridge_turn, timers_turn, publisher_turn, queue_turn, is_empty, IsQuiet, IsDrained}
+use Rattle.mama_rounds.specs.World.{Setting, World, no_section, publisher_did, is_empty, IsQuiet}
 use Rattle.mama_rounds.specs.Stage.{Stage, client_stepped, client_step, entries_done, publisher_stepped, publisher_step, IsStageDrained, IsOver}
-use Rattle.mama_rounds.specs.Round.{publishers_from, publisher_line_steps, publisher_steps, all_client_steps, setting_of, no_journals, start, record_of, IsRound}
-use Rattle.mama_legal.specs.Edges.{all_steps, client_puts, queue_puts, put_on_bridge, put_on_timers, put_on_queue, put_to_publisher, taken_in, taken_by, AreEdges}
+use Rattle.mama_rounds.specs.Round.{publishers_from, publisher_line_steps, publisher_steps, setting_of, no_journals, start, record_of, IsRound}
+use Rattle.mama_legal.specs.Edges.{all_steps, client_puts, queue_puts, put_on_bridge, put_on_timers, put_on_queue, taken_in, taken_by, AreEdges}
 use Rattle.mama_legal.specs.Calls.{AreCalls}
 use Rattle.mama_legal.specs.Laws.{RoundsAreWhole, RoundsAreShaped, RoundsTellCalls}
 use Rattle.mama_legal.proofs.Lists.{within, all_empty}

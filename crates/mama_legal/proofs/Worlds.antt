@@ -1,7 +1,7 @@
 -- In a world every lane keeps what was put on it, and every turn leaves it so.
 use Rattle.std.specs.Prelude.{slice_index_or, slice_set}
-use Rattle.std.specs.List.{flat_map, list_all}
-use Rattle.std.proofs.Common.{◌≡◌, ℕ, zero, suc, ◌+◌, ◌<◌, ◌≤◌, ◌==◌, Bool, true, false, cond, List, [], ◌∷◌, ◌++◌, length, refl, sym, ◌∙◌, ap, subst, arith, inl, inr, ⊎_elim, append-nil, append_assoc}
+use Rattle.std.specs.List.{flat_map}
+use Rattle.std.proofs.Common.{◌≡◌, ℕ, ◌<◌, ◌==◌, cond, List, [], ◌∷◌, ◌++◌, length, refl, sym, ◌∙◌, ap, subst, ⊎_elim, append-nil, append_assoc}
 use Rattle.std.proofs.lemmas.Bool.{cases_eq}
 use Rattle.std.proofs.lemmas.List.{length-set, get_or-set_same, get_or-set_other, set-get_or}
 use Rattle.std.proofs.lemmas.List.Concat.{flat_map-append}
@@ -11,7 +11,7 @@ use Rattle.mama_event.specs.declared.to_publisher.PublisherNote.{PublisherNote}
 use Rattle.mama_event.specs.declared.to_timers.TimersNote.{TimersNote}
 use Rattle.mama_event.specs.declared.to_queue.QueueNote.{QueueNote}
 use Rattle.mama_event.specs.declared.publisher_entry.PublisherEntry.{PublisherEntry}
-use Rattle.mama_event.specs.declared.publisher_entry.PublisherEntry.TheVariants.{Send, Done, Took}
+use Rattle.mama_event.specs.declared.publisher_entry.PublisherEntry.TheVariants.{Took}
 use Rattle.mama_event.specs.Ports.{clients_of, publishers_of, queues_of, bridge_port_of_client, bridge_port_of_publisher, bridge_port_of_queue, timers_port_of_client, timers_port_of_queue, timers_port_of_bridge, queue_port_of_bridge, queue_port_of_timers}
 use Rattle.mama_event.specs.Publisher.{publisher_puts_at}
 use Rattle.mama_rules.specs.Bridge.{bridge_puts_at}
@@ -19,7 +19,7 @@ use Rattle.mama_rules.specs.Timers.{timers_puts_at}
 use Rattle.mama_rules.specs.Ports.{bridge_putter, timers_putter, queue_putter}
 use Rattle.mama_queue_rules.specs.Queue.{QueuePut, queue_puts_at}
 use Rattle.mama_rounds.specs.Client.{bridge_part, timers_part}
-use Rattle.mama_rounds.specs.World.{Setting, World, no_section, orders_by, publisher_part, queue_part, timer_part, with_puts, extended, bridge_did, bridge_took, bridge_turn, timers_did, timers_took, timers_turn, publisher_did, publisher_took, publisher_turn, queue_did, queue_took, queue_turn, in_turn, pass, passes, IsDrained}
+use Rattle.mama_rounds.specs.World.{Setting, World, no_section, orders_by, publisher_part, queue_part, timer_part, with_puts, bridge_did, bridge_took, bridge_turn, timers_did, timers_took, timers_turn, publisher_did, publisher_took, publisher_turn, queue_did, queue_took, queue_turn}
 use Rattle.mama_legal.specs.Edges.{put_on_bridge, put_on_timers, put_on_queue, put_to_publisher, taken_in, taken_by}
 use Rattle.mama_legal.proofs.Lists.{within, extended-length, extended-first, taken_first, put_last}
 use Rattle.mama_legal.proofs.Putters.{client_more, publisher_more, queue_more, client_more_t, queue_more_t, bridge_more_t, bridge_more_q, timers_more_q, bridge_part-push}

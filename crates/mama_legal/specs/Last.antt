@@ -1,5 +1,5 @@
 -- Every port's stream has its last event.
-use Rattle.std.specs.Prelude.{◌≡◌, ℕ, ◌<◌, ◌≤◌, true, List, [], length, slice_index_or}
+use Rattle.std.specs.Prelude.{◌≡◌, ℕ, ◌<◌, ◌≤◌, true, [], length, slice_index_or}
 use Rattle.std.specs.List.{list_any}
 use Rattle.mama_journal.specs.Lane.{by_port}
 use Rattle.mama_event.specs.Ports.{queues_of, bridge_ports, timers_port_of_bridge, queue_port_of_timers}

@@ -1,5 +1,12 @@
-//! When the record of a run is legal for a script, as definitions, with laws: the record of a run in rounds is.
-//! There is no code here but functions with empty bodies, whose contracts are the laws.
+//! When the record of a run is legal for a script, and that the record of a run in rounds is.
+//!
+//! `specs/Legal.antt` says what legal is: no line, send or event is left out, and nothing is made up. Its parts stand in
+//! `Edges.antt` (what each actor put on each lane, and that just that was taken), `Lines.antt`, `Streams.antt` and
+//! `Ticks.antt` (what each subscription, inbox and timer got), `Calls.antt` and `Last.antt`. They speak of a script and a
+//! record alone, and not of rounds, so a run on threads can be held to them too.
+//!
+//! [`round_is_legal`] is the law; the other laws are its parts, each with the premises that it needs. There is no code
+//! here but functions with empty bodies, whose contracts are the laws.
 #![tactic(auto)]
 
 mod laws;
