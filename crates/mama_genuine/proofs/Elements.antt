@@ -70,13 +70,13 @@ all_puts_after Q P at each before (e ∷ es) all =
     all_append P (at before e) (puts_after at (before ++ e ∷ []) es) (each before e all.0) (all_puts_after Q P at each (before ++ e ∷ []) es all.1)
 
 pub all_puts_so_far : {E V : Type 0} (Q : E → Type 0) (P : V → Type 0) (at : List E → List V → E → List V)
-    → ((before : List E) (sofar : List V) (e : E) → AllByRecursion Q before → Q e → AllByRecursion P (at before sofar e))
+    → ((before : List E) (sofar : List V) (e : E) → AllByRecursion Q before → AllByRecursion P sofar → Q e → AllByRecursion P (at before sofar e))
     → (before : List E) (sofar : List V) (es : List E) → AllByRecursion Q before → AllByRecursion P sofar → AllByRecursion Q es
     → AllByRecursion P (puts_so_far at before sofar es)
 all_puts_so_far Q P at each before sofar [] all so more = so
 all_puts_so_far Q P at each before sofar (e ∷ es) all so more =
     all_puts_so_far Q P at each (before ++ e ∷ []) (sofar ++ at before sofar e) es (all_push Q before e all more.0)
-    (all_append P sofar (at before sofar e) so (each before sofar e all more.0)) more.1
+    (all_append P sofar (at before sofar e) so (each before sofar e all so more.0)) more.1
 
 pub all_weaker : {X : Type 0} (P Q : X → Type 0) → ((x : X) → P x → Q x) → (xs : List X) → AllByRecursion P xs → AllByRecursion Q xs
 all_weaker P Q each [] all = tt
@@ -95,11 +95,11 @@ pub all_any : {X : Type 0} (P : X → Type 0) → ((x : X) → P x) → (xs : Li
 all_any P each [] = tt
 all_any P each (x ∷ xs) = (each x, all_any P each xs)
 
-first_came : {X : Type 0} (P : X → Type 0) (b : Bool) (x : X) (xs rest : List X) → b ≡ true → AllByRecursion P (if b then x ∷ xs else rest) → P x
+pub first_came : {X : Type 0} (P : X → Type 0) (b : Bool) (x : X) (xs rest : List X) → b ≡ true → AllByRecursion P (if b then x ∷ xs else rest) → P x
 first_came P true x xs rest same all = all.0
 first_came P false x xs rest same all = absurd cc
 
-rest_came : {X : Type 0} (P : X → Type 0) (b : Bool) (x : X) (xs : List X) → AllByRecursion P (if b then x ∷ xs else xs) → AllByRecursion P xs
+pub rest_came : {X : Type 0} (P : X → Type 0) (b : Bool) (x : X) (xs : List X) → AllByRecursion P (if b then x ∷ xs else xs) → AllByRecursion P xs
 rest_came P true x xs all = all.1
 rest_came P false x xs all = all
 

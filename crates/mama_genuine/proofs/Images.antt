@@ -25,21 +25,28 @@ use Rattle.mama_queue_rules.specs.Queue.{deeds, messages_of, context_of, make_in
 use Rattle.mama_record.specs.RunData.{RunData, LastImage}
 use Rattle.mama_script.specs.Script.{ScriptData}
 use Rattle.mama_rounds.specs.World.{Setting, orders_by}
+use Rattle.mama_rounds.specs.Client.{Planned}
 use Rattle.mama_rounds.specs.Round.{publishers_from, setting_of, image_in, last_image}
+use Rattle.mama_event.specs.declared.callback.Callback.{Callback}
+use Rattle.mama_event.specs.declared.callback.CallNote.{CallNote}
+use Rattle.mama_event.specs.declared.order.Order.{Order}
+use Rattle.mama_queue_rules.specs.Queue.{calls_of}
+use Rattle.mama_rounds.specs.Round.{object_calls, noted}
+use Rattle.mama_record.specs.RunData.{ObjectCalls}
 use Rattle.mama_legal.specs.Calls.{IsShapedFor, AreCalls}
 use Rattle.mama_legal.specs.Edges.{AreEdges}
 use Rattle.mama_legal.proofs.Whole.{whole_edges, shaped as rounds_shaped, calls_told}
-use Rattle.mama_genuine.specs.Sent.{IsSent, Delivers, DeliveredMessagesAreSent, RoundMessagesAreSent}
+use Rattle.mama_genuine.specs.Sent.{IsReply, IsSent, Delivers, Gives, AreGivenSent, DeliveredMessagesAreSent, GivenMessagesAreSent, RoundMessagesAreSent, RoundGivenAreSent}
 use Rattle.mama_genuine.specs.Records.{IsRecord, AreRecords, OkImagesAreRecords, RoundImagesAreRecords}
-use Rattle.mama_genuine.proofs.Elements.{all_flat, all_at}
-use Rattle.mama_genuine.proofs.Serving.{all_messages}
+use Rattle.mama_genuine.proofs.Elements.{all_flat, all_map, all_mapped, all_at}
+use Rattle.mama_genuine.proofs.Serving.{all_messages, all_calls}
 use Rattle.mama_genuine.proofs.Pinned.{IsPinned, image_pinned}
 use Rattle.mama_genuine.proofs.Edged.{queues_sent}
 
 -- ---- images
 
 abbrev Told : List PublisherScript → ℕ × QueueNote → Type 0
-Told publishers e = Delivers (IsSent publishers) e.1
+Told publishers e = Delivers (IsSent publishers) (IsReply publishers) e.1
 
 module _ (publishers : List PublisherScript) where
   -- an image that is ok is a record
@@ -85,7 +92,7 @@ module _ (publishers : List PublisherScript) where
       → AllByRecursion IsRecordIfOk (image_in s (context_of (first_said (λ (e : ℕ × QueueNote). make_in (Sub s) e.1) journal) (messages_of s (deeds (orders_by setting) journal))))
   of_journal setting s journal all =
       made s (first_said (λ (e : ℕ × QueueNote). make_in (Sub s) e.1) journal) (messages_of s (deeds (orders_by setting) journal))
-      (all_messages (IsSent publishers) (orders_by setting) s journal all)
+      (all_messages (IsSent publishers) (IsReply publishers) (orders_by setting) s journal all)
 
   of_object : (setting : Setting) (queues : List (List (ℕ × QueueNote))) (o : ObjectId) (queue : ℕ) (plan : List PlanRow)
       → AllByRecursion (AllByRecursion (Told publishers)) queues
@@ -102,13 +109,35 @@ module _ (script : ScriptData) (run : RunData) (shaped : IsShapedFor script run)
       (all_flat (IsRecordIfOk (publishers_from 0 script.publishers)) (last_image setting run.queues)
       (λ p. of_object (publishers_from 0 script.publishers) setting run.queues p.object p.queue p.plan (queues_sent script run shaped edges)) setting.objects)
 
+  object_given : (p : Planned) → AllByRecursion (λ (n : CallNote). Gives (IsSent (publishers_from 0 script.publishers)) (IsReply (publishers_from 0 script.publishers)) n.call) (object_calls (setting_of script) run.queues p).calls
+  object_given p =
+      let such : MarketMsg → Type 0 = IsSent (publishers_from 0 script.publishers) in
+      let replied : List FieldData → Type 0 = IsReply (publishers_from 0 script.publishers) in
+      let journal : List (ℕ × QueueNote) = slice_index_or run.queues p.queue [] in
+      all_map (λ (c : Callback × List Order). Gives such replied c.0) (λ (n : CallNote). Gives such replied n.call) noted (λ c g. g)
+      (calls_of p.object (deeds (orders_by (setting_of script)) journal))
+      (all_calls such replied (orders_by (setting_of script)) p.object journal
+      (all_at (Told (publishers_from 0 script.publishers)) run.queues p.queue (queues_sent script run shaped edges)))
+
+  run_given : AreGivenSent (publishers_from 0 script.publishers) run.calls
+  run_given =
+      subst (AreGivenSent (publishers_from 0 script.publishers)) (sym calls.calls)
+      (all_mapped (λ (o : ObjectCalls). AllByRecursion (λ (n : CallNote). Gives (IsSent (publishers_from 0 script.publishers)) (IsReply (publishers_from 0 script.publishers)) n.call) o.calls)
+      (object_calls (setting_of script) run.queues) object_given (setting_of script).objects)
+
 pub messages_are_sent : DeliveredMessagesAreSent
 messages_are_sent script run shaped edges = queues_sent script run shaped edges
 
 pub images_are_records : OkImagesAreRecords
 images_are_records script run shaped edges calls = run_records script run shaped edges calls
 
+pub given_are_sent : GivenMessagesAreSent
+given_are_sent script run shaped edges calls = run_given script run shaped edges calls
+
 -- ---- rounds
+
+pub round_given_are_sent : RoundGivenAreSent
+round_given_are_sent script run is = run_given script run (rounds_shaped script run is) (whole_edges script run is) (calls_told script run is)
 
 pub round_messages_are_sent : RoundMessagesAreSent
 round_messages_are_sent script run is = queues_sent script run (rounds_shaped script run is) (whole_edges script run is)

@@ -10,4 +10,8 @@ pub mod Lines
 pub mod Edged
 pub mod Images
 pub mod Telling
-pub mod Gapless
+pub mod Truths
+pub mod Given
+pub mod Ordered
+pub mod Handled
+pub mod Calm

@@ -2,6 +2,7 @@
 use Rattle.std.specs.Prelude.{slice_index_or}
 use Rattle.std.specs.List.{AllByRecursion}
 use Rattle.std.proofs.Common.{◌≡◌, ℕ, zero, suc, ◌+◌, ◌<◌, List, [], ◌∷◌, length, refl, ap, arith}
+use Rattle.mama_msg.specs.Field.{FieldData}
 use Rattle.mama_event.specs.declared.market.MarketMsg.{MarketMsg}
 use Rattle.mama_script.specs.declared.client.ClientLine.{ClientLine}
 use Rattle.mama_script.specs.declared.client.ClientLine.TheVariants as line
@@ -29,23 +30,23 @@ number-publishers n (part ∷ parts) (suc k) within =
 
 -- ---- clients
 
-module _ (G : MarketMsg → Type 0) where
+module _ (G : MarketMsg → Type 0) (R : List FieldData → Type 0) where
   abbrev Such : List (List QueuePut) → Type 0
-  Such steps = AllByRecursion (AllByRecursion (InQueuePut G)) steps
+  Such steps = AllByRecursion (AllByRecursion (InQueuePut G R)) steps
 
   such_line : (queues c : ℕ) (s : Standing) (l : ClientLine) → Such (line_steps queues c s l)
   such_line queues c s (line.Sub topic kind queue cache recaps faults plan) = ((tt, tt), tt)
   such_line queues c s (line.Timer queue interval plan) = ((tt, tt), tt)
   such_line queues c s (line.Inbox queue faults plan) = ((tt, tt), tt)
-  such_line queues c s (line.Order o) = ((ordered G o, tt), tt)
+  such_line queues c s (line.Order o) = ((ordered G R o, tt), tt)
   such_line queues c s (line.Now m) = ((tt, tt), tt)
   such_line queues c s line.NowClock = ((tt, tt), tt)
-  such_line queues c s (line.Pause n) = all_replicated (AllByRecursion (InQueuePut G)) n [] tt
+  such_line queues c s (line.Pause n) = all_replicated (AllByRecursion (InQueuePut G R)) n [] tt
 
   such_steps : (queues c : ℕ) (s : Standing) (lines : List ClientLine) → Such (steps_from queues c s lines)
   such_steps queues c s [] = ((tt, (tt, tt)), tt)
   such_steps queues c s (l ∷ lines) =
-      all_append (AllByRecursion (InQueuePut G)) (line_steps queues c s l) (steps_from queues c (after_line s l) lines)
+      all_append (AllByRecursion (InQueuePut G R)) (line_steps queues c s l) (steps_from queues c (after_line s l) lines)
       (such_line queues c s l) (such_steps queues c (after_line s l) lines)
 
   pub such_clients : (queues c : ℕ) (moments : List (List ℕ)) (clients : List (List ClientLine)) → AllByRecursion Such (all_client_steps queues c moments clients)

@@ -5,8 +5,8 @@ use Rattle.std.specs.List.{AllByRecursion}
 use Rattle.std.proofs.Common.{◌≡◌, ℕ, zero, suc, ◌+◌, ◌<◌, ◌≤◌, List, [], ◌∷◌, ◌++◌, length, take, refl, sym, arith}
 use Rattle.mama_journal.specs.Journal.{count_of}
 use Rattle.mama_msg.specs.Field.{FieldData}
-use Rattle.mama_event.specs.Record.{IsGenuineBody}
-use Rattle.mama_event.specs.Publisher.{SendLine, PublisherScript, is_send, updates_of, updates_sent, record_at, answer_of, sent_of, publisher_puts_at, publisher_puts}
+use Rattle.mama_event.specs.Record.{record_after, IsGenuineBody}
+use Rattle.mama_event.specs.Publisher.{asked_fields, SendLine, PublisherScript, is_send, updates_of, updates_sent, record_at, answer_of, sent_of, publisher_puts_at, publisher_puts}
 use Rattle.mama_event.specs.declared.market.MarketMsg.{MarketMsg}
 use Rattle.mama_event.specs.declared.market.MsgKind.{MsgKind}
 use Rattle.mama_event.specs.declared.market.MsgKind.TheVariants as kind
@@ -39,6 +39,13 @@ pub record IsOf (publisher : PublisherScript) (m : MarketMsg) : Type 0 where
   pub sender : m.sender ≡ publisher.number + 1
   pub body : IsGenuineBody publisher.base (updates_of publisher.lines) m.kind m.seq m.body
 
+-- a reply has the asked fields of the publisher's record at some number
+pub record IsReplyOf (publisher : PublisherScript) (body : List FieldData) : Type 0 where
+  pub number : ℕ
+  pub within : number ≤ length (updates_of publisher.lines)
+  pub fids : List ℕ
+  pub fields : body ≡ asked_fields fids (record_after publisher.base (updates_of publisher.lines) number)
+
 module _ (publisher : PublisherScript) (before : List PublisherEntry) where
   image_body : (k : MsgKind) → IsImageKind k → IsGenuineBody publisher.base (updates_of publisher.lines) k (updates_sent publisher before) (record_at publisher before)
   image_body kind.Initial h = (updates-within publisher.lines (count_of is_send before), refl)
@@ -46,9 +53,10 @@ module _ (publisher : PublisherScript) (before : List PublisherEntry) where
   image_body kind.Update h = absurd h
 
   all_answered : (n : PublisherNote) → AsksImage n
-      → AllByRecursion (InBridgeNote (IsOf publisher)) (answer_of publisher.number (record_at publisher before) (updates_sent publisher before) n)
+      → AllByRecursion (InBridgeNote (IsOf publisher) (IsReplyOf publisher)) (answer_of publisher.number (record_at publisher before) (updates_sent publisher before) n)
   all_answered (note.Want sub k) h = (record { sender = refl; body = image_body k h }, tt)
-  all_answered (note.Ask inbox fids) h = (tt, tt)
+  all_answered (note.Ask inbox fids) h =
+      (record { number = updates_sent publisher before; within = updates-within publisher.lines (count_of is_send before); fids = fids; fields = refl }, tt)
   all_answered note.Settle h = (tt, tt)
   all_answered note.Fin h = tt
 
@@ -62,20 +70,20 @@ module _ (publisher : PublisherScript) (before : List PublisherEntry) where
   )
 
   all_sent : (line : Option SendLine) → slice_get publisher.lines (count_of is_send before) ≡ line
-      → AllByRecursion (InBridgeNote (IsOf publisher))
+      → AllByRecursion (InBridgeNote (IsOf publisher) (IsReplyOf publisher))
       (sent_of publisher.number (record_at publisher (before ++ entry.Send ∷ [])) (updates_sent publisher (before ++ entry.Send ∷ [])) line)
   all_sent (Some (SendLine.Update body)) next = (record { sender = refl; body = update_body body next }, tt)
   all_sent (Some SendLine.Recap) next =
       (record { sender = refl; body = (updates-within publisher.lines (count_of is_send (before ++ entry.Send ∷ [])), refl) }, tt)
   all_sent None next = tt
 
-  all_publisher_puts : (e : PublisherEntry) → IsPlainEntry e → AllByRecursion (InBridgeNote (IsOf publisher)) (publisher_puts_at publisher before e)
+  all_publisher_puts : (e : PublisherEntry) → IsPlainEntry e → AllByRecursion (InBridgeNote (IsOf publisher) (IsReplyOf publisher)) (publisher_puts_at publisher before e)
   all_publisher_puts entry.Send h = all_sent (slice_get publisher.lines (count_of is_send before)) refl
   all_publisher_puts entry.Done h = (tt, tt)
   all_publisher_puts (entry.Took n) h = all_answered n h
 
 -- all that a publisher puts by its journal
 pub all_publisher_lane : (publisher : PublisherScript) (journal : List PublisherEntry) → AllByRecursion IsPlainEntry journal
-    → AllByRecursion (InBridgeNote (IsOf publisher)) (publisher_puts publisher journal)
+    → AllByRecursion (InBridgeNote (IsOf publisher) (IsReplyOf publisher)) (publisher_puts publisher journal)
 all_publisher_lane publisher journal all =
-    all_puts_after IsPlainEntry (InBridgeNote (IsOf publisher)) (publisher_puts_at publisher) (all_publisher_puts publisher) [] journal all
+    all_puts_after IsPlainEntry (InBridgeNote (IsOf publisher) (IsReplyOf publisher)) (publisher_puts_at publisher) (all_publisher_puts publisher) [] journal all

@@ -1,4 +1,4 @@
--- Each gap that a queue's callbacks tell is true of the messages that the subscription handled.
+-- What a queue's callbacks tell is true of the messages that the subscription handled.
 use Rattle.std.specs.Prelude.{◌&&◌, not, if◌then◌else◌, ◌⊎◌, Option, Some, None}
 use Rattle.std.specs.List.{AllByRecursion, Contains}
 use Rattle.std.specs.Option.{option_or}
@@ -16,6 +16,7 @@ use Rattle.mama_event.specs.declared.market.SubKind.{SubKind}
 use Rattle.mama_event.specs.declared.market.SubKind.TheVariants.{Basic}
 use Rattle.mama_event.specs.declared.callback.Callback.{Callback}
 use Rattle.mama_event.specs.declared.callback.Callback.TheVariants as on
+use Rattle.mama_event.specs.declared.market.Quality.TheVariants as quality
 use Rattle.mama_event.specs.declared.order.Order.{Order}
 use Rattle.mama_event.specs.declared.to_queue.Make.{Make}
 use Rattle.mama_event.specs.declared.to_queue.Make.TheVariants as make
@@ -25,13 +26,14 @@ use Rattle.mama_dq.specs.Context.{ContextData, new_context}
 use Rattle.mama_dq.specs.Gap.{TellsTrueGap, stretch_of}
 use Rattle.mama_dq.specs.Strategy.{step_by, callbacks_of, fold}
 use Rattle.mama_dq.proofs.GapLaw.{gap_law}
+use Rattle.mama_dq.proofs.StaleLaw.{stale_law}
 use Rattle.mama_dq.proofs.SameKind.{after_all_kind}
 use Rattle.mama_queue_rules.specs.Queue.{Deed, handled, called, calls_in, calls_of, messages_in, messages_of, is_muted, is_destroy, made, make_in, context_of, served, deeds}
-use Rattle.mama_genuine.specs.Told.{TellsOf, kind_of, size_of}
+use Rattle.mama_genuine.specs.Told.{IsMadeBy, TellsOf, kind_of, size_of}
 use Rattle.mama_genuine.proofs.Elements.{all_append, all_if, all_flat_map, all_weaker, all_both}
 
 -- what is said first among the first entries is nothing, or what is said first among all
-said_first : {E A : Type 0} (say : E → Option A) (before es : List E) → (first_said say before ≡ None) ⊎ (first_said say before ≡ first_said say (before ++ es))
+pub said_first : {E A : Type 0} (say : E → Option A) (before es : List E) → (first_said say before ≡ None) ⊎ (first_said say before ≡ first_said say (before ++ es))
 said_first say [] es = inl refl
 said_first say (e ∷ before) es =
     elim (say e) as (λ o. (option_or o (first_said say before) ≡ None) ⊎ (option_or o (first_said say before) ≡ option_or o (first_said say (before ++ es)))) [
@@ -39,7 +41,7 @@ said_first say (e ∷ before) es =
       | Some a ↦ inr refl
     ]
 
--- a message of a basic subscription tells no gap
+-- a message of a basic subscription tells nothing but itself
 basic_calls : (kind : SubKind) (size : ℕ) (messages : List MarketMsg) (c : ContextData) (m : MarketMsg) → c.kind ≡ Basic
     → AllByRecursion (TellsOf kind size messages) (callbacks_of c m)
 basic_calls kind size messages c m basic = subst (λ (k : SubKind). AllByRecursion (TellsOf kind size messages) (step_by k c m).calls) (sym basic) (tt, tt)
@@ -53,16 +55,27 @@ module _ (orders : ObjectId → ℕ → List Order) (s : SubId) (how : Option Ma
   DeedTells messages (called object call given) = same_object object (Sub s) ≡ true → Tells messages call
 
   -- what was told stays true while more messages are handled
-  later_tells : (messages more : List MarketMsg) (call : Callback) → Tells messages call → Tells (messages ++ more) call
-  later_tells messages more (on.Gap first to) told = record {
-    before = told.before;
-    message = told.message;
-    later = told.later ++ more;
-    cut = ap (λ (m : List MarketMsg). m ++ more) told.cut ∙ append_assoc told.before (told.message ∷ told.later) more;
-    told = told.told;
-    gap = told.gap;
+  abbrev later_made : (messages more : List MarketMsg) (call : Callback) → IsMadeBy (kind_of how) (size_of how) messages call
+      → IsMadeBy (kind_of how) (size_of how) (messages ++ more) call
+  later_made messages more call by = record {
+    before = by.before;
+    message = by.message;
+    later = by.later ++ more;
+    cut = ap (λ (m : List MarketMsg). m ++ more) by.cut ∙ append_assoc by.before (by.message ∷ by.later) more;
+    made = by.made;
   }
-  later_tells messages more _ told = tt
+
+  later_tells : (messages more : List MarketMsg) (call : Callback) → Tells messages call → Tells (messages ++ more) call
+  later_tells messages more (on.Gap first to) told = record { by = later_made messages more (on.Gap first to) told.by; gap = told.gap }
+  later_tells messages more (on.Quality quality.Ok n) told = later_made messages more (on.Quality quality.Ok n) told
+  later_tells messages more (on.Quality quality.Stale n) told = record { by = later_made messages more (on.Quality quality.Stale n) told.by; reason = told.reason }
+  later_tells messages more (on.RecapRequest sender) told = later_made messages more (on.RecapRequest sender) told
+  later_tells messages more on.Create told = tt
+  later_tells messages more (on.Msg m q) told = tt
+  later_tells messages more (on.Error e) told = tt
+  later_tells messages more on.Destroy told = tt
+  later_tells messages more (on.Tick t) told = tt
+  later_tells messages more (on.Reply b) told = tt
 
   later_deed : (messages more : List MarketMsg) (d : Deed) → DeedTells messages d → DeedTells (messages ++ more) d
   later_deed messages more (handled sub msg) told = tt
@@ -77,12 +90,31 @@ module _ (orders : ObjectId → ℕ → List Order) (s : SubId) (how : Option Ma
       (all_made messages o sofar cs (λ same. (each same).1))
       (λ same. (each same).0, all_made messages o (sofar ++ deed ∷ []) cs (λ same. (each same).1))
 
-  -- a message tells true gaps of the messages before it and itself
-  true_call : (before : List MarketMsg) (m : MarketMsg) (later messages : List MarketMsg) → messages ≡ before ++ m ∷ later
-      → (call : Callback) → TellsTrueGap (stretch_of (kind_of how) (size_of how) before m) m.sender call × Contains (callbacks_of (fold (kind_of how) (size_of how) before) m) call
-      → Tells messages call
-  true_call before m later messages cut (on.Gap first to) (gap, told) = record { before = before; message = m; later = later; cut = cut; told = told; gap = gap }
-  true_call before m later messages cut _ both = tt
+  -- what a message tells is true of the messages before it and itself
+  module _ (before : List MarketMsg) (m : MarketMsg) (later messages : List MarketMsg) (cut : messages ≡ before ++ m ∷ later) where
+    abbrev own_calls : List Callback
+    own_calls = callbacks_of (fold (kind_of how) (size_of how) before) m
+
+    abbrev by_it : (call : Callback) → Contains own_calls call → IsMadeBy (kind_of how) (size_of how) messages call
+    by_it call made = record { before = before; message = m; later = later; cut = cut; made = made }
+
+    true_call : (call : Callback) → TellsTrueGap (stretch_of (kind_of how) (size_of how) before m) m.sender call × Contains own_calls call → Tells messages call
+    true_call (on.Gap first to) (gap, made) = record { by = by_it (on.Gap first to) made; gap = gap }
+    true_call (on.Quality quality.Ok n) (gap, made) = by_it (on.Quality quality.Ok n) made
+    true_call (on.Quality quality.Stale n) (gap, made) = record { by = by_it (on.Quality quality.Stale n) made; reason = stale_law (kind_of how) (size_of how) before m }
+    true_call (on.RecapRequest sender) (gap, made) = by_it (on.RecapRequest sender) made
+    true_call on.Create both = tt
+    true_call (on.Msg given q) both = tt
+    true_call (on.Error e) both = tt
+    true_call on.Destroy both = tt
+    true_call (on.Tick t) both = tt
+    true_call (on.Reply b) both = tt
+
+    own_true : AllByRecursion (Tells messages) own_calls
+    own_true =
+        let True : Callback → Type 0 = TellsTrueGap (stretch_of (kind_of how) (size_of how) before m) m.sender in
+        all_weaker (λ (call : Callback). True call × Contains own_calls call) (Tells messages) true_call own_calls
+        (all_both True (Contains own_calls) own_calls (gap_law (kind_of how) (size_of how) before m) (recursion_from_All (Contains own_calls) own_calls (All-contains_itself own_calls)))
 
   context_is : (o : Option Make) (messages : List MarketMsg) → context_of o messages ≡ fold (kind_of o) (size_of o) messages
   context_is (Some (make.Sub kind cache)) messages = refl
@@ -97,10 +129,7 @@ module _ (orders : ObjectId → ℕ → List Order) (s : SubId) (how : Option Ma
       (basic_calls (kind_of how) (size_of how) messages (fold Basic 0 before) m (after_all_kind before (new_context Basic 0)))
   message_tells so_far (inr same) before m later messages cut =
       subst (λ (c : ContextData). AllByRecursion (Tells messages) (callbacks_of c m)) (sym (ap (λ (o : Option Make). context_of o before) same ∙ context_is how before))
-      (let calls : List Callback = callbacks_of (fold (kind_of how) (size_of how) before) m in
-      let True : Callback → Type 0 = TellsTrueGap (stretch_of (kind_of how) (size_of how) before m) m.sender in
-      all_weaker (λ (call : Callback). True call × Contains calls call) (Tells messages) (true_call before m later messages cut) calls
-      (all_both True (Contains calls) calls (gap_law (kind_of how) (size_of how) before m) (recursion_from_All (Contains calls) calls (All-contains_itself calls))))
+      (own_true before m later messages cut)
 
   abbrev said : List (ℕ × QueueNote) → SubId → Option Make
   said journal sub = first_said (λ (e : ℕ × QueueNote). make_in (Sub sub) e.1) journal

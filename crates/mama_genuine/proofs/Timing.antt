@@ -3,6 +3,7 @@ use Rattle.std.specs.Prelude.{◌&&◌}
 use Rattle.std.specs.List.{AllByRecursion, list_any, flat_map}
 use Rattle.std.proofs.Common.{ℕ, ◌==◌, List, [], ◌∷◌, ◌++◌, map, Option, None, Some}
 use Rattle.mama_journal.specs.Journal.{count_of, turns, numbers_below, puts}
+use Rattle.mama_msg.specs.Field.{FieldData}
 use Rattle.mama_event.specs.Ports.{queues_of}
 use Rattle.mama_event.specs.declared.ids.TimerId.{TimerId}
 use Rattle.mama_event.specs.declared.ids.ObjectId.{ObjectId}
@@ -25,13 +26,13 @@ use Rattle.mama_genuine.specs.Sent.{Delivers}
 use Rattle.mama_genuine.proofs.Elements.{all_append, all_if, all_flat, all_mapped, all_any, all_puts_after, all_puts_so_far}
 use Rattle.mama_genuine.proofs.Carried.{InQueuePut}
 
-module _ (G : MarketMsg → Type 0) where
+module _ (G : MarketMsg → Type 0) (R : List FieldData → Type 0) where
   abbrev Told : ℕ × QueueNote → Type 0
-  Told e = Delivers G e.1
+  Told e = Delivers G R e.1
 
   -- ---- the timer service
 
-  placed : (place : Option (ℕ × ℕ)) (event : ℕ → QueueNote) → ((slot : ℕ) → Delivers G (event slot)) → AllByRecursion Told (to_place place event)
+  placed : (place : Option (ℕ × ℕ)) (event : ℕ → QueueNote) → ((slot : ℕ) → Delivers G R (event slot)) → AllByRecursion Told (to_place place event)
   placed None event h = tt
   placed (Some place) event h = (h place.1, tt)
 
@@ -63,33 +64,33 @@ module _ (G : MarketMsg → Type 0) where
   pub all_timers_puts : (shape : Shape) (journal : List (ℕ × TimersNote)) → AllByRecursion Told (timers_puts shape journal)
   all_timers_puts shape journal =
       all_puts_so_far (λ (e : TimersEvent). Unit {0}) Told (timers_reaction shape)
-      (λ before sofar e so h. all_append Told (answer shape before sofar e) (ending_comes shape before sofar e) (all_answered shape before sofar e) (all_ending shape before sofar e))
+      (λ before sofar e all so h. all_append Told (answer shape before sofar e) (ending_comes shape before sofar e) (all_answered shape before sofar e) (all_ending shape before sofar e))
       [] [] (heard shape journal) tt tt (all_any (λ (e : TimersEvent). Unit {0}) (λ e. tt) (heard shape journal))
 
   -- ---- a queue
 
-  pub ordered : (o : Order) → InQueuePut G (order_put o)
+  pub ordered : (o : Order) → InQueuePut G R (order_put o)
   ordered (order.Stop sub) = tt
   ordered (order.Disarm timer) = tt
   ordered (order.Close inbox) = tt
   ordered (order.Ask inbox topic fids) = tt
 
-  all_wished : (o : ObjectId) (call : Callback) → AllByRecursion (InQueuePut G) (wish_put o call)
+  all_wished : (o : ObjectId) (call : Callback) → AllByRecursion (InQueuePut G R) (wish_put o call)
   all_wished (Sub sub) (on.RecapRequest sender) = (tt, tt)
   all_wished _ _ = tt
 
-  all_put : (d : Deed) → AllByRecursion (InQueuePut G) (puts_of d)
+  all_put : (d : Deed) → AllByRecursion (InQueuePut G R) (puts_of d)
   all_put (handled sub msg) = tt
   all_put (called object call orders) =
-      all_append (InQueuePut G) (wish_put object call) (map order_put orders) (all_wished object call) (all_mapped (InQueuePut G) order_put ordered orders)
+      all_append (InQueuePut G R) (wish_put object call) (map order_put orders) (all_wished object call) (all_mapped (InQueuePut G R) order_put ordered orders)
 
-  all_put_at : (orders : ObjectId → ℕ → List Order) (journal : List (ℕ × QueueNote)) (e : ℕ × QueueNote) → AllByRecursion (InQueuePut G) (queue_puts_at orders journal e)
+  all_put_at : (orders : ObjectId → ℕ → List Order) (journal : List (ℕ × QueueNote)) (e : ℕ × QueueNote) → AllByRecursion (InQueuePut G R) (queue_puts_at orders journal e)
   all_put_at orders journal e =
-      all_append (InQueuePut G) (flat_map puts_of (deeds_at orders journal e)) (bye_put journal e)
-      (all_flat (InQueuePut G) puts_of all_put (deeds_at orders journal e))
-      (all_if (InQueuePut G) (is_fin e && count_of is_fin journal == 1) (to_bridge b.Bye ∷ to_timers t.Bye ∷ []) [] (tt, (tt, tt)) tt)
+      all_append (InQueuePut G R) (flat_map puts_of (deeds_at orders journal e)) (bye_put journal e)
+      (all_flat (InQueuePut G R) puts_of all_put (deeds_at orders journal e))
+      (all_if (InQueuePut G R) (is_fin e && count_of is_fin journal == 1) (to_bridge b.Bye ∷ to_timers t.Bye ∷ []) [] (tt, (tt, tt)) tt)
 
-  pub all_queue_puts : (orders : ObjectId → ℕ → List Order) (journal : List (ℕ × QueueNote)) → AllByRecursion (InQueuePut G) (puts (queue_puts_at orders) journal)
+  pub all_queue_puts : (orders : ObjectId → ℕ → List Order) (journal : List (ℕ × QueueNote)) → AllByRecursion (InQueuePut G R) (puts (queue_puts_at orders) journal)
   all_queue_puts orders journal =
-      all_puts_after (λ (e : ℕ × QueueNote). Unit {0}) (InQueuePut G) (queue_puts_at orders) (λ before e h. all_put_at orders before e)
+      all_puts_after (λ (e : ℕ × QueueNote). Unit {0}) (InQueuePut G R) (queue_puts_at orders) (λ before e h. all_put_at orders before e)
       [] journal (all_any (λ (e : ℕ × QueueNote). Unit {0}) (λ e. tt) journal)

@@ -1,4 +1,4 @@
--- What the gaps of a run promise.
+-- What a run promises of gaps, of quality and of recaps.
 use Rattle.std.specs.Prelude.{◌≡◌, ℕ, List, [], Option, slice_index_or}
 use Rattle.std.specs.List.{AllByRecursion, AllZip}
 use Rattle.mama_journal.specs.Journal.{first_said}
@@ -17,11 +17,11 @@ use Rattle.mama_rounds.specs.Round.{IsRound, setting_of}
 use Rattle.mama_legal.specs.Calls.{AreCalls}
 use Rattle.mama_genuine.specs.Told.{TellsOf, kind_of, size_of}
 
--- each of some callbacks tells only gaps that are true of the messages, for a subscription made in this way
+-- what each of some callbacks tells is true of the messages, for a subscription made in this way
 abbrev pub TellOf : Option Make → List MarketMsg → List CallNote → Type 0
 TellOf how messages calls = AllByRecursion (λ (n : CallNote). TellsOf (kind_of how) (size_of how) messages n.call) calls
 
--- the callbacks of a subscription tell only gaps that are true of the messages it handled, by the journal of its queue
+-- what the callbacks of a subscription tell is true of the messages it handled, by the journal of its queue
 abbrev pub TellTrueGaps : Setting → List (ℕ × QueueNote) → ObjectId → List CallNote → Type 0
 TellTrueGaps setting journal (Sub s) calls =
     TellOf (first_said (λ e. make_in (Sub s) e.1) journal) (messages_of s (deeds (orders_by setting) journal)) calls
@@ -33,8 +33,8 @@ pub record HasTrueGaps (setting : Setting) (queues : List (List (ℕ × QueueNot
   pub object : c.object ≡ p.object
   pub gaps : TellTrueGaps setting (slice_index_or queues p.queue []) p.object c.calls
 
--- in a record of a script whose callbacks are those that its queues make, each gap that a subscription's listener is
--- told is true of the messages it handled
+-- in a record of a script whose callbacks are those that its queues make, what a subscription's listener is told of gaps,
+-- of quality and of recaps is true of the messages it handled
 abbrev pub ToldGapsAreTrue : Type 0
 ToldGapsAreTrue = (script : ScriptData) (run : RunData) → AreCalls script run
     → AllZip (HasTrueGaps (setting_of script) run.queues) (setting_of script).objects run.calls

@@ -2,3 +2,5 @@ pub mod Sent
 pub mod Records
 pub mod Told
 pub mod Gaps
+pub mod Order
+pub mod Faultless

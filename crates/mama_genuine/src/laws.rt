@@ -1,11 +1,20 @@
-ghost use Rattle.mama_genuine.specs.Gaps.{RoundGapsAreTrue, ToldGapsAreTrue};
+ghost use Rattle.mama_genuine.specs.Faultless.{FaultlessLinksAreCalm};
+ghost use Rattle.mama_genuine.specs.Order.{WindowsAreInOrder};
+ghost use Rattle.mama_genuine.specs.Gaps.{ToldGapsAreTrue, RoundGapsAreTrue};
 ghost use Rattle.mama_genuine.specs.Records.{OkImagesAreRecords, RoundImagesAreRecords};
-ghost use Rattle.mama_genuine.specs.Sent.{DeliveredMessagesAreSent, RoundMessagesAreSent};
+ghost use Rattle.mama_genuine.specs.Sent.{DeliveredMessagesAreSent, GivenMessagesAreSent, RoundGivenAreSent, RoundMessagesAreSent};
 
 /// A law: in a record of a script whose edges are whole, each message that a queue took is one of a publisher of the
-/// script: that publisher's update of its number, or that publisher's record at its number.
+/// script: that publisher's update of its number, or that publisher's record at its number. Each reply has fields of a
+/// publisher's record.
 pub fn delivered_messages_are_sent()
     ensures { DeliveredMessagesAreSent }
+{}
+
+/// A law: in a record of a script whose edges are whole and whose callbacks are those that its queues make, each message
+/// that a listener is given is one of a publisher of the script, and each reply has fields of a publisher's record.
+pub fn given_messages_are_sent()
+    ensures { GivenMessagesAreSent }
 {}
 
 /// A law: in a record of a script whose edges are whole and whose images are those that its queues leave, each image that
@@ -15,16 +24,36 @@ pub fn ok_images_are_records()
     ensures { OkImagesAreRecords }
 {}
 
-/// A law: in a record whose callbacks are those that its queues make, each gap that a subscription's listener is told is
-/// true of the messages that the subscription handled: each of its numbers was not taken since the subscription last
-/// turned to the sender, or was taken and dropped by a full cache before the first image.
+/// A law: in a record whose callbacks are those that its queues make, what a subscription's listener is told of gaps, of
+/// quality and of recaps is true of the messages that the subscription handled. One of them tells it. Each number of a gap
+/// was not taken since the subscription last turned to the sender, or was taken and dropped by a full cache before the
+/// first image. An image is called stale only right after a gap, or where the sender changes.
 pub fn told_gaps_are_true()
     ensures { ToldGapsAreTrue }
 {}
 
-/// A law: in the record of a run in rounds each message that a queue took is one of a publisher of the script.
+/// A law: in a record of a script whose edges are whole, where one publisher alone feeds a subscription, what goes into
+/// its link is in the publisher's order, without a hole: each update is numbered one above the last, and each image
+/// carries the number of the last update before it.
+pub fn windows_are_in_order()
+    ensures { WindowsAreInOrder }
+{}
+
+/// A law: in a record of a script whose edges are whole, a subscription without fault rows that one publisher alone feeds,
+/// and that came and went, is told no gap and no change of quality, and asks for no recap.
+pub fn faultless_links_are_calm()
+    ensures { FaultlessLinksAreCalm }
+{}
+
+/// A law: in the record of a run in rounds each message that a queue took is one of a publisher of the script, and each
+/// reply has fields of a publisher's record.
 pub fn messages_of_rounds_are_sent()
     ensures { RoundMessagesAreSent }
+{}
+
+/// A law: so it is of each message and each reply that a listener is given in the record of a run in rounds.
+pub fn given_messages_of_rounds_are_sent()
+    ensures { RoundGivenAreSent }
 {}
 
 /// A law: in the record of a run in rounds each image that is ok is its sender's record at its number.
@@ -32,7 +61,7 @@ pub fn ok_images_of_rounds_are_records()
     ensures { RoundImagesAreRecords }
 {}
 
-/// A law: in the record of a run in rounds each gap that a listener is told is true.
+/// A law: so it is in the record of a run in rounds.
 pub fn told_gaps_of_rounds_are_true()
     ensures { RoundGapsAreTrue }
 {}

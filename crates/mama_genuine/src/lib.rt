@@ -1,15 +1,21 @@
 //! What a record of a script promises of the market's data, whatever the links lose, repeat and hold back.
 //!
 //! Laws of the definitions, with no code. Where every edge of the record is whole, as it is whichever thread ran what
-//! when: each message that a queue took is a publisher's own ([`delivered_messages_are_sent`], `specs/Sent.antt`), and
-//! each image that is ok is its sender's record at its number ([`ok_images_are_records`], `specs/Records.antt`). Each gap
-//! that a listener is told is true of the messages that its subscription handled ([`told_gaps_are_true`],
-//! `specs/Told.antt` and `specs/Gaps.antt`). The record of a run in rounds is such a record, and has a law for each.
+//! when: each message that a queue took, and each that a listener was given, is a publisher's own
+//! ([`delivered_messages_are_sent`], [`given_messages_are_sent`], `specs/Sent.antt`), and each image that is ok is its
+//! sender's record at its number ([`ok_images_are_records`], `specs/Records.antt`). What a listener is told of gaps, of
+//! quality and of recaps is true of the messages that its subscription handled ([`told_gaps_are_true`],
+//! `specs/Told.antt` and `specs/Gaps.antt`). The record of a run in rounds is such a record, and has a law for each
+//! of these. Where one publisher alone feeds a subscription, what goes into its link is in that publisher's order, without
+//! a hole ([`windows_are_in_order`], `specs/Order.antt`); and where that link has no faults, its listener is told no gap and
+//! no change of quality ([`faultless_links_are_calm`], `specs/Faultless.antt`).
 #![tactic(auto)]
 
 mod laws;
 
 pub use laws::{
-    delivered_messages_are_sent, messages_of_rounds_are_sent, ok_images_are_records,
-    ok_images_of_rounds_are_records, told_gaps_are_true, told_gaps_of_rounds_are_true,
+    delivered_messages_are_sent, faultless_links_are_calm, told_gaps_are_true,
+    told_gaps_of_rounds_are_true, given_messages_are_sent,
+    given_messages_of_rounds_are_sent, messages_of_rounds_are_sent, ok_images_are_records,
+    ok_images_of_rounds_are_records, windows_are_in_order,
 };

@@ -1,4 +1,4 @@
-use Rattle.mama_genuine.proofs.Gapless.{told_gaps_are_true}
+use Rattle.mama_genuine.proofs.Truths.{told_gaps_are_true}
 use Rattle.mama_genuine.proofs.laws.told_gaps_are_true.Goals as goal
 
 pub returns : goal.returns

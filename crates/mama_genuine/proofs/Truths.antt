@@ -1,4 +1,4 @@
--- The gaps in a script's record.
+-- What the callbacks in a script's record tell.
 use Rattle.std.specs.Prelude.{slice_index_or}
 use Rattle.std.specs.List.{AllZip}
 use Rattle.std.proofs.Common.{ℕ, List, [], ◌∷◌, map, refl, sym, subst}
