@@ -26,3 +26,4 @@ pub mod TimerStreams
 pub mod NoTimers
 pub mod TimerJournals
 pub mod LegalRounds
+pub mod Rows
