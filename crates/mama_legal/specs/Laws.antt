@@ -14,7 +14,7 @@ use Rattle.mama_rules.specs.Bridge.{heard, is_live, is_open, terms_in, inbox_ter
 use Rattle.mama_rules.specs.Timers.{timers_puts}
 use Rattle.mama_rules.specs.Timers as timing
 use Rattle.mama_script.specs.Script.{ScriptData}
-use Rattle.mama_script.specs.Tree.{IsShaped}
+use Rattle.mama_script.specs.Tree.{IsShaped, IsScript}
 use Rattle.mama_record.specs.RunData.{RunData}
 use Rattle.mama_rounds.specs.Round.{IsRound}
 use Rattle.mama_legal.specs.Edges.{AreEdges}
@@ -82,6 +82,6 @@ TimersGetTheirStreams = (shape : Shape) (journal : List (ℕ × TimersNote)) (ti
 abbrev pub RoundsGiveTimersTheirStreams : Type 0
 RoundsGiveTimersTheirStreams = (script : ScriptData) (run : RunData) → IsOrderly script → IsRound script run → AreTimerStreams script run
 
--- the record of a run in rounds is legal
+-- the record of a run in rounds is legal, for every script that a text spells
 abbrev pub RoundsAreLegal : Type 0
-RoundsAreLegal = (script : ScriptData) (run : RunData) → IsOrderly script → IsRound script run → IsLegal script run
+RoundsAreLegal = (script : ScriptData) (run : RunData) → IsScript script → IsRound script run → IsLegal script run

@@ -69,8 +69,7 @@ pub fn rounds_give_timers_their_streams()
     ensures { RoundsGiveTimersTheirStreams }
 {}
 
-/// A law: the record of a run in rounds is legal for its script, where the shape of the script counts what the script has
-/// and there is a client.
+/// A law: the record of a run in rounds is legal for its script, for every script that a text spells.
 pub fn round_is_legal()
     ensures { RoundsAreLegal }
 {}
