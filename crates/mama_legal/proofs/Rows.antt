@@ -1,9 +1,8 @@
 -- A small run, worked out by hand: one client that joins one subscription, one queue, no publisher.
-use Rattle.std.specs.Prelude.{◌≡◌, ℕ, List, [], ◌∷◌, length, slice_index_or}
+use Rattle.std.specs.Prelude.{◌≡◌, [], ◌∷◌, slice_index_or}
 use Rattle.std.proofs.Common.{refl}
 use Rattle.mama_journal.specs.Lane.{by_port}
 use Rattle.mama_event.specs.declared.ids.SubId.{SubId}
-use Rattle.mama_event.specs.declared.ids.ObjectId.{ObjectId}
 use Rattle.mama_event.specs.declared.ids.ObjectId.TheVariants.{Sub}
 use Rattle.mama_event.specs.declared.market.SubKind.TheVariants.{Basic}
 use Rattle.mama_event.specs.declared.callback.Callback.TheVariants as on
@@ -17,7 +16,7 @@ use Rattle.mama_script.specs.declared.client.ClientLine.TheVariants as line
 use Rattle.mama_script.specs.declared.client.QueueWord.TheVariants.{Number}
 use Rattle.mama_script.specs.Script.{ScriptData}
 use Rattle.mama_record.specs.RunData.{RunData}
-use Rattle.mama_rounds.specs.World.{World, passes}
+use Rattle.mama_rounds.specs.World.{passes}
 use Rattle.mama_rounds.specs.Stage.{Stage, client_step}
 use Rattle.mama_rounds.specs.Round.{setting_of, start, record_of}
 use Rattle.mama_legal.specs.Edges.{client_puts, put_on_bridge, put_on_timers, put_on_queue}

@@ -1,8 +1,7 @@
 -- A script that a text spells has a client.
 use Rattle.std.specs.List.{flat_map}
-use Rattle.std.proofs.Common.{◌≡◌, ℕ, ◌<◌, Bool, true, false, List, [], ◌∷◌, ◌++◌, length, map, refl, sym, ◌∙◌, ap, subst, arith, append_assoc}
+use Rattle.std.proofs.Common.{◌≡◌, ℕ, ◌<◌, false, List, [], ◌∷◌, ◌++◌, length, map, refl, sym, ap, subst, arith, append_assoc}
 use Rattle.std.proofs.lemmas.Bool.{both_ways}
-use Rattle.mama_script.specs.declared.head.Place.{Place}
 use Rattle.mama_script.specs.declared.head.Place.TheVariants as places
 use Rattle.mama_script.specs.declared.line.Line.{Line}
 use Rattle.mama_script.specs.declared.line.Line.TheVariants as lines
@@ -14,7 +13,7 @@ use Rattle.mama_script.specs.Head.{may_end}
 use Rattle.mama_script.specs.Before.{Before, beside, start, after}
 use Rattle.mama_script.specs.Reading.{FitFrom}
 use Rattle.mama_script.specs.Script.{ScriptData}
-use Rattle.mama_script.specs.Tree.{topic_line, publisher_line, publisher_lines, client_lines, lines_of, IsScript}
+use Rattle.mama_script.specs.Tree.{topic_line, publisher_line, publisher_lines, client_lines, IsScript}
 use Rattle.mama_legal.specs.Laws.{IsOrderly}
 
 -- topics stand before anything else, and a publisher's lines in its section
