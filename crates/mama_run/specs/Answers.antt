@@ -9,7 +9,7 @@ use Rattle.mama_record.specs.LogText.{log_text}
 use Rattle.std.specs.List.{AllZip}
 use Rattle.mama_rounds.specs.Round.{IsRound, publishers_from, setting_of}
 use Rattle.mama_legal.specs.Legal.{IsLegal}
-use Rattle.mama_genuine.specs.Sent.{AreSent}
+use Rattle.mama_genuine.specs.Sent.{AreSent, AreGivenSent}
 use Rattle.mama_genuine.specs.Records.{AreRecords}
 use Rattle.mama_genuine.specs.Gaps.{HasTrueGaps}
 use Rattle.mama_run.specs.declared.status.Status.{Status}
@@ -26,12 +26,13 @@ pub record GaveAll (old new : Option (List ℕ)) (text : List ℕ) : Type 0 wher
 -- is one for the moments that its clients read. It is legal: every line was done; on every edge what was taken is all that was put,
 -- in order; what a queue took of a subscription is its Create, what its link lets through of what was sent while it was
 -- live, and its Gone, and likewise of timers and inboxes; the callbacks are those that the queues make, with the orders of
--- the plans. And whatever the links lose, repeat and hold back: each message that was delivered is its sender's own, each
--- image that is ok is its sender's record at its number, and each gap that was told is true.
+-- the plans. And whatever the links lose, repeat and hold back: each message that was delivered, or given to a listener, is its
+-- sender's own; each image that is ok is its sender's record at its number; and each gap that was told is true.
 pub record IsRun (script : ScriptData) (run : RunData) : Type 0 where
   pub round : IsRound script run
   pub legal : IsLegal script run
   pub messages : AreSent (publishers_from 0 script.publishers) run.queues
+  pub given : AreGivenSent (publishers_from 0 script.publishers) run.calls
   pub images : AreRecords (publishers_from 0 script.publishers) run.images
   pub gaps : AllZip (HasTrueGaps (setting_of script) run.queues) (setting_of script).objects run.calls
 

@@ -10,7 +10,8 @@ use crate::status::Status;
 use mama_drive::serial;
 use mama_edge::{Clock, ReadAll, Sink, Source, read_all, write_all_counted};
 use mama_genuine::{
-    messages_of_rounds_are_sent, ok_images_of_rounds_are_records, told_gaps_of_rounds_are_true,
+    given_messages_of_rounds_are_sent, messages_of_rounds_are_sent, ok_images_of_rounds_are_records,
+    told_gaps_of_rounds_are_true,
 };
 use mama_legal::round_is_legal;
 use mama_memory::OutOfMemory;
@@ -126,6 +127,7 @@ fn play<C: Clock>(alloc: Global, script: &Script, clock: &mut C) -> Result<RunRe
     let _shape = script.shape();
     round_is_legal();
     messages_of_rounds_are_sent();
+    given_messages_of_rounds_are_sent();
     ok_images_of_rounds_are_records();
     told_gaps_of_rounds_are_true();
     serial(alloc, script, clock)
