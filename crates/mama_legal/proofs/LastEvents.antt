@@ -205,5 +205,9 @@ module _ (script : ScriptData) (run : RunData) (shaped : IsShaped script) (someo
         (cases_eq port 0);
   }
 
+-- there is a client
+pub some_client : {n : ℕ} → 1 ≤ n → 0 < n
+some_client some = omega arith
+
 pub have_last : RoundsHaveLast
-have_last script run orderly is = all_last script run orderly.shaped orderly.someone is
+have_last script run orderly is = all_last script run orderly.shaped (some_client orderly.within.clients_some) is

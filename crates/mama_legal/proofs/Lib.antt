@@ -27,4 +27,4 @@ pub mod NoTimers
 pub mod TimerJournals
 pub mod LegalRounds
 pub mod Rows
-pub mod Scripts
+pub mod QueuesThere

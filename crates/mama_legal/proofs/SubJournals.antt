@@ -34,6 +34,7 @@ use Rattle.mama_legal.proofs.Whole.{whole_edges}
 use Rattle.mama_legal.proofs.Endings.{is_joining, ending_settles}
 use Rattle.mama_legal.proofs.Heard.{is_client_done, SaidLast, putter_client, no_late_join}
 use Rattle.mama_legal.proofs.AllSent.{said, ending_came}
+use Rattle.mama_legal.proofs.QueuesThere.{queues_there}
 use Rattle.mama_legal.proofs.Journals.{one_port, part_stream, on_one_queue, other_ports}
 use Rattle.mama_legal.proofs.Lives.{any_last, lives-push, ending_same, is_word}
 use Rattle.mama_legal.proofs.SubStreams.{said_came, subs_streams}
@@ -140,9 +141,10 @@ was_live shape s journal = by_entries (λ (j : List (ℕ × BridgeNote)).
 
 pub sub_journals : RoundsGiveSubsTheirStreams
 sub_journals script run orderly is = record {
-  each = λ s terms small says on.
+  each = λ s terms small says.
       let shape : Shape = script.shape in
       let edges = whole_edges script run is in
+      let on = (queues_there script run orderly.within).subs s terms says in
       let es : List BridgeEvent = heard shape run.bridge in
       let k : ℕ = terms.queue in
       let journal : List (ℕ × QueueNote) = slice_index_or run.queues k [] in

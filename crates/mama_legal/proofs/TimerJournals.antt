@@ -41,8 +41,9 @@ use Rattle.mama_legal.proofs.Putters.{by_timers_port, by_queue_port}
 use Rattle.mama_legal.proofs.Whole.{whole_edges}
 use Rattle.mama_legal.proofs.Heard.{SaidLast, no_pause, part_of_steps, below_at, nothing_after}
 use Rattle.mama_legal.proofs.AllSent.{steps_at}
-use Rattle.mama_legal.proofs.LastEvents.{timers_done, timers_client, timers_ended}
+use Rattle.mama_legal.proofs.LastEvents.{timers_done, timers_client, timers_ended, some_client}
 use Rattle.mama_legal.proofs.Lives.{any_last}
+use Rattle.mama_legal.proofs.QueuesThere.{queues_there}
 use Rattle.mama_legal.proofs.Journals.{one_port, part_stream, on_one_queue}
 use Rattle.mama_legal.proofs.NoTimers.{bridge_none}
 use Rattle.mama_legal.proofs.TimerLives.{is_armed-push, is_word, ending_same}
@@ -248,9 +249,10 @@ other_ports timer shape run k journal port apart put = ap (filter (is_of (Timer 
 
 pub timer_journals : RoundsGiveTimersTheirStreams
 timer_journals script run orderly is = record {
-  each = λ timer terms small says on.
+  each = λ timer terms small says.
       let shape : Shape = script.shape in
       let edges = whole_edges script run is in
+      let on = (queues_there script run orderly.within).timers timer terms says in
       let es : List TimersEvent = heard shape run.timers in
       let k : ℕ = terms.0 in
       let journal : List (ℕ × QueueNote) = slice_index_or run.queues k [] in
@@ -261,7 +263,7 @@ timer_journals script run orderly is = record {
       let was = was_armed shape timer run.timers
       (λ before e after whole ended. no_late_arm shape timer before e after (λ c less. subst (λ (j : List (ℕ × TimersNote)). SaidLast timers_done (by_port c j)) whole (said script run orderly.shaped edges c less)) ended)
       (said_came timer es terms heard_terms) in
-      let dead : is_live shape timer es ≡ false = ap (λ (c : Bool). is_armed timer es && not c) (timers_ended script run orderly.shaped orderly.someone is) ∙ none_and (is_armed timer es) in
+      let dead : is_live shape timer es ≡ false = ap (λ (c : Bool). is_armed timer es && not c) (timers_ended script run orderly.shaped (some_client orderly.within.clients_some) is) ∙ none_and (is_armed timer es) in
       let stream = timers_streams shape run.timers timer terms was dead heard_terms in
       record {
         slot = stream.slot;

@@ -1,5 +1,5 @@
 -- What the laws of this crate say.
-use Rattle.std.specs.Prelude.{◌≡◌, ℕ, ◌<◌, false, List, length, Some}
+use Rattle.std.specs.Prelude.{◌≡◌, ℕ, ◌<◌, false, List, Some}
 use Rattle.mama_journal.specs.Journal.{first_said}
 use Rattle.mama_event.specs.declared.ids.SubId.{SubId}
 use Rattle.mama_event.specs.declared.ids.InboxId.{InboxId}
@@ -11,17 +11,19 @@ use Rattle.mama_event.specs.declared.to_bridge.InboxTerms.{InboxTerms}
 use Rattle.mama_event.specs.declared.to_bridge.BridgeNote.{BridgeNote}
 use Rattle.mama_event.specs.declared.to_timers.TimersNote.{TimersNote}
 use Rattle.mama_rules.specs.Bridge.{heard, is_live, is_open, terms_in, inbox_terms_in, window, reply_window, bridge_puts}
+use Rattle.mama_event.specs.Ports.{queues_of}
 use Rattle.mama_rules.specs.Timers.{timers_puts}
 use Rattle.mama_rules.specs.Timers as timing
 use Rattle.mama_script.specs.Script.{ScriptData}
-use Rattle.mama_script.specs.Tree.{IsShaped, IsScript}
+use Rattle.mama_script.specs.Tree.{IsShaped}
+use Rattle.mama_script.specs.Within.{IsWithin}
 use Rattle.mama_record.specs.RunData.{RunData}
 use Rattle.mama_rounds.specs.Round.{IsRound}
 use Rattle.mama_legal.specs.Edges.{AreEdges}
 use Rattle.mama_legal.specs.Lines.{AreLines}
 use Rattle.mama_legal.specs.Last.{HaveLast}
-use Rattle.mama_legal.specs.Streams.{WasLive, WasOpen, IsSubStream, IsInboxStream, stream_of, AreSubStreams, AreInboxStreams}
-use Rattle.mama_legal.specs.Ticks.{WasArmed, ticks, timer_stream, IsTimerStream, AreTimerStreams}
+use Rattle.mama_legal.specs.Streams.{WasLive, WasOpen, IsSubStream, IsInboxStream, stream_of, terms_of, inbox_terms_of, AreSubStreams, AreInboxStreams}
+use Rattle.mama_legal.specs.Ticks.{WasArmed, ticks, timer_stream, IsTimerStream, arming_of, AreTimerStreams}
 use Rattle.mama_legal.specs.Legal.{IsLegal}
 use Rattle.mama_legal.specs.Calls.{IsShapedFor, AreCalls}
 
@@ -46,10 +48,11 @@ RoundsGiveOneRecord = (script : ScriptData) (run other : RunData) → IsRound sc
 abbrev pub RoundsDoAllLines : Type 0
 RoundsDoAllLines = (script : ScriptData) (run : RunData) → IsShaped script → IsRound script run → AreLines script run
 
--- the shape of a script counts what the script has, and there is a client, as in every script that a text spells
+-- The shape of a script counts what the script has, and it is within its bounds: so it is of every script that a text
+-- spells, as the contract of Script::shape says.
 pub record IsOrderly (script : ScriptData) : Type 0 where
   pub shaped : IsShaped script
-  pub someone : 0 < length script.clients
+  pub within : IsWithin script
 
 -- the last event of every port was taken
 abbrev pub RoundsHaveLast : Type 0
@@ -82,6 +85,15 @@ TimersGetTheirStreams = (shape : Shape) (journal : List (ℕ × TimersNote)) (ti
 abbrev pub RoundsGiveTimersTheirStreams : Type 0
 RoundsGiveTimersTheirStreams = (script : ScriptData) (run : RunData) → IsOrderly script → IsRound script run → AreTimerStreams script run
 
--- the record of a run in rounds is legal, for every script that a text spells
+-- the record of a run in rounds is legal
 abbrev pub RoundsAreLegal : Type 0
-RoundsAreLegal = (script : ScriptData) (run : RunData) → IsScript script → IsRound script run → IsLegal script run
+RoundsAreLegal = (script : ScriptData) (run : RunData) → IsOrderly script → IsRound script run → IsLegal script run
+
+-- the queues on which the lines of a script put objects are there
+pub record AreQueuesThere (script : ScriptData) (run : RunData) : Type 0 where
+  pub subs : (s : SubId) (terms : SubTerms) → terms_of script run s ≡ Some terms → terms.queue < queues_of script.shape
+  pub timers : (timer : TimerId) (terms : ℕ × ℕ) → arming_of script run timer ≡ Some terms → terms.0 < queues_of script.shape
+  pub inboxes : (i : InboxId) (terms : InboxTerms) → inbox_terms_of script run i ≡ Some terms → terms.queue < queues_of script.shape
+
+abbrev pub QueuesAreThere : Type 0
+QueuesAreThere = (script : ScriptData) (run : RunData) → IsWithin script → AreQueuesThere script run

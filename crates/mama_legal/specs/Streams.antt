@@ -17,7 +17,7 @@ use Rattle.mama_event.specs.declared.to_queue.QueueNote.TheVariants as q
 use Rattle.mama_event.specs.declared.shape.Shape.{Shape}
 use Rattle.mama_event.specs.declared.to_bridge.BridgeNote.{BridgeNote}
 use Rattle.mama_event.specs.declared.to_bridge.BridgeNote.TheVariants as b
-use Rattle.mama_event.specs.Ports.{clients_of, queues_of}
+use Rattle.mama_event.specs.Ports.{clients_of}
 use Rattle.mama_event.specs.Object.{same_sub, same_inbox, same_object}
 use Rattle.mama_rules.specs.Bridge.{BridgePut, to_publisher, to_queue, to_timers, BridgeEvent, heard, is_live, is_open, window, reply_window}
 use Rattle.mama_queue_rules.specs.Queue.{QueuePut}
@@ -101,7 +101,7 @@ pub record IsSubJournal (s : SubId) (terms : SubTerms) (window : List MarketMsg)
 
 -- So it is with each subscription that the script joins, in the journal of its queue.
 pub record AreSubStreams (script : ScriptData) (run : RunData) : Type 0 where
-  pub each : (s : SubId) (terms : SubTerms) → s.client < clients_of script.shape → terms_of script run s ≡ Some terms → terms.queue < queues_of script.shape
+  pub each : (s : SubId) (terms : SubTerms) → s.client < clients_of script.shape → terms_of script run s ≡ Some terms
       → IsSubJournal s terms (window script.shape s (heard script.shape run.bridge)) (slice_index_or run.queues terms.queue [])
 
 -- with what terms a put opens an inbox
@@ -127,5 +127,5 @@ pub record IsInboxJournal (i : InboxId) (terms : InboxTerms) (window : List (Lis
 
 -- So it is with each inbox that the script opens, in the journal of its queue.
 pub record AreInboxStreams (script : ScriptData) (run : RunData) : Type 0 where
-  pub each : (i : InboxId) (terms : InboxTerms) → i.client < clients_of script.shape → inbox_terms_of script run i ≡ Some terms → terms.queue < queues_of script.shape
+  pub each : (i : InboxId) (terms : InboxTerms) → i.client < clients_of script.shape → inbox_terms_of script run i ≡ Some terms
       → IsInboxJournal i terms (reply_window script.shape i (heard script.shape run.bridge)) (slice_index_or run.queues terms.queue [])

@@ -10,7 +10,7 @@ use Rattle.mama_event.specs.declared.to_timers.TimersNote.TheVariants as t
 use Rattle.mama_event.specs.declared.to_queue.Make.TheVariants as make
 use Rattle.mama_event.specs.declared.to_queue.QueueNote.{QueueNote}
 use Rattle.mama_event.specs.declared.to_queue.QueueNote.TheVariants as q
-use Rattle.mama_event.specs.Ports.{clients_of, queues_of}
+use Rattle.mama_event.specs.Ports.{clients_of}
 use Rattle.mama_event.specs.Object.{same_timer}
 use Rattle.mama_rules.specs.Timers.{TimersEvent, now, clock, due, heard, is_live}
 use Rattle.mama_queue_rules.specs.Queue.{QueuePut}
@@ -68,5 +68,5 @@ pub record IsTimerJournal (timer : TimerId) (moments : List ℕ) (journal : List
 
 -- So it is with each timer that the script arms, in the journal of its queue.
 pub record AreTimerStreams (script : ScriptData) (run : RunData) : Type 0 where
-  pub each : (timer : TimerId) (terms : ℕ × ℕ) → timer.client < clients_of script.shape → arming_of script run timer ≡ Some terms → terms.0 < queues_of script.shape
+  pub each : (timer : TimerId) (terms : ℕ × ℕ) → timer.client < clients_of script.shape → arming_of script run timer ≡ Some terms
       → IsTimerJournal timer (ticks script.shape timer (heard script.shape run.timers)) (slice_index_or run.queues terms.0 [])

@@ -1,4 +1,4 @@
-ghost use Rattle.mama_legal.specs.Laws.{RoundsAreWhole, RoundsAreShaped, RoundsTellCalls, RoundsGiveOneRecord, RoundsDoAllLines, RoundsHaveLast, SubsGetTheirStreams, RoundsGiveSubsTheirStreams, InboxesGetTheirStreams, RoundsGiveInboxesTheirStreams, TimersGetTheirStreams, RoundsGiveTimersTheirStreams, RoundsAreLegal};
+ghost use Rattle.mama_legal.specs.Laws.{RoundsAreWhole, RoundsAreShaped, RoundsTellCalls, RoundsGiveOneRecord, RoundsDoAllLines, RoundsHaveLast, SubsGetTheirStreams, RoundsGiveSubsTheirStreams, InboxesGetTheirStreams, RoundsGiveInboxesTheirStreams, TimersGetTheirStreams, RoundsGiveTimersTheirStreams, RoundsAreLegal, QueuesAreThere};
 
 /// A law: in the record of a run in rounds every edge is whole: what each actor took by each port is all that was put
 /// there, in order.
@@ -28,7 +28,7 @@ pub fn rounds_do_all_lines()
     ensures { RoundsDoAllLines }
 {}
 
-/// A law: by every port of every lane the last event was taken that the port puts, where the script has a client.
+/// A law: by every port of every lane the last event was taken that the port puts.
 pub fn rounds_have_last()
     ensures { RoundsHaveLast }
 {}
@@ -69,7 +69,13 @@ pub fn rounds_give_timers_their_streams()
     ensures { RoundsGiveTimersTheirStreams }
 {}
 
-/// A law: the record of a run in rounds is legal for its script, for every script that a text spells.
+/// A law: the record of a run in rounds is legal for its script, for every script that is within its bounds and whose
+/// shape counts what it has. `Script::shape` says so of every script that a text spells.
 pub fn round_is_legal()
     ensures { RoundsAreLegal }
+{}
+
+/// A law: the queues on which the lines of a script put objects are there, for every script that is within its bounds.
+pub fn queues_are_there()
+    ensures { QueuesAreThere }
 {}
