@@ -6,8 +6,8 @@
 //! that the listener of a `Create` is the one that the event of that entry brought.
 //!
 //! A bridge keeps a link for each live subscription and each open inbox, in order, and not what it heard. A publish
-//! costs the live links, and besides what comes out of those of its topic; a Join, a Leave and an Ask cost the live
-//! links; what is over costs nothing. Want of memory leaves the bridge and the outbox as they were.
+//! costs the live links, and what comes out of those of its topic; a Join, a Leave and an Ask cost the live links, and a
+//! Join a logarithm of all that joined before. Want of memory leaves the bridge and the outbox as they were.
 #![tactic(auto)]
 
 mod bridge;
