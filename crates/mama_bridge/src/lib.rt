@@ -27,5 +27,3 @@ mod subs;
 pub use bridge::MemoryBridge;
 pub use out::BridgeOut;
 
-#[cfg(test)]
-mod tests;
