@@ -26,4 +26,3 @@ mod subs;
 
 pub use bridge::MemoryBridge;
 pub use out::BridgeOut;
-

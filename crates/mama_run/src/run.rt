@@ -10,8 +10,8 @@ use crate::status::Status;
 use mama_drive::serial;
 use mama_edge::{Clock, ReadAll, Sink, Source, read_all, write_all_counted};
 use mama_genuine::{
-    given_messages_of_rounds_are_sent, messages_of_rounds_are_sent, ok_images_of_rounds_are_records,
-    told_gaps_of_rounds_are_true,
+    given_messages_of_rounds_are_sent, messages_of_rounds_are_sent,
+    ok_images_of_rounds_are_records, told_gaps_of_rounds_are_true,
 };
 use mama_legal::round_is_legal;
 use mama_memory::OutOfMemory;
