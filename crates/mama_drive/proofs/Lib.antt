@@ -7,3 +7,4 @@ pub mod StageLemmas
 pub mod StartLemmas
 pub mod RecordLemmas
 pub mod RecordingLemmas
+pub mod RestLemmas

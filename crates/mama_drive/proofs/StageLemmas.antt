@@ -57,7 +57,7 @@ lefts_set (m ∷ ms) (x ∷ cs) zero new h = refl
 lefts_set (m ∷ ms) (x ∷ cs) (suc c) new h = ap (λ l. client_left m x ∷ l) (lefts_set ms cs c new h.1)
 
 -- a client's steps, one fewer
-stepped_by : (setting : Setting) (c : ℕ) (st : Stage) (left : List (List QueuePut)) → get_or st.clients c [] ≡ left
+pub stepped_by : (setting : Setting) (c : ℕ) (st : Stage) (left : List (List QueuePut)) → get_or st.clients c [] ≡ left
     → record st { clients = set st.clients c (later_steps left); world = with_puts c c (first_step left) st.world } ≡ client_stepped setting c st left
 stepped_by setting c st [] is =
     ap (λ l. record st { clients = l; world = with_puts c c [] st.world }) (ap (set st.clients c) (sym is) ∙ set-get_or st.clients c [])
@@ -149,7 +149,7 @@ entries_are setting p w (e ∷ es) within =
     ∙ entries_are setting p w' es (subst (λ n. p < n) (sym (length-set w.publishers p (j ++ e ∷ []))) within)
 
 -- a publisher's steps, one fewer
-sender_stepped_by : (setting : Setting) (p : ℕ) (st : Stage) (left : List (List PublisherEntry)) → get_or st.publishers p [] ≡ left
+pub sender_stepped_by : (setting : Setting) (p : ℕ) (st : Stage) (left : List (List PublisherEntry)) → get_or st.publishers p [] ≡ left
     → record st { publishers = set st.publishers p (later_steps left); world = entries_done setting p st.world (first_step left) } ≡ publisher_stepped setting p st left
 sender_stepped_by setting p st [] is = ap (λ l. record st { publishers = l }) (ap (set st.publishers p) (sym is) ∙ set-get_or st.publishers p [])
 sender_stepped_by setting p st (step ∷ rest) is = refl

@@ -75,6 +75,20 @@ module _ (shape bridge_shape timers_shape : Shape) (objects : List Planned) (cli
     quiet_queues = h.quiet_queues;
   }
 
+  -- other seats, as many, where the publishers' lanes are the same
+  pub with_seats : (cs : List Stand) (ss : List Sender) → length cs ≡ length clients → length ss ≡ length senders → map lane_in ss ≡ map lane_in senders
+      → IsSystem shape bridge_shape timers_shape objects cs ss servers publishers_wait queues_wait
+  with_seats cs ss clients_same senders_same lanes = record {
+    same_bridge = h.same_bridge;
+    same_timers = h.same_timers;
+    client_count = clients_same ∙ h.client_count;
+    sender_count = senders_same ∙ h.sender_count;
+    server_count = h.server_count;
+    shared = h.shared;
+    quiet_publishers = λ e. ap (list_all is_empty) lanes ∙ h.quiet_publishers e;
+    quiet_queues = h.quiet_queues;
+  }
+
   -- the mark for publishers, by what is on their lanes
   pub publishers_looked : (quiet : Bool) → quiet ≡ list_all (λ (s : Sender). is_empty s.lane) senders
       → IsSystem shape bridge_shape timers_shape objects clients senders servers (not quiet) queues_wait

@@ -1,5 +1,5 @@
 -- The system on one thread, as its seats and lanes, and the stage of the run that it is.
-use Rattle.std.specs.Prelude.{◌≡◌, ℕ, Bool, true, false, List, [], ◌∷◌, ◌++◌, map, length, slice_index_or, slice_set}
+use Rattle.std.specs.Prelude.{◌≡◌, ℕ, ◌-◌, nat_le, Bool, true, false, ◌||◌, List, [], ◌∷◌, ◌++◌, map, length, slice_index_or, slice_set}
 use Rattle.std.specs.List.{flat_map, list_all}
 use Rattle.mama_journal.specs.Lane.{from_port, by_port}
 use Rattle.mama_event.specs.declared.shape.Shape.{Shape}
@@ -172,6 +172,23 @@ pub record Passes (old new : Scene) : Type 0 where
 pub record Drains (old new : Scene) : Type 0 where
   pub passes : Passes old new
   pub quiet : IsQuiet (world_in new)
+
+-- a seat that passes over so many steps of its pause
+abbrev pub rested_stand : ℕ → Stand → Stand
+rested_stand k c = record c { pause = c.pause - k }
+
+abbrev pub rested_sender : ℕ → Sender → Sender
+rested_sender k p = record p { pause = p.pause - k }
+
+-- nothing waits, and a pause of each client and each publisher that is not done covers so many steps
+pub record CanRest (k : ℕ) (s : Scene) : Type 0 where
+  pub quiet : IsQuiet (world_in s)
+  pub clients : list_all (λ (c : Stand). c.over || nat_le k c.pause) s.clients ≡ true
+  pub publishers : list_all (λ (p : Sender). p.over || nat_le k p.pause) s.senders ≡ true
+
+-- each passes over so many steps
+abbrev pub rested : ℕ → Scene → Scene
+rested k s = record s { clients = map (rested_stand k) s.clients; senders = map (rested_sender k) s.senders }
 
 -- every client and every publisher has made all its steps
 pub record IsPlayed (s : Scene) : Type 0 where

@@ -1,8 +1,8 @@
-ghost use Rattle.std.specs.Prelude.{◌≡◌, ◌<◌, length, true, OnOk};
+ghost use Rattle.std.specs.Prelude.{◌≡◌, ◌<◌, ◌||◌, nat_le, length, map, true, OnOk};
 ghost use Rattle.std.specs.List.{list_all};
 ghost use Rattle.mama_event.specs.Ports.{clients_of, publishers_of};
 ghost use Rattle.mama_rounds.specs.Stage as stage;
-ghost use Rattle.mama_drive.specs.Scene.{Advances, SteppedOut, SteppedAll, Drains, Plays, IsPlayed};
+ghost use Rattle.mama_drive.specs.Scene.{Advances, SteppedOut, SteppedAll, Drains, Rounds, Plays, CanRest, rested_stand, rested_sender, IsPlayed};
 
 use crate::system::{System, append_to_bridge, count_of, port_from};
 use mama_edge::Clock;
@@ -87,6 +87,56 @@ impl<'a> System<'a> {
         are_clients_over(self.clients.as_slice()) && are_publishers_over(self.publishers.as_slice())
     }
 
+    /// How many rounds are surely left in which every client and every publisher pauses.
+    fn pause(&self) -> u32 {
+        let mut least = u32::MAX;
+        for seat in &self.clients {
+            if let Some(pause) = seat.pause() {
+                least = least.min(pause);
+            }
+        }
+        for seat in &self.publishers {
+            if let Some(pause) = seat.pause() {
+                least = least.min(pause);
+            }
+        }
+        least
+    }
+
+    /// Whether nothing happens in as many rounds.
+    fn can_rest(&self, rounds: u32) -> bool
+        ensures { result ≡ true → CanRest rounds self.now }
+    {
+        if !self.is_quiet() {
+            return false;
+        }
+        if !are_clients_idle(self.clients.as_slice(), rounds) {
+            return false;
+        }
+        are_publishers_idle(self.publishers.as_slice(), rounds)
+    }
+
+    /// Makes as many rounds, in which nothing happens.
+    fn rest(&mut self, rounds: u32)
+        requires { CanRest rounds self.old }
+        ensures { Advances (Rounds rounds) self.old self.new }
+    {
+        rest_clients(&mut self.clients, rounds);
+        rest_publishers(&mut self.publishers, rounds);
+    }
+
+    /// Makes the next round, or at once all those in which every client and every publisher pauses.
+    fn advance<C: Clock>(&mut self, clock: &mut C) -> Result<(), OutOfMemory>
+        ensures { OnOk result (Plays self.old self.new) }
+    {
+        let rounds = self.pause();
+        if rounds > 0 && self.can_rest(rounds) {
+            self.rest(rounds);
+            return Ok(());
+        }
+        self.round(clock)
+    }
+
     /// Rounds, until every client and every publisher has made all its steps.
     pub fn play<C: Clock>(&mut self, clock: &mut C) -> Result<(), OutOfMemory>
         ensures rounds { OnOk result (Plays self.old self.new) }
@@ -96,9 +146,41 @@ impl<'a> System<'a> {
             if self.is_played() {
                 return Ok(());
             }
-            self.round(clock)?;
+            self.advance(clock)?;
         }
         Err(OutOfMemory)
+    }
+}
+
+/// Whether in as many steps no client does anything.
+fn are_clients_idle(seats: &[ClientSeat], steps: u32) -> bool
+    ensures { result ≡ list_all (λ seat. seat.over || nat_le steps seat.pause) seats.now }
+{
+    seats.iter().all(|seat| seat.is_idle(steps))
+}
+
+/// Whether in as many steps no publisher does anything.
+fn are_publishers_idle(seats: &[PublisherSeat], steps: u32) -> bool
+    ensures { result ≡ list_all (λ seat. seat.over || nat_le steps seat.pause) seats.now }
+{
+    seats.iter().all(|seat| seat.is_idle(steps))
+}
+
+/// Each client passes over as many steps of its pause.
+fn rest_clients(seats: &mut Vec<ClientSeat>, steps: u32)
+    ensures { seats.new.items ≡ map (rested_stand steps) seats.old.items }
+{
+    for i in 0..seats.len() {
+        seats[i].rest(steps);
+    }
+}
+
+/// Each publisher passes over as many steps of its pause.
+fn rest_publishers(seats: &mut Vec<PublisherSeat>, steps: u32)
+    ensures { seats.new.items ≡ map (rested_sender steps) seats.old.items }
+{
+    for i in 0..seats.len() {
+        seats[i].rest(steps);
     }
 }
 

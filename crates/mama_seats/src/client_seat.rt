@@ -1,4 +1,4 @@
-ghost use Rattle.std.specs.Prelude.{◌≡◌, ◌+◌, ◌-◌, ◌^◌, ◌<◌, List, ℕ, Bool, true, false, [], ◌∷◌, ◌++◌, map, IfOk, OnOk};
+ghost use Rattle.std.specs.Prelude.{◌≡◌, ◌+◌, ◌-◌, ◌^◌, ◌<◌, List, ℕ, Bool, true, false, ◌||◌, nat_le, [], ◌∷◌, ◌++◌, map, IfOk, OnOk};
 ghost use Rattle.mama_event.specs.declared.to_bridge.BridgeNote.TheVariants as bridge;
 ghost use Rattle.mama_event.specs.declared.to_timers.TimersNote.TheVariants as timers;
 ghost use Rattle.mama_queue_rules.specs.Queue.{to_bridge, to_timers};
@@ -63,31 +63,22 @@ impl<'a> ClientSeat<'a> {
         self.over
     }
 
-    /// How many steps it surely does nothing in before it does something; none where it is over.
-    pub fn idle(&self) -> Option<u32> {
-        if self.over {
-            return None;
-        }
-        if self.pause > 0 {
-            return Some(self.pause);
-        }
-        match self.lines.get(self.line) {
-            Some(ClientLine::Pause(steps)) => Some(*steps),
-            _ => Some(0),
-        }
+    /// How many steps it still pauses; none where it is over.
+    pub fn pause(&self) -> Option<u32> {
+        if self.over { None } else { Some(self.pause) }
     }
 
-    /// Makes as many steps, in which it does nothing.
-    pub fn rest(&mut self, steps: u32) {
-        if self.over {
-            return;
-        }
-        if self.pause == 0 {
-            if let Some(ClientLine::Pause(pause)) = self.lines.get(self.line) {
-                self.pause = *pause;
-                self.line += 1;
-            }
-        }
+    /// Whether a pause covers as many steps, or it has none left to make.
+    pub fn is_idle(&self, steps: u32) -> bool
+        ensures { result ≡ (self.now.over || nat_le steps self.now.pause) }
+    {
+        self.over || steps <= self.pause
+    }
+
+    /// Passes over as many steps of a pause.
+    pub fn rest(&mut self, steps: u32)
+        ensures { self.new ≡ record self.old { pause = self.old.pause - steps } }
+    {
         self.pause = self.pause.saturating_sub(steps);
     }
 
