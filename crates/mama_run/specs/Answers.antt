@@ -23,7 +23,7 @@ pub record GaveAll (old new : Option (List ℕ)) (text : List ℕ) : Type 0 wher
   pub within : length text ≤ 67108864
 
 -- What is promised of the record of a run. It is the record that the script has when it is played in rounds, of which there
--- is one for the moments that its clients read. It is legal: every line was done; on every edge what was taken is all that was put,
+-- is at most one for the moments that its clients read. It is legal: every line was done; on every edge what was taken is all that was put,
 -- in order; what a queue took of a subscription is its Create, what its link lets through of what was sent while it was
 -- live, and its Gone, and likewise of timers and inboxes; the callbacks are those that the queues make, with the orders of
 -- the plans. And whatever the links lose, repeat and hold back: each message that was delivered, or given to a listener, is its

@@ -32,10 +32,11 @@ pub enum NoLog {
 }
 
 /// Serves the command that the words name: `serial` reads a script from the source, plays it on one thread and writes
-/// its log to the sink. The clock is read once for each line of the script that asks for it. It always returns.
+/// its log to the sink. It always returns.
 ///
-/// At `Ok` the log is that of the one record that the script has where its clients read the moments of that record: `IsRun`
-/// says what is promised of it. No clause ties want of memory to its cause, nor the moments to the clock.
+/// At `Ok` the log is that of the record that the script has where its clients read the moments of that record: `IsRun`
+/// says what is promised of it. No clause ties want of memory to its cause. A line `now clock` reads the clock, which
+/// is tested: no clause says that the moments are the clock's.
 pub fn run_plain<S: Source, K: Sink, C: Clock>(
     alloc: Global,
     words: &[String],
@@ -54,7 +55,8 @@ pub fn run_plain<S: Source, K: Sink, C: Clock>(
     // The input is too long only where one byte more than the limit was taken.
     ensures too_long { IfOverLimit result (λ line limit. line ≡ 0 → (limit ≡ 1) × Lost (S.left source.old) (S.left source.new) 67108865) }
 
-    // A fault or a limit is that of the text that the source gave: its first line that has one.
+    // A fault or a limit is that of the text that the source gave: its first line that has one, where an object that is
+    // not there is looked for last.
     ensures bad_script { IfBadScript result (λ line fault. (text : List ℕ) × GaveAll (S.left source.old) (S.left source.new) text
         × (script_in text ≡ Err (script.Bad line fault))) }
     ensures over_limit { IfOverLimit result (λ line limit. (line ≢ 0) → (text : List ℕ) × GaveAll (S.left source.old) (S.left source.new) text

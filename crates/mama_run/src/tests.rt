@@ -112,6 +112,88 @@ fn tells_the_first_fault_of_a_script(rt: HostRuntime) -> Result<(), Fail> {
     Ok(())
 }
 
+/// A worked script: its lines after the first two, and a part of its log.
+struct Worked {
+    lines: &'static str,
+    moments: &'static [u64],
+    part: &'static str,
+}
+
+const WORKED: &[Worked] = &[
+    // Two gaps; the recap that the first asked for did not reach the second.
+    Worked {
+        lines: "topic \"EQ.ABC\"\npublisher 0 22:bid:u32:100\nupdate 22:bid:u32:101\nupdate 25:ask:u32:103\nupdate 22:bid:u32:102\nupdate 25:ask:u32:104\nupdate 22:bid:u32:105\nclient\nsub 0 market 0 10 1000\nfault lose 3\nfault hold 5 2\nfault lose 6\n",
+        moments: &[],
+        part: "on s0.0\ncreate\nmsg initial 1 0 ok 22:bid:u32:100\nmsg update 1 1 ok 22:bid:u32:101\ngap 2 2\nquality stale 1\nrequest 1\nmsg update 1 3 stale 22:bid:u32:102\ngap 4 4\nmsg update 1 5 stale 22:bid:u32:105\nrequest 1\nmsg recap 1 5 ok 22:bid:u32:105 25:ask:u32:104\nquality ok 5\ndestroy\n",
+    },
+    // Two publishers of one topic.
+    Worked {
+        lines: "topic \"EQ.ABC\"\npublisher 0 22:bid:u32:100\npause 1\nrecap\npublisher 0 22:bid:u32:200\nupdate 22:bid:u32:201\nclient\nsub 0 market 0 10 1000\n",
+        moments: &[],
+        part: "on s0.0\ncreate\nmsg initial 1 0 ok 22:bid:u32:100\nquality stale 0\nrequest 2\nmsg update 2 1 stale 22:bid:u32:201\nmsg recap 2 1 ok 22:bid:u32:201\nquality ok 1\nmsg recap 1 0 ok 22:bid:u32:100\ndestroy\n",
+    },
+    // What a link still holds comes before the notice, and the slot is given to the next.
+    Worked {
+        lines: "topic \"EQ.ABC\"\npublisher 0 22:bid:u32:100\nupdate 22:bid:u32:101\nclient\nsub 0 market 0 10 1000\nfault hold 2 5\nstop s0.0\nsub 0 market 0 10 1000\n",
+        moments: &[],
+        part: "queue 0\nb create 0 s0.0\nb data 0 s0.0 initial 1 0 22:bid:u32:100\nb data 0 s0.0 update 1 1 22:bid:u32:101\nb gone 0 s0.0\nb create 0 s0.1\nb data 0 s0.1 initial 1 1 22:bid:u32:101\nb gone 0 s0.1\nb fin\nt fin\n",
+    },
+    // A subscription that was stopped in its own callback hears nothing but its notice.
+    Worked {
+        lines: "topic \"EQ.ABC\"\npublisher 0 22:bid:u32:100\nupdate 22:bid:u32:101\nupdate 25:ask:u32:103\nupdate 22:bid:u32:102\nupdate 25:ask:u32:104\nupdate 22:bid:u32:105\nclient\nsub 0 basic 0 10 1000\nfault hold 1 4\nfault hold 2 3\nfault hold 3 2\nfault hold 4 1\nat 2 stop s0.0\n",
+        moments: &[],
+        part: "on s0.0\ncreate\nmsg update 1 5 ok 22:bid:u32:105\norder stop s0.0\ndestroy\n",
+    },
+    // Three stops of one subscription give one notice.
+    Worked {
+        lines: "topic \"EQ.ABC\"\npublisher 0 22:bid:u32:100\nupdate 22:bid:u32:101\nupdate 25:ask:u32:103\nupdate 22:bid:u32:102\nclient\nsub 0 market 0 10 1000\nat 2 stop s0.0\nstop s0.0\nclient\npause 1\nstop s0.0\n",
+        moments: &[],
+        part: "on s0.0\ncreate\nmsg initial 1 0 ok 22:bid:u32:100\norder stop s0.0\ndestroy\n",
+    },
+    // A moment that is earlier than the clock changes nothing.
+    Worked {
+        lines: "client\ntimer 0 10\nat 3 disarm t0.0\nnow 10\nnow 10\nnow 7\nnow 35\n",
+        moments: &[],
+        part: "on t0.0\ncreate\ntick 10\ntick 35\norder disarm t0.0\ndestroy\n",
+    },
+    // The first moment is the clock's.
+    Worked {
+        lines: "client\ntimer 0 10\nat 3 disarm t0.0\nnow clock\nnow 10\nnow 7\nnow 35\n",
+        moments: &[10],
+        part: "client 0\nclock 10\nbridge\nc0 done\nq0 bye\ntimers\nc0 arm t0.0\nc0 now 10\nc0 now 10\nc0 now 7\nc0 now 35\nq0 disarm t0.0\nc0 done\nb fin\nq0 bye\n",
+    },
+    // Clients read the clock in the order of the rounds.
+    Worked {
+        lines: "client\nnow clock\nnow clock\nclient\nnow clock\n",
+        moments: &[10, 20, 30],
+        part: "client 0\nclock 10\nclock 30\nclient 1\nclock 20\nbridge\n",
+    },
+    // Questions to inboxes: one that is closed in the same callback, and one whose reply comes twice.
+    Worked {
+        lines: "topic \"EQ.ABC\"\npublisher 0 22:bid:u32:100\nclient\ninbox 0\nat 1 ask i0.0 0 22\nat 1 close i0.0\ninbox 0\nfault dup 1\nask i0.1 0 22\n",
+        moments: &[],
+        part: "on i0.0\ncreate\norder ask i0.0 0 22\norder close i0.0\ndestroy\non i0.1\ncreate\nreply 22:bid:u32:100\nreply 22:bid:u32:100\ndestroy\n",
+    },
+];
+
+#[test]
+fn plays_scripts_of_each_kind(rt: HostRuntime) -> Result<(), Fail> {
+    let alloc = rt.alloc();
+    let words = words_of(alloc, &["serial"])?;
+    for worked in WORKED {
+        let mut text = Vec::from_slice(alloc, b"mama script 1\nqueues 1\n")?;
+        text.extend_from_slice(worked.lines.as_bytes())?;
+        let mut source = source_of(alloc, text.as_slice(), &[])?;
+        let mut sink = MemorySink::new(alloc, 4000, 1000, Vec::new(alloc))?;
+        let mut clock = MemoryClock::new(Vec::from_slice(alloc, worked.moments)?);
+        let status = run_plain(alloc, words.as_slice(), &mut source, &mut sink, &mut clock);
+        assert_eq!(rt; status, Status::Ok);
+        let log = str::from_utf8(sink.written()).expect(&rt, "the log is text");
+        assert!(rt; log.contains(worked.part));
+    }
+    Ok(())
+}
+
 /// A script whose publisher begins with so many fields.
 fn script_of_fields(alloc: Global, fields: u32) -> Result<Vec<u8>, AllocError> {
     let mut text = Vec::from_slice(alloc, b"mama script 1\nqueues 1\ntopic \"T\"\npublisher 0")?;
