@@ -1,11 +1,11 @@
 -- After the ending: it stays, no rows are left, and nothing is put but for what is joined or opened.
 use Rattle.std.specs.List.{list_any, flat_map}
-use Rattle.std.proofs.Common.{◌≡◌, ℕ, zero, suc, Bool, true, false, not, ◌&&◌, cond, List, [], ◌∷◌, ◌++◌, map, filter, set, Option, None, Some, refl, sym, ◌∙◌, ap, subst}
-use Rattle.std.proofs.lemmas.Bool.{and_parts, and_from, and_right, and_left}
+use Rattle.std.proofs.Common.{◌≡◌, ℕ, zero, suc, Bool, true, false, not, ◌&&◌, cond, List, [], ◌∷◌, ◌++◌, map, filter, set, Option, None, Some, refl, ◌∙◌, ap}
+use Rattle.std.proofs.lemmas.Bool.{and_parts, and_from, and_right}
 use Rattle.mama_journal.specs.Journal.{puts}
 use Rattle.mama_event.specs.declared.shape.Shape.{Shape}
 use Rattle.mama_event.specs.declared.to_publisher.PublisherNote.TheVariants as p
-use Rattle.mama_rules.specs.Bridge.{BridgeEvent, joins, leaves, opens, closes, asks, publishes, images, replies, wishes, client_done, sends_done, settled, bye, no_event, BridgePut, to_first, joins_sub, leaves_sub, opens_inbox, closes_inbox, lives, has_ending, newly_joined, newly_opened}
+use Rattle.mama_rules.specs.Bridge.{BridgeEvent, joins, leaves, opens, closes, asks, publishes, images, replies, wishes, client_done, sends_done, settled, bye, no_event, to_first, joins_sub, leaves_sub, opens_inbox, closes_inbox, lives, newly_joined, newly_opened}
 use Rattle.mama_bridge_rules.specs.Table.{SubRow, InboxRow, Table, table_next, table_of, marked, client_in, sender_in, settler_in, all_set, is_settling_by, is_ended_by, of_sub, of_inbox, settling_now, ended_now, begins_settling, begins_ending, is_on_topic_of, sub_emits, inbox_emits, sub_ends, inbox_ends, sub_wishes, settles_all, ends_all, closing, table_puts}
 use Rattle.mama_bridge_rules.proofs.TableLaws.{rows_are_live, flags_tell}
 use Rattle.mama_lawful.specs.Streams.{is_beginning}

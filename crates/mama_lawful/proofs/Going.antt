@@ -1,6 +1,6 @@
 -- A stream to a queue that goes on: what holds of its notes, by the blocks that are not finished and the objects known.
 use Rattle.std.specs.List.{list_any, fold}
-use Rattle.std.proofs.Common.{◌≡◌, ℕ, ◌==◌, Bool, true, false, not, ◌&&◌, ◌||◌, List, [], ◌∷◌, ◌++◌, length, filter, refl, sym, ◌∙◌, ap, subst, append-nil, append_assoc, eq-eqb, ⊎_elim}
+use Rattle.std.proofs.Common.{◌≡◌, ◌==◌, Bool, true, false, not, ◌&&◌, ◌||◌, List, [], ◌∷◌, ◌++◌, length, refl, sym, ◌∙◌, ap, subst, append-nil, append_assoc, eq-eqb, ⊎_elim}
 use Rattle.std.proofs.lemmas.Bool.{and_from, or_left, or_right, or_from, or_cases, false_from_ne_true, both_ways}
 use Rattle.mama_event.specs.Lawful.{IsLawful, may_follow}
 use Rattle.mama_event.specs.LawfulLaws.{IsLawful-start, IsLawful-push}

@@ -1,10 +1,7 @@
 -- Lemmas on lists of things that are apart by a key: one is put in or taken out, and the one of a key is found.
-use Rattle.std.specs.Prelude.{Option}
-use Rattle.std.specs.List.{list_any, flat_map}
-use Rattle.std.proofs.Common.{◌≡◌, ℕ, zero, suc, ◌+◌, ◌==◌, Bool, true, false, not, ◌&&◌, ◌||◌, cond, List, [], ◌∷◌, ◌++◌, length, map, filter, refl, sym, ◌∙◌, ap, subst, arith, append-nil, append_assoc, eq-eqb, ne_eqb, ⊎_elim}
-use Rattle.std.proofs.lemmas.Bool.{or_parts, or_from, cases_Bool, false_from_ne_true, eqb-true, cases_eq, both_ways}
-use Rattle.std.proofs.lemmas.List.Folds.{list_any-append}
-use Rattle.mama_journal.specs.Journal.{count_of}
+use Rattle.std.specs.List.{list_any}
+use Rattle.std.proofs.Common.{◌≡◌, ℕ, ◌==◌, Bool, true, false, not, ◌&&◌, ◌||◌, cond, List, [], ◌∷◌, ◌++◌, filter, refl, sym, ◌∙◌, ap, subst, eq-eqb, ne_eqb, ⊎_elim}
+use Rattle.std.proofs.lemmas.Bool.{or_parts, or_from, cases_Bool, both_ways}
 use Rattle.mama_bridge_rules.specs.Laws.{Alone}
 
 -- ---- tests of a list

@@ -1,6 +1,6 @@
 -- What the bridge puts to each queue is a stream that the queue may be given.
-use Rattle.std.specs.List.{list_any, flat_map}
-use Rattle.std.proofs.Common.{◌≡◌, ℕ, Bool, true, false, not, ◌&&◌, List, [], ◌∷◌, ◌++◌, refl, sym, ◌∙◌, ap, subst, append-nil, append_assoc, ⊎_elim}
+use Rattle.std.specs.List.{flat_map}
+use Rattle.std.proofs.Common.{◌≡◌, ℕ, true, false, not, List, [], ◌∷◌, ◌++◌, refl, sym, ◌∙◌, ap, subst, append-nil, append_assoc, ⊎_elim}
 use Rattle.std.proofs.lemmas.Bool.{and_from, and_left, cases_Bool, both_ways}
 use Rattle.std.proofs.lemmas.List.Concat.{flat_map-append}
 use Rattle.mama_journal.specs.Journal.{all_puts}
@@ -8,17 +8,15 @@ use Rattle.mama_event.specs.declared.shape.Shape.{Shape}
 use Rattle.mama_event.specs.declared.to_queue.QueueNote.{QueueNote}
 use Rattle.mama_event.specs.Lawful.{IsLawful}
 use Rattle.mama_event.specs.LawfulLaws.{IsLawful-start}
-use Rattle.mama_event.specs.Object.{same_sub, same_inbox}
 use Rattle.mama_event.specs.ToQueue.{is_last, fits, open_blocks}
-use Rattle.mama_rules.specs.Bridge.{BridgeEvent, joins, leaves, opens, closes, asks, publishes, images, replies, wishes, client_done, sends_done, settled, bye, no_event, BridgePut, has_ending, bridge_reaction}
-use Rattle.mama_bridge_rules.specs.Laws.{Alone}
-use Rattle.mama_bridge_rules.specs.Table.{SubRow, InboxRow, Table, empty_table, table_next, table_of, ended_now, begins_ending, closing, table_puts}
+use Rattle.mama_rules.specs.Bridge.{BridgeEvent, joins, leaves, opens, closes, asks, publishes, images, replies, wishes, client_done, sends_done, settled, bye, no_event, BridgePut, bridge_reaction}
+use Rattle.mama_bridge_rules.specs.Table.{Table, empty_table, table_next, table_of, ended_now, table_puts}
 use Rattle.mama_bridge_rules.proofs.Lists.{by_entries, all_puts-push}
 use Rattle.mama_bridge_rules.proofs.Next.{tied, table_of-push}
 use Rattle.mama_bridge_rules.proofs.Reaction.{reaction}
 use Rattle.mama_bridge_rules.proofs.TableLaws.{rows_are_live, flags_tell}
-use Rattle.mama_lawful.specs.Streams.{queue_part, is_beginning, IsTimely}
-use Rattle.mama_lawful.proofs.Going.{Going, going_start}
+use Rattle.mama_lawful.specs.Streams.{queue_part, IsTimely}
+use Rattle.mama_lawful.proofs.Going.{going_start}
 use Rattle.mama_lawful.proofs.Steps.{known, part, Goes, goes_on, comes_to_end}
 use Rattle.mama_lawful.proofs.Ended.{ended_stays, no_subs, no_inboxes, none_late}
 

@@ -1,17 +1,16 @@
 -- What rows of one kind put to one queue: words of their blocks, and their ends.
 use Rattle.std.specs.Prelude.{Some}
 use Rattle.std.specs.List.{list_any, flat_map}
-use Rattle.std.proofs.Common.{◌≡◌, ℕ, ◌==◌, Bool, true, false, not, ◌&&◌, ◌||◌, cond, List, [], ◌∷◌, ◌++◌, map, filter, refl, sym, ◌∙◌, ap, subst, append-nil, append_assoc, ⊎_elim, ◌⊎◌}
-use Rattle.std.proofs.lemmas.Bool.{or_left, or_right, cases_Bool, both_ways}
+use Rattle.std.proofs.Common.{◌≡◌, ℕ, ◌==◌, Bool, true, false, ◌||◌, cond, List, [], ◌∷◌, ◌++◌, map, filter, refl, sym, ◌∙◌, ap, subst, append-nil, append_assoc, ⊎_elim, ◌⊎◌}
+use Rattle.std.proofs.lemmas.Bool.{or_left, or_right, cases_Bool}
 use Rattle.std.proofs.lemmas.List.Concat.{flat_map-append}
-use Rattle.std.proofs.lemmas.List.Folds.{list_any-append}
 use Rattle.mama_event.specs.ToQueue.{Block}
 use Rattle.mama_event.specs.declared.ids.ObjectId.{ObjectId}
 use Rattle.mama_event.specs.declared.to_queue.QueueNote.{QueueNote}
 use Rattle.mama_event.specs.declared.to_queue.QueueNote.TheVariants as q
 use Rattle.mama_rules.specs.Bridge.{BridgePut, to_queue, slot_on}
 use Rattle.mama_bridge_rules.specs.Table.{changed, without}
-use Rattle.mama_bridge_rules.proofs.Lists.{Each, each_all, each_map, each_weaker}
+use Rattle.mama_bridge_rules.proofs.Lists.{Each, each_all, each_map}
 use Rattle.mama_lawful.specs.Streams.{queue_part}
 use Rattle.mama_lawful.proofs.Lists.{Split, split_chosen, split_others, kept_all, none_kept}
 use Rattle.mama_lawful.proofs.Going.{is_block, Going, Belongs, going_words, going_gone, is_itself, in_middle}

@@ -1,8 +1,7 @@
 -- What of the bridge's puts goes to no queue, and what ends no stream.
 use Rattle.std.specs.Prelude.{position}
-use Rattle.std.specs.List.{list_any, flat_map}
-use Rattle.std.proofs.Common.{◌≡◌, ℕ, ◌==◌, ◌-◌, Bool, true, false, not, ◌&&◌, ◌||◌, cond, List, [], ◌∷◌, ◌++◌, map, filter, Option, None, Some, refl, sym, ◌∙◌, ap, subst, append-nil}
-use Rattle.std.proofs.lemmas.List.Concat.{flat_map-append}
+use Rattle.std.specs.List.{flat_map}
+use Rattle.std.proofs.Common.{◌≡◌, ℕ, ◌==◌, ◌-◌, Bool, true, false, cond, List, [], ◌∷◌, ◌++◌, Option, None, Some, refl, ◌∙◌, ap}
 use Rattle.mama_journal.specs.Journal.{numbers_below}
 use Rattle.mama_event.specs.declared.ids.SubId.{SubId}
 use Rattle.mama_event.specs.declared.market.MsgKind.TheVariants.{Initial, Recap}
@@ -14,8 +13,8 @@ use Rattle.mama_event.specs.declared.to_publisher.PublisherNote.TheVariants as p
 use Rattle.mama_event.specs.declared.to_queue.QueueNote.{QueueNote}
 use Rattle.mama_event.specs.Ports.{publishers_of}
 use Rattle.mama_rules.specs.Bridge.{BridgePut, to_publisher, to_queue, to_timers, to_found, to_first, wants_image}
-use Rattle.mama_bridge_rules.specs.Table.{SubRow, Table, may_ask, sub_wishes, settles_all}
-use Rattle.mama_bridge_rules.proofs.Lists.{Each, each_all, each_append, each_map, each_flat_map}
+use Rattle.mama_bridge_rules.specs.Table.{SubRow, may_ask, sub_wishes, settles_all}
+use Rattle.mama_bridge_rules.proofs.Lists.{Each, each_all, each_map, each_flat_map}
 use Rattle.mama_lawful.specs.Streams.{queue_part}
 
 -- no put is to a queue, nor the last of a stream

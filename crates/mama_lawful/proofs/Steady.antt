@@ -1,8 +1,7 @@
 -- What the bridge puts before the ending ends no stream of a publisher, and nothing of it goes to the timers.
 use Rattle.std.specs.List.{list_any, flat_map}
-use Rattle.std.proofs.Common.{◌≡◌, ℕ, ◌+◌, ◌-◌, Bool, true, false, not, ◌&&◌, ◌||◌, cond, List, [], ◌∷◌, ◌++◌, length, map, filter, refl, sym, ◌∙◌, ap, subst, append-nil, append_assoc}
+use Rattle.std.proofs.Common.{◌≡◌, ◌+◌, Bool, true, false, not, ◌&&◌, cond, List, [], ◌∷◌, ◌++◌, length, filter, refl, sym, subst, append-nil}
 use Rattle.mama_msg.specs.Field.{FieldData}
-use Rattle.mama_journal.specs.Journal.{numbers_below}
 use Rattle.mama_link.specs.Link.{emit, rest}
 use Rattle.mama_event.specs.declared.ids.ObjectId.TheVariants.{Sub, Inbox}
 use Rattle.mama_event.specs.declared.market.MarketMsg.{MarketMsg}

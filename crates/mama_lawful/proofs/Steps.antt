@@ -1,8 +1,7 @@
 -- What an event before the ending puts to one queue goes on with the stream there, and the ending ends it.
-use Rattle.std.specs.Prelude.{Some}
 use Rattle.std.specs.List.{list_any, flat_map}
 use Rattle.std.proofs.Common.{◌≡◌, ℕ, zero, suc, ◌+◌, ◌≤◌, ◌==◌, Bool, true, false, not, ◌&&◌, ◌||◌, cond, List, [], ◌∷◌, ◌++◌, length, map, filter, refl, sym, ◌∙◌, ap, subst, arith, append-nil, append_assoc, eq-eqb, ne_eqb, inl, inr, ⊎_elim, ◌⊎◌}
-use Rattle.std.proofs.lemmas.Bool.{or_left, or_right, cases_Bool, both_ways, eqb-true, cases_eq}
+use Rattle.std.proofs.lemmas.Bool.{or_left, or_right, cases_Bool, eqb-true, cases_eq}
 use Rattle.std.proofs.lemmas.List.{map-append}
 use Rattle.std.proofs.lemmas.List.Concat.{flat_map-append}
 use Rattle.std.proofs.lemmas.List.Folds.{list_any-append}
@@ -30,14 +29,14 @@ use Rattle.mama_event.specs.EqualityLaws.{same_sub-Decides, same_inbox-Decides}
 use Rattle.mama_event.specs.ToQueue.{Block, is_last, fits, open_blocks, is_for_port, is_made_as}
 use Rattle.mama_rules.specs.Bridge.{BridgeEvent, joins, leaves, opens, closes, asks, publishes, images, replies, wishes, client_done, sends_done, settled, bye, no_event, BridgePut, to_publisher, to_queue, to_timers, to_first, wants_image}
 use Rattle.mama_bridge_rules.specs.Laws.{Alone}
-use Rattle.mama_bridge_rules.specs.Table.{SubRow, InboxRow, Table, table_next, of_sub, of_inbox, has_joined, has_opened, settling_now, ended_now, begins_settling, begins_ending, sub_slots, inbox_slots, slot_for, sub_passed, inbox_passed, is_on_topic_of, may_ask, sub_wished, sub_emits, inbox_emits, sub_ends, inbox_ends, sub_wishes, settles_all, ends_all, closing, table_puts, joined_next, opened_next, kept, new_sub, new_inbox, subs_next, inboxes_next}
-use Rattle.mama_bridge_rules.proofs.Lists.{Each, each_filter}
+use Rattle.mama_bridge_rules.specs.Table.{SubRow, InboxRow, Table, table_next, of_sub, of_inbox, has_joined, has_opened, settling_now, ended_now, begins_settling, begins_ending, sub_slots, inbox_slots, slot_for, sub_passed, inbox_passed, is_on_topic_of, may_ask, sub_wished, sub_emits, inbox_emits, sub_ends, inbox_ends, settles_all, ends_all, closing, table_puts, kept, new_sub, new_inbox}
+use Rattle.mama_bridge_rules.proofs.Lists.{each_filter}
 use Rattle.mama_bridge_rules.proofs.Live.{list_any-push}
 use Rattle.mama_lawful.specs.Streams.{queue_part}
-use Rattle.mama_lawful.proofs.Lists.{Split, split_of}
+use Rattle.mama_lawful.proofs.Lists.{split_of}
 use Rattle.mama_lawful.proofs.Slots.{least_free-free}
 use Rattle.mama_lawful.proofs.Going.{Going, Belongs, going_more, going_create, all_finished, lawful_fin, open-push}
-use Rattle.mama_lawful.proofs.Rows.{block_of, blocks_of, blocks_append, blocks_changed, Held, all_held, going_all_told, going_all_ended, going_left, blocks_slots}
+use Rattle.mama_lawful.proofs.Rows.{blocks_of, blocks_append, blocks_changed, Held, all_held, going_all_told, going_all_ended, going_left, blocks_slots}
 use Rattle.mama_lawful.proofs.Silence.{Silent, silent_part, silent_first, silent_image, silent_if, silent_wishes, silent_settles}
 
 -- ---- the two kinds of rows

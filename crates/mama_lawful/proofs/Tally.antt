@@ -1,10 +1,10 @@
 -- How often a lawful stream to a queue creates an object and says that it is gone.
 use Rattle.std.specs.List.{list_any}
-use Rattle.std.proofs.Common.{◌≡◌, ℕ, zero, suc, ◌+◌, ◌≤◌, ◌==◌, Bool, true, false, not, ◌&&◌, ◌||◌, cond, List, [], ◌∷◌, ◌++◌, length, filter, refl, sym, ◌∙◌, ap, subst, arith, append-nil, append_assoc, ⊎_elim}
+use Rattle.std.proofs.Common.{◌≡◌, ℕ, suc, ◌+◌, ◌≤◌, ◌==◌, Bool, true, false, not, ◌&&◌, ◌||◌, cond, List, [], ◌∷◌, ◌++◌, refl, sym, ◌∙◌, ap, subst, arith, append-nil, ⊎_elim}
 use Rattle.std.proofs.lemmas.Bool.{and_parts, or_cases, or_parts, cases_Bool, both_ways, eqb-true, not-true, false_from_ne_true}
 use Rattle.std.proofs.lemmas.List.Folds.{list_any-append}
 use Rattle.mama_journal.specs.Journal.{count_of}
-use Rattle.mama_event.specs.Lawful.{IsLawful, may_follow}
+use Rattle.mama_event.specs.Lawful.{IsLawful}
 use Rattle.mama_event.specs.LawfulLaws.{IsLawful-prefix, IsLawful-at}
 use Rattle.mama_event.specs.Object.{same_object}
 use Rattle.mama_event.specs.EqualityLaws.{same_object-Decides}

@@ -1,21 +1,19 @@
 -- Where each client put what it may, nothing is joined or opened after the ending.
 use Rattle.std.specs.List.{list_any}
-use Rattle.std.proofs.Common.{◌≡◌, ℕ, zero, suc, ◌<◌, ◌-◌, ◌==◌, Bool, true, false, not, ◌&&◌, ◌||◌, cond, List, [], ◌∷◌, ◌++◌, map, refl, sym, ◌∙◌, ap, subst, arith, eq-eqb, ⊎_elim}
-use Rattle.std.specs.Prelude.{nat_lt}
-use Rattle.std.proofs.lemmas.Bool.{and_parts, or_left, or_right, or_cases, cases_Bool, cases_lt, both_ways, eqb-true, ltb-true, false_from_ne_true}
+use Rattle.std.proofs.Common.{◌≡◌, ℕ, zero, suc, ◌<◌, ◌-◌, ◌==◌, Bool, true, false, not, cond, List, [], ◌∷◌, ◌++◌, map, refl, sym, ◌∙◌, ap, subst, arith, eq-eqb, ⊎_elim}
+use Rattle.std.proofs.lemmas.Bool.{and_parts, or_left, or_right, or_cases, cases_Bool, cases_lt, both_ways, ltb-true, false_from_ne_true}
 use Rattle.mama_journal.specs.Journal.{all_below}
 use Rattle.mama_journal.specs.Lane.{by_port}
 use Rattle.mama_event.specs.Lawful.{IsLawful}
 use Rattle.mama_event.specs.LawfulLaws.{IsLawful-at}
-use Rattle.mama_event.specs.Object.{same_sub, same_inbox}
 use Rattle.mama_event.specs.Ports.{clients_of, publishers_of, is_bridge_port_of_client, is_bridge_port_of_publisher, is_bridge_port_of_queue}
 use Rattle.mama_event.specs.ToBridge as bridge
 use Rattle.mama_event.specs.declared.shape.Shape.{Shape}
 use Rattle.mama_event.specs.declared.to_bridge.BridgeNote.{BridgeNote}
 use Rattle.mama_event.specs.declared.to_bridge.BridgeNote.TheVariants as b
 use Rattle.mama_rules.specs.Ports.{Putter, ByClient, ByPublisher, ByQueue, ByBridge, ByTimers, ByNobody, bridge_putter}
-use Rattle.mama_rules.specs.Bridge.{BridgeEvent, joins, opens, no_event, put_by, heard, ends_client, ends_sends, is_settling, has_ending}
-use Rattle.mama_lawful.specs.Streams.{is_beginning, IsTimely, ClientsAreLawful}
+use Rattle.mama_rules.specs.Bridge.{BridgeEvent, joins, opens, no_event, put_by, heard, ends_client, is_settling, has_ending}
+use Rattle.mama_lawful.specs.Streams.{is_beginning}
 use Rattle.mama_lawful.specs.Laws.{LawfulClientsAreTimely}
 
 -- ---- who joins, and who is done

@@ -17,7 +17,6 @@ use Rattle.mama_event.specs.declared.to_bridge.BridgeNote.TheVariants as b
 use Rattle.mama_event.specs.declared.to_queue.Make.TheVariants as make
 use Rattle.mama_event.specs.declared.to_queue.QueueNote.{QueueNote}
 use Rattle.mama_event.specs.declared.to_queue.QueueNote.TheVariants as q
-use Rattle.mama_event.specs.declared.to_publisher.PublisherNote.TheVariants as p
 use Rattle.mama_event.specs.declared.to_timers.TimersNote.TheVariants as t
 use Rattle.mama_event.specs.declared.shape.Shape.{Shape}
 use Rattle.mama_lawful.specs.Streams.{queue_stream, publisher_stream, timers_stream, is_gone}

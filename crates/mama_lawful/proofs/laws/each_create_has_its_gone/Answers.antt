@@ -1,5 +1,5 @@
 use Rattle.std.specs.Prelude.{List}
-use Rattle.std.proofs.Common.{◌≡◌, ◌+◌, ◌∙◌, ap, sym, arith}
+use Rattle.std.proofs.Common.{◌+◌, ◌∙◌, ap, sym, arith}
 use Rattle.mama_journal.specs.Journal.{count_of}
 use Rattle.mama_event.specs.ToQueue.{Block}
 use Rattle.mama_event.specs.Object.{same_object}
