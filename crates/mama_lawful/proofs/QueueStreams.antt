@@ -6,7 +6,7 @@ use Rattle.std.proofs.lemmas.List.Concat.{flat_map-append}
 use Rattle.mama_journal.specs.Journal.{all_puts}
 use Rattle.mama_event.specs.declared.shape.Shape.{Shape}
 use Rattle.mama_event.specs.declared.to_queue.QueueNote.{QueueNote}
-use Rattle.mama_event.specs.Lawful.{IsLawful}
+use Rattle.mama_event.specs.Lawful.{each_fits, IsLawful}
 use Rattle.mama_event.specs.LawfulLaws.{IsLawful-start}
 use Rattle.mama_event.specs.ToQueue.{is_last, fits, open_blocks}
 use Rattle.mama_rules.specs.Bridge.{BridgeEvent, joins, leaves, opens, closes, asks, publishes, images, replies, wishes, client_done, sends_done, settled, bye, no_event, BridgePut, bridge_reaction}
@@ -15,9 +15,9 @@ use Rattle.mama_bridge_rules.proofs.Lists.{by_entries, all_puts-push}
 use Rattle.mama_bridge_rules.proofs.Next.{tied, table_of-push}
 use Rattle.mama_bridge_rules.proofs.Reaction.{reaction}
 use Rattle.mama_bridge_rules.proofs.TableLaws.{rows_are_live, flags_tell}
-use Rattle.mama_lawful.specs.Streams.{queue_part, IsTimely}
+use Rattle.mama_lawful.specs.Streams.{queue_part, IsTimely, takes_least}
 use Rattle.mama_lawful.proofs.Going.{going_start}
-use Rattle.mama_lawful.proofs.Steps.{known, part, Goes, goes_on, comes_to_end}
+use Rattle.mama_lawful.proofs.Steps.{Ended, known, part, Goes, goes_on, comes_to_end}
 use Rattle.mama_lawful.proofs.Ended.{ended_stays, no_subs, no_inboxes, none_late}
 
 -- ---- along what was heard
@@ -44,12 +44,13 @@ module _ (queue : ℕ) (shape : Shape) where
   -- a stream by the table: it goes on until the ending, and then all blocks are finished
   pub record Streamed (table : Table) (notes : List QueueNote) : Type 0 where
     pub lawful : IsLawful is_last (fits 0) notes
+    pub least : each_fits takes_least [] notes ≡ true
     pub going : ended_now table ≡ false → Goes queue shape table notes
     pub finished : ended_now table ≡ true → open_blocks notes ≡ []
 
   -- the ending comes with this event
   ending : (table : Table) (e : BridgeEvent) (notes : List QueueNote) → ended_now table ≡ false → ended_now (table_next shape table e) ≡ true → Goes queue shape table notes
-      → IsLawful is_last (fits 0) (notes ++ part queue shape (table_puts shape table e)) × (open_blocks (notes ++ part queue shape (table_puts shape table e)) ≡ [])
+      → Ended (notes ++ part queue shape (table_puts shape table e))
   ending table (client_done c) notes yet now g = comes_to_end queue shape table notes g (client_done c) (and_from (ended_now (table_next shape table (client_done c))) (not (ended_now table)) now (ap not yet))
   ending table (sends_done c) notes yet now g = comes_to_end queue shape table notes g (sends_done c) (and_from (ended_now (table_next shape table (sends_done c))) (not (ended_now table)) now (ap not yet))
   ending table (settled c) notes yet now g = comes_to_end queue shape table notes g (settled c) (and_from (ended_now (table_next shape table (settled c))) (not (ended_now table)) now (ap not yet))
@@ -77,21 +78,24 @@ module _ (queue : ℕ) (shape : Shape) where
       subst (λ (ps : List BridgePut). Streamed next (notes ++ part queue shape ps)) (sym quiet)
       (subst (Streamed next) (sym (append-nil notes)) (record {
         lawful = before.lawful;
+        least = before.least;
         going = λ yet. absurd (both_ways (ended_now next) yet (ended_stays shape table e ended));
         finished = λ now. before.finished ended;
       })))
       (λ (yet : ended_now table ≡ false). ⊎_elim
       (λ (now : ended_now next ≡ true).
-      let both = ending table e notes yet now (before.going yet) in
+      let all = ending table e notes yet now (before.going yet) in
       record {
-        lawful = both.0;
+        lawful = all.lawful;
+        least = all.least;
         going = λ not_now. absurd (both_ways (ended_now next) not_now now);
-        finished = λ h. both.1;
+        finished = λ h. all.finished;
       })
       (λ (still : ended_now next ≡ false).
       let g = goes_on queue shape table notes (before.going yet) e live.subs_once live.inboxes_once yet (and_left (ended_now next) (not (ended_now table)) still) in
       record {
         lawful = g.lawful;
+        least = g.least;
         going = λ h. g;
         finished = λ now. absurd (both_ways (ended_now next) still now);
       })
@@ -101,6 +105,7 @@ module _ (queue : ℕ) (shape : Shape) where
   start : Streamed (empty_table shape) []
   start = record {
     lawful = IsLawful-start is_last (fits 0);
+    least = refl;
     going = λ yet. going_start (known [] []);
     finished = λ now. refl;
   }

@@ -6,7 +6,7 @@ use Rattle.std.proofs.lemmas.List.{map-append}
 use Rattle.std.proofs.lemmas.List.Concat.{flat_map-append}
 use Rattle.std.proofs.lemmas.List.Folds.{list_any-append}
 use Rattle.mama_msg.specs.Field.{FieldData}
-use Rattle.mama_journal.specs.Journal.{numbers_below}
+use Rattle.mama_journal.specs.Journal.{numbers_below, least_free}
 use Rattle.mama_link.specs.Link.{emit, rest}
 use Rattle.mama_event.specs.declared.ids.SubId.{SubId}
 use Rattle.mama_event.specs.declared.ids.InboxId.{InboxId}
@@ -22,7 +22,7 @@ use Rattle.mama_event.specs.declared.to_queue.Make.{Make}
 use Rattle.mama_event.specs.declared.to_queue.Make.TheVariants as make
 use Rattle.mama_event.specs.declared.to_queue.QueueNote.{QueueNote}
 use Rattle.mama_event.specs.declared.to_queue.QueueNote.TheVariants as q
-use Rattle.mama_event.specs.Lawful.{IsLawful}
+use Rattle.mama_event.specs.Lawful.{each_fits, IsLawful}
 use Rattle.mama_event.specs.Ports.{publishers_of, queues_of}
 use Rattle.mama_event.specs.Object.{same_sub, same_inbox, same_object}
 use Rattle.mama_event.specs.EqualityLaws.{same_sub-Decides, same_inbox-Decides}
@@ -30,12 +30,12 @@ use Rattle.mama_event.specs.ToQueue.{Block, is_last, fits, open_blocks, is_for_p
 use Rattle.mama_rules.specs.Bridge.{BridgeEvent, joins, leaves, opens, closes, asks, publishes, images, replies, wishes, client_done, sends_done, settled, bye, no_event, BridgePut, to_publisher, to_queue, to_timers, to_first, wants_image}
 use Rattle.mama_bridge_rules.specs.Laws.{Alone}
 use Rattle.mama_bridge_rules.specs.Table.{SubRow, InboxRow, Table, table_next, of_sub, of_inbox, has_joined, has_opened, settling_now, ended_now, begins_settling, begins_ending, sub_slots, inbox_slots, slot_for, sub_passed, inbox_passed, is_on_topic_of, may_ask, sub_wished, sub_emits, inbox_emits, sub_ends, inbox_ends, settles_all, ends_all, closing, table_puts, kept, new_sub, new_inbox}
-use Rattle.mama_bridge_rules.proofs.Lists.{each_filter}
+use Rattle.mama_bridge_rules.proofs.Lists.{each_filter, list_any-map}
 use Rattle.mama_bridge_rules.proofs.Live.{list_any-push}
-use Rattle.mama_lawful.specs.Streams.{queue_part}
+use Rattle.mama_lawful.specs.Streams.{queue_part, takes_least}
 use Rattle.mama_lawful.proofs.Lists.{split_of}
-use Rattle.mama_lawful.proofs.Slots.{least_free-free}
-use Rattle.mama_lawful.proofs.Going.{Going, Belongs, going_more, going_create, all_finished, lawful_fin, open-push}
+use Rattle.mama_lawful.proofs.Slots.{least_free-same}
+use Rattle.mama_lawful.proofs.Going.{Going, Belongs, going_more, going_create, all_finished, lawful_fin, least_fin, open-push}
 use Rattle.mama_lawful.proofs.Rows.{blocks_of, blocks_append, blocks_changed, Held, all_held, going_all_told, going_all_ended, going_left, blocks_slots}
 use Rattle.mama_lawful.proofs.Silence.{Silent, silent_part, silent_first, silent_image, silent_if, silent_wishes, silent_settles}
 
@@ -51,7 +51,7 @@ abbrev pub sub_says : SubRow → MarketMsg → QueueNote
 sub_says row m = q.Deliver row.slot row.sub m
 
 pub sub_belongs : (row : SubRow) (m : MarketMsg) → Belongs (sub_block row) (sub_says row m)
-sub_belongs row m = record { fit = λ before. refl; last = refl; still = λ blocks. refl; makes = λ o. refl }
+sub_belongs row m = record { fit = λ before. refl; least = λ before. refl; last = refl; still = λ blocks. refl; makes = λ o. refl }
 
 abbrev pub inbox_place : InboxRow → ℕ
 inbox_place row = row.terms.queue
@@ -63,7 +63,7 @@ abbrev pub inbox_says : InboxRow → List FieldData → QueueNote
 inbox_says row body = q.Reply row.slot row.inbox body
 
 pub inbox_belongs : (row : InboxRow) (body : List FieldData) → Belongs (inbox_block row) (inbox_says row body)
-inbox_belongs row body = record { fit = λ before. refl; last = refl; still = λ blocks. refl; makes = λ o. refl }
+inbox_belongs row body = record { fit = λ before. refl; least = λ before. refl; last = refl; still = λ blocks. refl; makes = λ o. refl }
 
 -- the objects that ever were
 abbrev pub known : List SubId → List InboxId → ObjectId → Bool
@@ -91,11 +91,11 @@ opened_more joined opened i (Sub s) h = sym (or_none (list_any (λ (r : SubId). 
 
 -- a Create that goes to the queue, or elsewhere
 create_here : (here : Bool) (xs ys : List Block) (b : Block) (was more : ObjectId → Bool) (notes : List QueueNote) (make : Make) (tag : ObjectId)
-    → is_for_port 0 b.object ≡ true → is_made_as make b.object ≡ true → (here ≡ true → list_any (λ (c : Block). c.slot == b.slot) (xs ++ ys) ≡ false) → was b.object ≡ false
+    → is_for_port 0 b.object ≡ true → is_made_as make b.object ≡ true → (here ≡ true → b.slot ≡ least_free (map (λ (c : Block). c.slot) (xs ++ ys))) → was b.object ≡ false
     → ((o : ObjectId) → (was o || same_object b.object o) ≡ true → more o ≡ true)
     → Going (xs ++ ys) was notes → Going (xs ++ (cond here (b ∷ []) [] ++ ys)) more (notes ++ cond here (q.Create b.slot b.object make tag ∷ []) [])
-create_here true xs ys b was more notes make tag port kind free new grows g = going_create xs ys b was more notes make tag port kind (free refl) new grows g
-create_here false xs ys b was more notes make tag port kind free new grows g =
+create_here true xs ys b was more notes make tag port kind least new grows g = going_create xs ys b was more notes make tag port kind (least refl) new grows g
+create_here false xs ys b was more notes make tag port kind least new grows g =
     subst (Going (xs ++ ys) more) (sym (append-nil notes)) (going_more (xs ++ ys) was more notes (λ o h. grows o (or_left (was o) (same_object b.object o) h)) g)
 
 -- the Fin that goes to one queue
@@ -119,6 +119,12 @@ fins_to queue (suc n) =
           (cases_eq n queue),
     )
 
+-- a stream that the ending ended
+pub record Ended (notes : List QueueNote) : Type 0 where
+  pub lawful : IsLawful is_last (fits 0) notes
+  pub least : each_fits takes_least [] notes ≡ true
+  pub finished : open_blocks notes ≡ []
+
 module _ (queue : ℕ) (shape : Shape) where
   abbrev pub sub_blocks : List SubRow → List Block
   sub_blocks rows = blocks_of queue sub_place sub_block sub_says sub_belongs rows
@@ -139,16 +145,18 @@ module _ (queue : ℕ) (shape : Shape) where
     was : ObjectId → Bool
     was o = known table.joined table.opened o
 
-    -- the slot that is given next on a queue is free there
-    slot_is_free : (k : ℕ) → (k == queue) ≡ true → list_any (λ (c : Block). c.slot == slot_for k table) (sub_blocks table.subs ++ inbox_blocks table.inboxes) ≡ false
-    slot_is_free k here =
-        let at : ℕ → Bool = λ (n : ℕ). n == slot_for k table in
-        list_any-append (λ (c : Block). at c.slot) (sub_blocks table.subs) (inbox_blocks table.inboxes)
-        ∙ ap (λ (b : Bool). b || list_any (λ (c : Block). at c.slot) (inbox_blocks table.inboxes)) (blocks_slots queue sub_place sub_block sub_says sub_belongs at table.subs)
-        ∙ ap (λ (b : Bool). list_any at (sub_slots queue table.subs) || b) (blocks_slots queue inbox_place inbox_block inbox_says inbox_belongs at table.inboxes)
-        ∙ sym (list_any-append at (sub_slots queue table.subs) (inbox_slots queue table.inboxes))
-        ∙ ap (λ (n : ℕ). list_any at (sub_slots n table.subs ++ inbox_slots n table.inboxes)) (sym (eqb-true k queue here))
-        ∙ least_free-free (sub_slots k table.subs ++ inbox_slots k table.inboxes)
+    -- the slot that is given next on a queue is the least one that is free there
+    slot_is_least : (k : ℕ) → (k == queue) ≡ true → slot_for k table ≡ least_free (map (λ (c : Block). c.slot) (sub_blocks table.subs ++ inbox_blocks table.inboxes))
+    slot_is_least k here =
+        let blocks : List Block = sub_blocks table.subs ++ inbox_blocks table.inboxes in
+        let used : List ℕ = sub_slots queue table.subs ++ inbox_slots queue table.inboxes in
+        ap (λ (n : ℕ). slot_for n table) (eqb-true k queue here)
+        ∙ least_free-same used (map (λ (c : Block). c.slot) blocks) (λ p.
+        list_any-append p (sub_slots queue table.subs) (inbox_slots queue table.inboxes)
+        ∙ ap (λ (b : Bool). b || list_any p (inbox_slots queue table.inboxes)) (sym (blocks_slots queue sub_place sub_block sub_says sub_belongs p table.subs))
+        ∙ ap (λ (b : Bool). list_any (λ (c : Block). p c.slot) (sub_blocks table.subs) || b) (sym (blocks_slots queue inbox_place inbox_block inbox_says inbox_belongs p table.inboxes))
+        ∙ sym (list_any-append (λ (c : Block). p c.slot) (sub_blocks table.subs) (inbox_blocks table.inboxes))
+        ∙ sym (list_any-map p (λ (c : Block). c.slot) blocks))
 
     sub_joins : (s : SubId) (terms : SubTerms) (tag : ObjectId) (had ended : Bool) → has_joined s table ≡ had → ended ≡ false
         → Going (sub_blocks (cond had table.subs (table.subs ++ kept ended (new_sub table s terms ∷ []))) ++ inbox_blocks table.inboxes)
@@ -170,7 +178,7 @@ module _ (queue : ℕ) (shape : Shape) where
         subst (λ (bs : List Block). Going bs more (notes ++ (create ++ part (wants_image shape s terms.kind terms.topic)))) blocks
         (subst (λ (ns : List QueueNote). Going (sub_blocks table.subs ++ (one ++ inbox_blocks table.inboxes)) more (notes ++ ns)) put
         (create_here (terms.queue == queue) (sub_blocks table.subs) (inbox_blocks table.inboxes) (sub_block row) (known table.joined table.opened) more notes (make.Sub terms.kind terms.cache) tag
-        refl refl (slot_is_free terms.queue) h (joined_more table.joined table.opened s) g))
+        refl refl (slot_is_least terms.queue) h (joined_more table.joined table.opened s) g))
 
     inbox_opens : (i : InboxId) (terms : InboxTerms) (tag : ObjectId) (had ended : Bool) → has_opened i table ≡ had → ended ≡ false
         → Going (sub_blocks table.subs ++ inbox_blocks (cond had table.inboxes (table.inboxes ++ kept ended (new_inbox table i terms ∷ []))))
@@ -190,7 +198,7 @@ module _ (queue : ℕ) (shape : Shape) where
         subst (λ (bs : List Block). Going bs more (notes ++ (create ++ []))) blocks
         (subst (λ (ns : List QueueNote). Going (all ++ (one ++ [])) more (notes ++ ns)) (sym (append-nil create))
         (create_here (terms.queue == queue) all [] (inbox_block row) (known table.joined table.opened) more notes make.Inbox tag
-        refl refl (λ here. ap (list_any (λ (c : Block). c.slot == row.slot)) (append-nil all) ∙ slot_is_free terms.queue here) h (opened_more table.joined table.opened i)
+        refl refl (λ here. slot_is_least terms.queue here ∙ ap (λ (bs : List Block). least_free (map (λ (c : Block). c.slot) bs)) (sym (append-nil all))) h (opened_more table.joined table.opened i)
         (subst (λ (bs : List Block). Going bs (known table.joined table.opened) notes) (sym (append-nil all)) g)))
 
     subs_told : (m : MarketMsg) (test : SubRow → Bool) → Going (sub_blocks table.subs ++ inbox_blocks table.inboxes) (known table.joined table.opened) (notes ++ part (flat_map (sub_emits m) (filter test table.subs)))
@@ -294,10 +302,9 @@ module _ (queue : ℕ) (shape : Shape) where
 
     -- the event that brings the ending
     pub comes_to_end : (e : BridgeEvent) → begins_ending table e ≡ true
-        → IsLawful is_last (fits 0) (notes ++ part (closing shape table e)) × (open_blocks (notes ++ part (closing shape table e)) ≡ [])
+        → Ended (notes ++ part (closing shape table e))
     comes_to_end e h =
         let settles : List BridgePut = cond (begins_settling table e) (settles_all shape) [] in
-        let Ended : List QueueNote → Type 0 = λ ns. IsLawful is_last (fits 0) ns × (open_blocks ns ≡ []) in
         let mine : ObjectId → Bool = known table.joined table.opened in
         let subs : List QueueNote = part (flat_map sub_ends table.subs) in
         let inboxes : List QueueNote = part (flat_map inbox_ends table.inboxes) in
@@ -307,9 +314,17 @@ module _ (queue : ℕ) (shape : Shape) where
         let without_all : Going [] mine ((notes ++ subs) ++ inboxes) =
         going_all_ended queue inbox_place inbox_block inbox_says inbox_belongs [] mine (notes ++ subs) (λ (row : InboxRow). rest row.terms.faults row.sent) table.inboxes
         (subst (λ (bs : List Block). Going bs mine (notes ++ subs)) (sym (append-nil (inbox_blocks table.inboxes))) without_subs) in
-        let finished : Ended ((notes ++ subs) ++ inboxes) = (without_all.lawful, all_finished mine ((notes ++ subs) ++ inboxes) without_all) in
+        let finished : Ended ((notes ++ subs) ++ inboxes) = record {
+          lawful = without_all.lawful;
+          least = without_all.least;
+          finished = all_finished mine ((notes ++ subs) ++ inboxes) without_all;
+        } in
         let fin : Ended (((notes ++ subs) ++ inboxes) ++ q.Fin ∷ []) =
-        (lawful_fin mine ((notes ++ subs) ++ inboxes) without_all, open-push ((notes ++ subs) ++ inboxes) q.Fin ∙ all_finished mine ((notes ++ subs) ++ inboxes) without_all) in
+        record {
+          lawful = lawful_fin mine ((notes ++ subs) ++ inboxes) without_all;
+          least = least_fin mine ((notes ++ subs) ++ inboxes) without_all;
+          finished = open-push ((notes ++ subs) ++ inboxes) q.Fin ∙ all_finished mine ((notes ++ subs) ++ inboxes) without_all;
+        } in
         let put : part (closing shape table e) ≡ (subs ++ inboxes) ++ fins =
         ap (λ (b : Bool). part (settles ++ cond b (ends_all shape table) [])) h
         ∙ flat_map-append (queue_part queue) settles (ends_all shape table)

@@ -1,7 +1,7 @@
 -- The laws of what the bridge puts.
-use Rattle.std.specs.Prelude.{◌≡◌, ◌≤◌, ℕ, true, List}
+use Rattle.std.specs.Prelude.{◌≡◌, ◌≤◌, ℕ, true, List, []}
 use Rattle.mama_journal.specs.Journal.{count_of}
-use Rattle.mama_event.specs.Lawful.{IsLawful}
+use Rattle.mama_event.specs.Lawful.{each_fits, IsLawful}
 use Rattle.mama_event.specs.Ports.{queue_port_of_bridge}
 use Rattle.mama_event.specs.ToQueue as queue
 use Rattle.mama_event.specs.ToPublisher as publisher
@@ -10,7 +10,7 @@ use Rattle.mama_event.specs.declared.ids.ObjectId.{ObjectId}
 use Rattle.mama_event.specs.declared.shape.Shape.{Shape}
 use Rattle.mama_event.specs.declared.to_bridge.BridgeNote.{BridgeNote}
 use Rattle.mama_rules.specs.Bridge.{heard, has_ending}
-use Rattle.mama_lawful.specs.Streams.{queue_stream, publisher_stream, timers_stream, IsTimely, ClientsAreLawful, is_gone}
+use Rattle.mama_lawful.specs.Streams.{queue_stream, publisher_stream, timers_stream, IsTimely, ClientsAreLawful, takes_least, is_gone}
 
 -- what the bridge puts by a journal: to each queue, to each publisher and to the timers a list that they may be given
 pub record StreamsAreLawful (shape : Shape) (journal : List (ℕ × BridgeNote)) : Type 0 where
@@ -33,6 +33,10 @@ LawfulClientsGetLawfulStreams = (shape : Shape) (journal : List (ℕ × BridgeNo
 -- to the timers it puts what it may by every journal
 abbrev pub TimersGetALawfulStream : Type 0
 TimersGetALawfulStream = (shape : Shape) (journal : List (ℕ × BridgeNote)) → IsLawful timers.is_last (timers.fits shape.bounds) (timers_stream shape journal)
+
+-- where nothing is joined or opened after the ending, each Create takes the least slot that is free on its queue
+abbrev pub SlotsAreLeast : Type 0
+SlotsAreLeast = (shape : Shape) (journal : List (ℕ × BridgeNote)) (k : ℕ) → IsTimely shape (heard shape journal) → each_fits takes_least [] (queue_stream shape journal k) ≡ true
 
 -- an object is created once at most in a stream to a queue, and it is gone as often once the ending has come
 pub record EndsEach (shape : Shape) (journal : List (ℕ × BridgeNote)) (k : ℕ) (object : ObjectId) : Type 0 where

@@ -1,11 +1,13 @@
 -- What the bridge puts on each lane, and when what it heard lets it put only what it may.
-use Rattle.std.specs.Prelude.{◌≡◌, ◌<◌, ℕ, Bool, true, false, ◌==◌, List, [], ◌∷◌, ◌++◌, if◌then◌else◌}
+use Rattle.std.specs.Prelude.{◌≡◌, ◌<◌, ℕ, Bool, true, false, ◌==◌, List, [], ◌∷◌, ◌++◌, map, if◌then◌else◌}
 use Rattle.std.specs.List.{flat_map}
+use Rattle.mama_journal.specs.Journal.{least_free}
 use Rattle.mama_journal.specs.Lane.{by_port}
 use Rattle.mama_event.specs.Lawful.{IsLawful}
 use Rattle.mama_event.specs.Object.{same_object}
 use Rattle.mama_event.specs.Ports.{clients_of, bridge_port_of_client}
 use Rattle.mama_event.specs.ToBridge as bridge
+use Rattle.mama_event.specs.ToQueue.{Block, open_blocks}
 use Rattle.mama_event.specs.declared.ids.ObjectId.{ObjectId}
 use Rattle.mama_event.specs.declared.shape.Shape.{Shape}
 use Rattle.mama_event.specs.declared.to_bridge.BridgeNote.{BridgeNote}
@@ -54,6 +56,11 @@ pub record IsTimely (shape : Shape) (es : List BridgeEvent) : Type 0 where
 -- each client put what it may put
 pub record ClientsAreLawful (shape : Shape) (journal : List (ℕ × BridgeNote)) : Type 0 where
   pub each : (client : ℕ) → client < clients_of shape → IsLawful bridge.is_last (bridge.fits shape.bounds) (by_port (bridge_port_of_client shape client) journal)
+
+-- a Create takes the least slot that no unfinished block has
+abbrev pub takes_least : List QueueNote → QueueNote → Bool
+takes_least before (q.Create slot object make tag) = slot == least_free (map (λ (b : Block). b.slot) (open_blocks before))
+takes_least before _ = true
 
 -- a Gone of an object
 abbrev pub is_gone : ObjectId → QueueNote → Bool

@@ -1,4 +1,4 @@
-ghost use Rattle.mama_lawful.specs.Laws.{TimelyStreamsAreLawful, LawfulClientsAreTimely, LawfulClientsGetLawfulStreams, TimersGetALawfulStream, EachCreateHasItsGone};
+ghost use Rattle.mama_lawful.specs.Laws.{TimelyStreamsAreLawful, LawfulClientsAreTimely, LawfulClientsGetLawfulStreams, TimersGetALawfulStream, SlotsAreLeast, EachCreateHasItsGone};
 
 /// A law: what the bridge puts to each queue, to each publisher and to the timers is a stream that they may be given, for
 /// every shape and journal, as long as nothing is joined or opened after the ending.
@@ -21,6 +21,12 @@ pub fn lawful_clients_get_lawful_streams()
 /// A law: what the bridge puts to the timers is lawful by every journal.
 pub fn timers_get_a_lawful_stream()
     ensures { TimersGetALawfulStream }
+{}
+
+/// A law: as long as nothing is joined or opened after the ending, each object is created in the least slot that no
+/// object of the bridge has on that queue.
+pub fn slots_are_least()
+    ensures { SlotsAreLeast }
 {}
 
 /// A law: as long as nothing is joined or opened after the ending, each queue is told once at most to create an object,

@@ -10,5 +10,5 @@ mod laws;
 
 pub use laws::{
     each_create_has_its_gone, lawful_clients_are_timely, lawful_clients_get_lawful_streams,
-    timely_streams_are_lawful, timers_get_a_lawful_stream,
+    slots_are_least, timely_streams_are_lawful, timers_get_a_lawful_stream,
 };
