@@ -1,4 +1,5 @@
 pub mod Ended
+pub mod Fins
 pub mod Going
 pub mod Lists
 pub mod OtherStreams

@@ -1,4 +1,4 @@
--- What the bridge puts before the ending ends no stream of a publisher, and nothing of it goes to the timers.
+-- What the bridge puts before the ending ends no stream, and nothing of it goes to the timers.
 use Rattle.std.specs.List.{list_any, flat_map}
 use Rattle.std.proofs.Common.{◌≡◌, ◌+◌, Bool, true, false, not, ◌&&◌, cond, List, [], ◌∷◌, ◌++◌, length, filter, refl, sym, subst, append-nil}
 use Rattle.mama_msg.specs.Field.{FieldData}
@@ -14,13 +14,18 @@ use Rattle.mama_bridge_rules.specs.Table.{SubRow, InboxRow, Table, of_sub, of_in
 use Rattle.mama_bridge_rules.proofs.Lists.{Each, each_all, each_append, each_map, each_flat_map, each_weaker}
 use Rattle.mama_lawful.proofs.Silence.{is_silent, Silent, silent_first, silent_image, silent_if, silent_wishes, silent_settles}
 
--- a put that is neither a Fin to a publisher nor to the timers
+-- a put that is neither a Fin nor to the timers
 abbrev pub is_steady : BridgePut → Bool
 is_steady (to_publisher r (p.Want sub kind)) = true
 is_steady (to_publisher r (p.Ask inbox fids)) = true
 is_steady (to_publisher r p.Settle) = true
 is_steady (to_publisher r p.Fin) = false
-is_steady (to_queue k note) = true
+is_steady (to_queue k (q.Create slot object make tag)) = true
+is_steady (to_queue k (q.Deliver slot sub msg)) = true
+is_steady (to_queue k (q.Reply slot inbox body)) = true
+is_steady (to_queue k (q.Tick slot timer moment)) = true
+is_steady (to_queue k (q.Gone slot object)) = true
+is_steady (to_queue k q.Fin) = false
 is_steady (to_timers note) = false
 
 abbrev pub Steady : List BridgePut → Type 0
@@ -31,7 +36,7 @@ steady_one (to_publisher r (p.Want sub kind)) h = refl
 steady_one (to_publisher r (p.Ask inbox fids)) h = refl
 steady_one (to_publisher r p.Settle) h = refl
 steady_one (to_publisher r p.Fin) h = h
-steady_one (to_queue k note) h = refl
+steady_one (to_queue k note) h = cc
 steady_one (to_timers note) h = h
 
 pub steady_silent : (puts : List BridgePut) → Silent puts → Steady puts

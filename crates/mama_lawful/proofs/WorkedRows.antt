@@ -19,6 +19,7 @@ use Rattle.mama_event.specs.declared.to_queue.QueueNote.{QueueNote}
 use Rattle.mama_event.specs.declared.to_queue.QueueNote.TheVariants as q
 use Rattle.mama_event.specs.declared.to_timers.TimersNote.TheVariants as t
 use Rattle.mama_event.specs.declared.shape.Shape.{Shape}
+use Rattle.mama_rules.specs.Bridge.{has_ending}
 use Rattle.mama_lawful.specs.Streams.{queue_stream, publisher_stream, timers_stream, is_gone}
 
 -- a lawful list of a queue, as a test
@@ -107,3 +108,13 @@ late_with_publisher = (1, b.SendsDone) ∷ (0, b.ClientDone) ∷ (1, b.Settled) 
 
 publisher_of_late : each_fits (may_follow publisher.is_last publisher.fits) [] (publisher_stream small late_with_publisher 0) ≡ false
 publisher_of_late = refl
+
+-- where nobody has a last word to say the ending stands from the start, and is told to nobody
+abbrev nobody : Shape
+nobody = record { clients = 0; publisher_topics = []; bounds = record { topics = 1; queues = 1 } }
+
+nobody_ends : has_ending nobody [] ≡ true
+nobody_ends = refl
+
+nobody_is_told : queue_stream nobody ((0, b.Bye) ∷ []) 0 ≡ []
+nobody_is_told = refl

@@ -1,8 +1,9 @@
 -- The laws of what the bridge puts.
-use Rattle.std.specs.Prelude.{◌≡◌, ◌≤◌, ℕ, true, List, []}
+use Rattle.std.specs.Prelude.{◌≡◌, ◌≤◌, ◌<◌, ℕ, true, false, List, []}
+use Rattle.std.specs.List.{list_any}
 use Rattle.mama_journal.specs.Journal.{count_of}
 use Rattle.mama_event.specs.Lawful.{each_fits, IsLawful}
-use Rattle.mama_event.specs.Ports.{queue_port_of_bridge}
+use Rattle.mama_event.specs.Ports.{queues_of, publishers_of, queue_port_of_bridge}
 use Rattle.mama_event.specs.ToQueue as queue
 use Rattle.mama_event.specs.ToPublisher as publisher
 use Rattle.mama_event.specs.ToTimers as timers
@@ -37,6 +38,16 @@ TimersGetALawfulStream = (shape : Shape) (journal : List (ℕ × BridgeNote)) �
 -- where nothing is joined or opened after the ending, each Create takes the least slot that is free on its queue
 abbrev pub SlotsAreLeast : Type 0
 SlotsAreLeast = (shape : Shape) (journal : List (ℕ × BridgeNote)) (k : ℕ) → IsTimely shape (heard shape journal) → each_fits takes_least [] (queue_stream shape journal k) ≡ true
+
+-- a queue, a publisher and the timers were told Fin exactly where the ending has come
+pub record FinsTell (shape : Shape) (journal : List (ℕ × BridgeNote)) : Type 0 where
+  pub to_queues : (k : ℕ) → k < queues_of shape → list_any queue.is_last (queue_stream shape journal k) ≡ has_ending shape (heard shape journal)
+  pub to_publishers : (r : ℕ) → r < publishers_of shape → list_any publisher.is_last (publisher_stream shape journal r) ≡ has_ending shape (heard shape journal)
+  pub to_timers : list_any timers.is_last (timers_stream shape journal) ≡ has_ending shape (heard shape journal)
+
+-- so it is by every journal, where the ending is still to come at the start: somebody is there who must say its last
+abbrev pub FinsTellTheEnding : Type 0
+FinsTellTheEnding = (shape : Shape) (journal : List (ℕ × BridgeNote)) → has_ending shape [] ≡ false → FinsTell shape journal
 
 -- an object is created once at most in a stream to a queue, and it is gone as often once the ending has come
 pub record EndsEach (shape : Shape) (journal : List (ℕ × BridgeNote)) (k : ℕ) (object : ObjectId) : Type 0 where

@@ -1,4 +1,4 @@
-ghost use Rattle.mama_lawful.specs.Laws.{TimelyStreamsAreLawful, LawfulClientsAreTimely, LawfulClientsGetLawfulStreams, TimersGetALawfulStream, SlotsAreLeast, EachCreateHasItsGone};
+ghost use Rattle.mama_lawful.specs.Laws.{TimelyStreamsAreLawful, LawfulClientsAreTimely, LawfulClientsGetLawfulStreams, TimersGetALawfulStream, SlotsAreLeast, FinsTellTheEnding, EachCreateHasItsGone};
 
 /// A law: what the bridge puts to each queue, to each publisher and to the timers is a stream that they may be given, for
 /// every shape and journal, as long as nothing is joined or opened after the ending.
@@ -27,6 +27,12 @@ pub fn timers_get_a_lawful_stream()
 /// object of the bridge has on that queue.
 pub fn slots_are_least()
     ensures { SlotsAreLeast }
+{}
+
+/// A law: by every journal each queue, each publisher and the timers were told `Fin` exactly where the ending has come,
+/// if there is a client or a publisher at all.
+pub fn fins_tell_the_ending()
+    ensures { FinsTellTheEnding }
 {}
 
 /// A law: as long as nothing is joined or opened after the ending, each queue is told once at most to create an object,
