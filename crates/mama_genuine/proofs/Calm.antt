@@ -51,21 +51,13 @@ use Rattle.mama_legal.proofs.Lives.{same_sub-itself}
 use Rattle.mama_genuine.specs.Sent.{Delivers}
 use Rattle.mama_genuine.specs.Told.{TellsOf, kind_of, size_of, IsMadeBy}
 use Rattle.mama_genuine.specs.Faultless.{IsCalm, FaultlessLinksAreCalm}
-use Rattle.mama_genuine.proofs.Elements.{all_map, all_mapped, all_by_port, all_weaker, first_came, rest_came}
+use Rattle.mama_genuine.proofs.Elements.{all_map, all_mapped, all_by_port, all_weaker, first_came, rest_came, all_left, all_right}
 use Rattle.mama_genuine.proofs.Timing.{all_timers_puts}
 use Rattle.mama_genuine.proofs.Handled.{delivers, handled_first}
 use Rattle.mama_genuine.proofs.Telling.{calls_tell}
 use Rattle.mama_genuine.proofs.Ordered.{windows_are_in_order, order_first}
 
 -- ---- a context that takes messages in order makes calm callbacks
-
-all_left : {X : Type 0} (P : X → Type 0) (xs ys : List X) → AllByRecursion P (xs ++ ys) → AllByRecursion P xs
-all_left P [] ys all = tt
-all_left P (x ∷ xs) ys all = (all.0, all_left P xs ys all.1)
-
-all_right : {X : Type 0} (P : X → Type 0) (xs ys : List X) → AllByRecursion P (xs ++ ys) → AllByRecursion P ys
-all_right P [] ys all = all
-all_right P (x ∷ xs) ys all = all_right P xs ys all.1
 
 one_step : (P : Callback → Type 0) (c : ContextData) (before : List MarketMsg) (m : MarketMsg) (later : List MarketMsg)
     → AllByRecursion P (flat_map (λ (calls : List Callback). calls) (calls_after c (before ++ m ∷ later))) → AllByRecursion P (callbacks_of (after_all c before) m)

@@ -69,6 +69,15 @@ all_puts_after Q P at each before [] all = tt
 all_puts_after Q P at each before (e ∷ es) all =
     all_append P (at before e) (puts_after at (before ++ e ∷ []) es) (each before e all.0) (all_puts_after Q P at each (before ++ e ∷ []) es all.1)
 
+-- the same where what holds of the entries before is of use
+pub all_puts_known : {E V : Type 0} (Q : E → Type 0) (P : V → Type 0) (at : List E → E → List V)
+    → ((before : List E) (e : E) → AllByRecursion Q before → Q e → AllByRecursion P (at before e))
+    → (before es : List E) → AllByRecursion Q before → AllByRecursion Q es → AllByRecursion P (puts_after at before es)
+all_puts_known Q P at each before [] all more = tt
+all_puts_known Q P at each before (e ∷ es) all more =
+    all_append P (at before e) (puts_after at (before ++ e ∷ []) es) (each before e all more.0)
+    (all_puts_known Q P at each (before ++ e ∷ []) es (all_push Q before e all more.0) more.1)
+
 pub all_puts_so_far : {E V : Type 0} (Q : E → Type 0) (P : V → Type 0) (at : List E → List V → E → List V)
     → ((before : List E) (sofar : List V) (e : E) → AllByRecursion Q before → AllByRecursion P sofar → Q e → AllByRecursion P (at before sofar e))
     → (before : List E) (sofar : List V) (es : List E) → AllByRecursion Q before → AllByRecursion P sofar → AllByRecursion Q es
@@ -110,3 +119,26 @@ all_from_ports P (e ∷ es) each = (
   first_came P (e.0 == e.0) e.1 (by_port e.0 es) (by_port e.0 es) ((Decides-eqb e.0 e.0).1 refl) (each e.0),
   all_from_ports P es (λ port. rest_came P (e.0 == port) e.1 (by_port port es) (each port)),
 )
+
+-- so it is where what holds of it tells its port
+pub all_by_ports : {X : Type 0} (P : ℕ → X → Type 0) (es : List (ℕ × X)) → ((port : ℕ) → AllByRecursion (P port) (by_port port es))
+    → AllByRecursion (λ (e : ℕ × X). P e.0 e.1) es
+all_by_ports P [] each = tt
+all_by_ports P (e ∷ es) each = (
+  first_came (P e.0) (e.0 == e.0) e.1 (by_port e.0 es) (by_port e.0 es) ((Decides-eqb e.0 e.0).1 refl) (each e.0),
+  all_by_ports P es (λ port. rest_came (P port) (e.0 == port) e.1 (by_port port es) (each port)),
+)
+
+-- the parts of a list
+pub all_left : {X : Type 0} (P : X → Type 0) (xs ys : List X) → AllByRecursion P (xs ++ ys) → AllByRecursion P xs
+all_left P [] ys all = tt
+all_left P (x ∷ xs) ys all = (all.0, all_left P xs ys all.1)
+
+pub all_right : {X : Type 0} (P : X → Type 0) (xs ys : List X) → AllByRecursion P (xs ++ ys) → AllByRecursion P ys
+all_right P [] ys all = all
+all_right P (x ∷ xs) ys all = all_right P xs ys all.1
+
+-- what holds of each, if something holds
+pub all_under : {X : Type 0} (A : Type 0) (P : X → Type 0) (xs : List X) → (A → AllByRecursion P xs) → AllByRecursion (λ (x : X). A → P x) xs
+all_under A P [] all = tt
+all_under A P (x ∷ xs) all = (λ a. (all a).0, all_under A P xs (λ a. (all a).1))

@@ -15,3 +15,9 @@ pub mod Given
 pub mod Ordered
 pub mod Handled
 pub mod Calm
+pub mod Asking
+pub mod Wishing
+pub mod Feeding
+pub mod Joining
+pub mod Alone
+pub mod CalmLinks

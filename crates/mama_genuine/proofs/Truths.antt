@@ -20,7 +20,7 @@ use Rattle.mama_genuine.proofs.Elements.{all_map}
 use Rattle.mama_genuine.proofs.Telling.{calls_tell}
 
 -- what holds of each element and of what f makes of it
-all_zipped : {X Y : Type 0} (R : X → Y → Type 0) (f : X → Y) → ((x : X) → R x (f x)) → (xs : List X) → AllZip R xs (map f xs)
+pub all_zipped : {X Y : Type 0} (R : X → Y → Type 0) (f : X → Y) → ((x : X) → R x (f x)) → (xs : List X) → AllZip R xs (map f xs)
 all_zipped R f each [] = tt
 all_zipped R f each (x ∷ xs) = (each x, all_zipped R f each xs)
 

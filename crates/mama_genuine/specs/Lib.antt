@@ -4,3 +4,4 @@ pub mod Told
 pub mod Gaps
 pub mod Order
 pub mod Faultless
+pub mod CalmLinks

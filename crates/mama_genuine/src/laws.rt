@@ -1,3 +1,4 @@
+ghost use Rattle.mama_genuine.specs.CalmLinks.{RoundLinksAreCalm};
 ghost use Rattle.mama_genuine.specs.Faultless.{FaultlessLinksAreCalm};
 ghost use Rattle.mama_genuine.specs.Order.{WindowsAreInOrder};
 ghost use Rattle.mama_genuine.specs.Gaps.{ToldGapsAreTrue, RoundGapsAreTrue};
@@ -64,4 +65,10 @@ pub fn ok_images_of_rounds_are_records()
 /// A law: so it is in the record of a run in rounds.
 pub fn told_gaps_of_rounds_are_true()
     ensures { RoundGapsAreTrue }
+{}
+
+/// A law: in the record of a run in rounds a subscription whose line has no fault rows, on a topic that exactly one
+/// publisher of the script has, is told no gap and no change of quality, and asks for no recap.
+pub fn links_of_rounds_are_calm()
+    ensures { RoundLinksAreCalm }
 {}

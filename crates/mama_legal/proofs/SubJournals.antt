@@ -24,10 +24,12 @@ use Rattle.mama_rules.specs.Ports.{bridge_putter}
 use Rattle.mama_queue_rules.specs.Queue.{QueuePut}
 use Rattle.mama_queue_rules.specs.Queue as queue
 use Rattle.mama_rounds.specs.Client.{bridge_part}
-use Rattle.mama_rounds.specs.Round.{setting_of}
+use Rattle.mama_script.specs.Script.{ScriptData}
+use Rattle.mama_record.specs.RunData.{RunData}
+use Rattle.mama_rounds.specs.Round.{IsRound, setting_of}
 use Rattle.mama_legal.specs.Edges.{client_puts, put_on_bridge}
-use Rattle.mama_legal.specs.Streams.{is_of, terms_noted, terms_put, WasLive}
-use Rattle.mama_legal.specs.Laws.{RoundsGiveSubsTheirStreams}
+use Rattle.mama_legal.specs.Streams.{is_of, terms_noted, terms_put, terms_of, WasLive}
+use Rattle.mama_legal.specs.Laws.{IsOrderly, RoundsGiveSubsTheirStreams}
 use Rattle.mama_legal.proofs.Lists.{by_entries}
 use Rattle.mama_legal.proofs.Putters.{by_bridge_port}
 use Rattle.mama_legal.proofs.Whole.{whole_edges}
@@ -139,6 +141,35 @@ was_live shape s journal = by_entries (λ (j : List (ℕ × BridgeNote)).
               (ap not (ending_same shape es x is.1 ∙ yet));
         }
 
+-- ---- a subscription that the script joins came and went
+
+-- the bridge heard the terms of its lines, it was live once, and is so no more
+pub record CameAndWent (script : ScriptData) (run : RunData) (s : SubId) (terms : SubTerms) : Type 0 where
+  pub joined : first_said (terms_in s) (heard script.shape run.bridge) ≡ Some terms
+  pub was : WasLive script.shape s (heard script.shape run.bridge)
+  pub dead : is_live script.shape s (heard script.shape run.bridge) ≡ false
+
+pub came_and_went : (script : ScriptData) (run : RunData) → IsOrderly script → IsRound script run → (s : SubId) (terms : SubTerms) → s.client < clients_of script.shape
+    → terms_of script run s ≡ Some terms → CameAndWent script run s terms
+came_and_went script run orderly is s terms small says =
+    let shape : Shape = script.shape in
+    let edges = whole_edges script run is in
+    let es : List BridgeEvent = heard shape run.bridge in
+    let heard_terms : first_said (terms_in s) es ≡ Some terms =
+    terms_heard shape s small run.bridge ∙ ap (first_said (terms_noted s)) (edges.bridge s.client ∙ ap (put_on_bridge (setting_of script) (client_puts script run.clients) run.publishers run.queues) (putter_client shape s.client small))
+    ∙ terms_said s (client_puts script run.clients s.client) ∙ says in
+    record {
+      joined = heard_terms;
+      was = was_live shape s run.bridge
+          (λ before e after same settling. no_late_join shape before e after (λ c less. subst (λ (j : List (ℕ × BridgeNote)). SaidLast is_client_done (by_port c j)) same (said script run orderly.shaped edges c less)) settling)
+          (said_came s es terms heard_terms);
+      dead = ap (λ (c : Bool). lives (joins_sub s) (leaves_sub s) es && not c) (ending_came script run orderly.shaped is) ∙ none_and (lives (joins_sub s) (leaves_sub s) es);
+    }
+  where
+    none_and : (c : Bool) → (c && false) ≡ false
+    none_and true = refl
+    none_and false = refl
+
 pub sub_journals : RoundsGiveSubsTheirStreams
 sub_journals script run orderly is = record {
   each = λ s terms small says.
@@ -148,14 +179,8 @@ sub_journals script run orderly is = record {
       let es : List BridgeEvent = heard shape run.bridge in
       let k : ℕ = terms.queue in
       let journal : List (ℕ × QueueNote) = slice_index_or run.queues k [] in
-      let heard_terms : first_said (terms_in s) es ≡ Some terms =
-      terms_heard shape s small run.bridge ∙ ap (first_said (terms_noted s)) (edges.bridge s.client ∙ ap (put_on_bridge (setting_of script) (client_puts script run.clients) run.publishers run.queues) (putter_client shape s.client small))
-      ∙ terms_said s (client_puts script run.clients s.client) ∙ says in
-      let was = was_live shape s run.bridge
-      (λ before e after same settling. no_late_join shape before e after (λ c less. subst (λ (j : List (ℕ × BridgeNote)). SaidLast is_client_done (by_port c j)) same (said script run orderly.shaped edges c less)) settling)
-      (said_came s es terms heard_terms) in
-      let dead : is_live shape s es ≡ false = ap (λ (c : Bool). lives (joins_sub s) (leaves_sub s) es && not c) (ending_came script run orderly.shaped is) ∙ none_and (lives (joins_sub s) (leaves_sub s) es) in
-      let stream = subs_streams shape run.bridge s terms was dead heard_terms in
+      let came = came_and_went script run orderly is s terms small says in
+      let stream = subs_streams shape run.bridge s terms came.was came.dead came.joined in
       record {
         slot = stream.slot;
         tag = stream.tag;
@@ -164,7 +189,3 @@ sub_journals script run orderly is = record {
             ∙ on_one_queue k (q.Create stream.slot (Sub s) (make.Sub terms.kind terms.cache) stream.tag) (q.Gone stream.slot (Sub s)) (λ m. q.Deliver stream.slot s m) (through terms.faults (window shape s es));
       };
 }
-  where
-    none_and : (c : Bool) → (c && false) ≡ false
-    none_and true = refl
-    none_and false = refl
