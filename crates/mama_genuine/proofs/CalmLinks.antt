@@ -1,5 +1,5 @@
 -- In a run in rounds a plain link on a topic with one publisher is calm.
-use Rattle.std.specs.Prelude.{slice_index_or}
+use Rattle.std.specs.Prelude.{slice_index_or, Some}
 use Rattle.std.specs.List.{AllByRecursion, AllZip}
 use Rattle.std.proofs.Common.{◌≡◌, ℕ, ◌<◌, ◌≤◌, List, [], map, refl, sym, ◌∙◌, subst, ⊎_elim}
 use Rattle.std.proofs.lemmas.Bool.{cases_lt}
@@ -17,6 +17,7 @@ use Rattle.mama_rounds.specs.Client.{Planned}
 use Rattle.mama_rounds.specs.World.{orders_by}
 use Rattle.mama_rounds.specs.Round.{IsRound, setting_of, object_calls, noted}
 use Rattle.mama_legal.specs.Laws.{IsOrderly}
+use Rattle.mama_legal.specs.Streams.{terms_of}
 use Rattle.mama_legal.proofs.AllSent.{count_publishers}
 use Rattle.mama_legal.proofs.SubJournals.{CameAndWent, came_and_went}
 use Rattle.mama_legal.proofs.Whole.{calls_told, whole_edges}
@@ -25,19 +26,20 @@ use Rattle.mama_genuine.specs.Faultless.{IsCalm}
 use Rattle.mama_genuine.specs.CalmLinks.{HasPlainLink, AreCalmFor, HasCalmCalls, RoundLinksAreCalm}
 use Rattle.mama_genuine.proofs.Alone.{only, IsOnly, fed_by}
 use Rattle.mama_genuine.proofs.Calm.{faultless_is_calm}
-use Rattle.mama_genuine.proofs.Joining.{of_client}
+use Rattle.mama_genuine.proofs.Joining.{of_client, same_terms}
 use Rattle.mama_genuine.proofs.Truths.{all_zipped}
 
 module _ (script : ScriptData) (run : RunData) (orderly : IsOrderly script) (is : IsRound script run) where
   abbrev calls_on : ObjectId → ℕ → List CallNote
   calls_on o queue = (object_calls (setting_of script) run.queues (record { object = o; queue = queue; plan = [] })).calls
 
-  calm_sub : (s : SubId) (queue : ℕ) → HasPlainLink script run s → AllByRecursion (λ (n : CallNote). IsCalm n.call) (calls_on (Sub s) queue)
+  calm_sub : (s : SubId) (queue : ℕ) → HasPlainLink script s → AllByRecursion (λ (n : CallNote). IsCalm n.call) (calls_on (Sub s) queue)
   calm_sub s queue link =
       let found = only link.terms.topic script.shape.publisher_topics link.alone in
-      let small : s.client < clients_of script.shape = subst (λ (n : ℕ). s.client < n) (sym orderly.shaped.clients) (of_client s script run.clients link.terms link.joined) in
-      let was = came_and_went script run orderly is s link.terms small link.joined in
-      let fed = fed_by script orderly.shaped s link.terms.topic found.0 found.1 run is link.terms link.joined refl in
+      let small : s.client < clients_of script.shape = subst (λ (n : ℕ). s.client < n) (sym orderly.shaped.clients) (of_client s script [] link.terms link.joined) in
+      let said : terms_of script run s ≡ Some link.terms = same_terms s script run.clients s.client ∙ link.joined in
+      let was = came_and_went script run orderly is s link.terms small said in
+      let fed = fed_by script orderly.shaped s link.terms.topic found.0 found.1 run is link.terms said refl in
       ⊎_elim
       (λ there. faultless_is_calm script run (legal.shaped script run is) (whole_edges script run is) s link.terms found.0 was.joined link.faultless
       (subst (λ (n : ℕ). found.0 < n) (count_publishers script orderly.shaped) found.1.known) fed was.was was.dead (record { object = Sub s; queue = queue; plan = [] }) refl there)
@@ -45,15 +47,15 @@ module _ (script : ScriptData) (run : RunData) (orderly : IsOrderly script) (is 
       (sym (get_or_past run.queues queue [] (subst (λ (n : ℕ). n ≤ queue) (sym (legal.shaped script run is).queues) past))) tt)
       (cases_lt queue (queues_of script.shape))
 
-  calm_object : (o : ObjectId) (queue : ℕ) → AreCalmFor script run o (calls_on o queue)
+  calm_object : (o : ObjectId) (queue : ℕ) → AreCalmFor script o (calls_on o queue)
   calm_object (Sub s) queue = calm_sub s queue
   calm_object (Timer t) queue = tt
   calm_object (Inbox i) queue = tt
 
-  has_calm : (p : Planned) → HasCalmCalls script run p (object_calls (setting_of script) run.queues p)
+  has_calm : (p : Planned) → HasCalmCalls script p (object_calls (setting_of script) run.queues p)
   has_calm p = record { object = refl; calm = calm_object p.object p.queue }
 
 pub round_links_are_calm : RoundLinksAreCalm
 round_links_are_calm script run orderly is =
-    subst (λ told. AllZip (HasCalmCalls script run) (setting_of script).objects told) (sym (calls_told script run is).calls)
-    (all_zipped (HasCalmCalls script run) (object_calls (setting_of script) run.queues) (has_calm script run orderly is) (setting_of script).objects)
+    subst (λ told. AllZip (HasCalmCalls script) (setting_of script).objects told) (sym (calls_told script run is).calls)
+    (all_zipped (HasCalmCalls script) (object_calls (setting_of script) run.queues) (has_calm script run orderly is) (setting_of script).objects)

@@ -2,7 +2,7 @@
 use Rattle.std.specs.Prelude.{slice_index_or, replicate, Option, None, Some, if◌then◌else◌}
 use Rattle.std.specs.List.{AllByRecursion, flat_map}
 use Rattle.std.specs.Option.{option_or}
-use Rattle.std.proofs.Common.{◌≡◌, ℕ, zero, suc, ◌+◌, ◌<◌, ◌≤◌, ◌==◌, ◌&&◌, Bool, true, false, List, [], ◌∷◌, ◌++◌, length, refl, sym, ◌∙◌, ap, subst, arith, ⊎_elim}
+use Rattle.std.proofs.Common.{◌≡◌, ℕ, zero, suc, ◌+◌, ◌<◌, ◌≤◌, ◌==◌, ◌%◌, ◌&&◌, Bool, true, false, List, [], ◌∷◌, ◌++◌, length, refl, sym, ◌∙◌, ap, subst, arith, ⊎_elim}
 use Rattle.std.proofs.lemmas.Bool.{ne_eqb, eqb-true, and_parts, cases_lt, cases_eq}
 use Rattle.std.proofs.lemmas.List.{get_or_past}
 use Rattle.std.proofs.lemmas.List.Concat.{flat_map-append}
@@ -22,7 +22,7 @@ use Rattle.mama_script.specs.declared.client.QueueWord.{QueueWord}
 use Rattle.mama_script.specs.declared.client.QueueWord.TheVariants.{Number, Any}
 use Rattle.mama_script.specs.Script.{ScriptData}
 use Rattle.mama_event.specs.Ports.{queues_of}
-use Rattle.mama_rounds.specs.Client.{Standing, at_first, queue_named, after_word, after_line, line_steps, steps_from}
+use Rattle.mama_rounds.specs.Client.{Standing, at_first, later_moments, queue_named, after_word, after_line, line_steps, steps_from}
 use Rattle.mama_rounds.specs.Round.{all_client_steps}
 use Rattle.mama_legal.specs.Edges.{all_steps, client_puts}
 use Rattle.mama_legal.specs.Streams.{terms_noted, terms_put}
@@ -161,6 +161,51 @@ module _ (s : SubId) where
     once : (st : Standing) (ls : List ClientLine) → Joins_once (steps st ls)
     once st [] = none_says None (steps st []) (refl, (refl, tt))
     once st (l ∷ ls) = subst Joins_once (sym (more st l ls)) (once_by st l (steps (after_line st l) ls) (once (after_line st l) ls) (none (after_line st l) ls))
+
+  -- ---- moments
+
+  -- a client at the same place, to which its clock tells other moments
+  abbrev moved : List ℕ → Standing → Standing
+  moved moments st = record st { moments = moments }
+
+  module _ (queues c : ℕ) where
+    -- what is said of the subscription, whatever moments the clock tells
+    abbrev said : Standing → List ClientLine → Option SubTerms
+    said st ls = first_said (terms_put s) (all_steps (steps_from queues c st ls))
+
+    paused : (n : ℕ) (st : Standing) (ls : List ClientLine) → said st (line.Pause n ∷ ls) ≡ said st ls
+    paused n st ls =
+        ap (λ (puts : List QueuePut). first_said (terms_put s) puts) (flat_map-append (λ step. step) (replicate n []) (steps_from queues c st ls))
+        ∙ none_first (all_steps (replicate n [])) (all_steps (steps_from queues c st ls)) (pauses n)
+
+    any_moments : (ls : List ClientLine) (st : Standing) (moments : List ℕ) → said (moved moments st) ls ≡ said st ls
+    any_moments [] st moments = refl
+    any_moments (line.Sub topic kind (Number k) cache recaps faults plan ∷ ls) st moments =
+        ap (λ (o : Option SubTerms). option_or (if same_sub (record { client = c; number = st.subs }) s then Some (record { topic = topic; kind = kind; queue = k; cache = cache; recaps = recaps; faults = faults }) else None) o)
+        (any_moments ls (record st { subs = suc st.subs }) moments)
+    any_moments (line.Sub topic kind Any cache recaps faults plan ∷ ls) st moments =
+        ap (λ (o : Option SubTerms). option_or (if same_sub (record { client = c; number = st.subs }) s then Some (record { topic = topic; kind = kind; queue = st.turns % queues; cache = cache; recaps = recaps; faults = faults }) else None) o)
+        (any_moments ls (record st { subs = suc st.subs; turns = suc st.turns }) moments)
+    any_moments (line.Timer (Number k) interval plan ∷ ls) st moments = any_moments ls (record st { timers = suc st.timers }) moments
+    any_moments (line.Timer Any interval plan ∷ ls) st moments = any_moments ls (record st { timers = suc st.timers; turns = suc st.turns }) moments
+    any_moments (line.Inbox (Number k) faults plan ∷ ls) st moments = any_moments ls (record st { inboxes = suc st.inboxes }) moments
+    any_moments (line.Inbox Any faults plan ∷ ls) st moments = any_moments ls (record st { inboxes = suc st.inboxes; turns = suc st.turns }) moments
+    any_moments (line.Order o ∷ ls) st moments = ap (λ (said : Option SubTerms). option_or (terms_put s (order_put o)) said) (any_moments ls st moments)
+    any_moments (line.Now m ∷ ls) st moments = any_moments ls st moments
+    any_moments (line.NowClock ∷ ls) st moments = any_moments ls st (later_moments moments) ∙ sym (any_moments ls st (later_moments st.moments))
+    any_moments (line.Pause n ∷ ls) st moments = paused n (moved moments st) ls ∙ any_moments ls st moments ∙ sym (paused n st ls)
+
+  any_clients : (queues n : ℕ) (moments : List (List ℕ)) (clients : List (List ClientLine)) (k : ℕ)
+      → first_said (terms_put s) (all_steps (slice_index_or (all_client_steps queues n moments clients) k []))
+      ≡ first_said (terms_put s) (all_steps (slice_index_or (all_client_steps queues n [] clients) k []))
+  any_clients queues n moments [] k = refl
+  any_clients queues n moments (lines ∷ clients) zero = any_moments queues n lines (at_first []) (slice_index_or moments n [])
+  any_clients queues n moments (lines ∷ clients) (suc k) = any_clients queues (suc n) moments clients k
+
+  -- the moments that clients read change no terms
+  pub same_terms : (script : ScriptData) (moments : List (List ℕ)) (c : ℕ)
+      → first_said (terms_put s) (client_puts script moments c) ≡ first_said (terms_put s) (client_puts script [] c)
+  same_terms script moments c = any_clients (queues_of script.shape) 0 moments script.clients c
 
   -- ---- clients
 
