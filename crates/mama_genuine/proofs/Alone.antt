@@ -426,7 +426,7 @@ module _ (script : ScriptData) (counted : IsShaped script) (s : SubId) (wanted r
           → (sent_to script.shape s wanted (from_publisher n event) ≡ []) ⊎ (clients_of script.shape + n ≡ bridge_port_of_publisher script.shape r)
       publisher_sends n within (b.Publish msg) h =
           (elim (slice_index script.shape.publisher_topics n == wanted) as (λ c. (slice_index script.shape.publisher_topics n == wanted) ≡ c
-              → ((if c then msg ∷ [] else []) ≡ []) ⊎ (clients_of script.shape + n ≡ bridge_port_of_publisher script.shape r)) [
+          → ((if c then msg ∷ [] else []) ≡ []) ⊎ (clients_of script.shape + n ≡ bridge_port_of_publisher script.shape r)) [
             | true ↦ λ same. inr (ap (λ (k : ℕ). clients_of script.shape + k) (lone.alone n within ((Decides-eqb (slice_index script.shape.publisher_topics n) wanted).0 same)))
             | false ↦ λ other. inl refl
           ]) refl

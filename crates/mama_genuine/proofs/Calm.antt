@@ -108,7 +108,7 @@ module _ (s : SubId) (k : ℕ) where
   abbrev on_queue : ℕ × QueueNote → List MarketMsg
   on_queue e = if e.0 == k then delivers s e.1 else []
 
-  not_of : (note : QueueNote) → is_of (Sub s) note ≡ false → delivers s note ≡ []
+  pub not_of : (note : QueueNote) → is_of (Sub s) note ≡ false → delivers s note ≡ []
   not_of (q.Create slot object make tag) other = refl
   not_of (q.Deliver slot sub msg) other = ap (λ (c : Bool). if c then msg ∷ [] else []) other
   not_of (q.Reply slot inbox body) other = refl

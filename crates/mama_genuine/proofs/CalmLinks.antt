@@ -1,7 +1,7 @@
 -- In a run in rounds a plain link on a topic with one publisher is calm.
 use Rattle.std.specs.Prelude.{slice_index_or, Some}
 use Rattle.std.specs.List.{AllByRecursion, AllZip}
-use Rattle.std.proofs.Common.{◌≡◌, ℕ, ◌<◌, ◌≤◌, List, [], map, refl, sym, ◌∙◌, subst, ⊎_elim}
+use Rattle.std.proofs.Common.{◌≡◌, ℕ, ◌<◌, ◌≤◌, List, [], length, map, refl, sym, ◌∙◌, subst, ⊎_elim}
 use Rattle.std.proofs.lemmas.Bool.{cases_lt}
 use Rattle.std.proofs.lemmas.List.{get_or_past}
 use Rattle.mama_event.specs.Ports.{clients_of, queues_of}
@@ -9,6 +9,7 @@ use Rattle.mama_event.specs.declared.ids.SubId.{SubId}
 use Rattle.mama_event.specs.declared.ids.ObjectId.{ObjectId}
 use Rattle.mama_event.specs.declared.ids.ObjectId.TheVariants.{Sub, Timer, Inbox}
 use Rattle.mama_event.specs.declared.callback.CallNote.{CallNote}
+use Rattle.mama_event.specs.declared.to_bridge.SubTerms.{SubTerms}
 use Rattle.mama_event.specs.declared.to_queue.QueueNote.{QueueNote}
 use Rattle.mama_queue_rules.specs.Queue.{calls_of, deeds}
 use Rattle.mama_script.specs.Script.{ScriptData}
@@ -23,6 +24,7 @@ use Rattle.mama_legal.proofs.SubJournals.{CameAndWent, came_and_went}
 use Rattle.mama_legal.proofs.Whole.{calls_told, whole_edges}
 use Rattle.mama_legal.proofs.Whole as legal
 use Rattle.mama_genuine.specs.Faultless.{IsCalm}
+use Rattle.mama_genuine.specs.Order.{IsFedBy}
 use Rattle.mama_genuine.specs.CalmLinks.{HasPlainLink, AreCalmFor, HasCalmCalls, RoundLinksAreCalm}
 use Rattle.mama_genuine.proofs.Alone.{only, IsOnly, fed_by}
 use Rattle.mama_genuine.proofs.Calm.{faultless_is_calm}
@@ -30,19 +32,38 @@ use Rattle.mama_genuine.proofs.Joining.{of_client, same_terms}
 use Rattle.mama_genuine.proofs.Truths.{all_zipped}
 
 module _ (script : ScriptData) (run : RunData) (orderly : IsOrderly script) (is : IsRound script run) where
-  abbrev calls_on : ObjectId → ℕ → List CallNote
+  -- a subscription with a plain link came and went, and one publisher fed it
+  pub record IsPlain (s : SubId) (terms : SubTerms) : Type 0 where
+    pub client : s.client < clients_of script.shape
+    pub said : terms_of script run s ≡ Some terms
+    pub came : CameAndWent script run s terms
+    pub place : ℕ
+    pub publisher : place < length script.publishers
+    pub fed : IsFedBy script.shape s terms.topic place run.bridge
+
+  pub plain : (s : SubId) (link : HasPlainLink script s) → IsPlain s link.terms
+  plain s link =
+      let found = only link.terms.topic script.shape.publisher_topics link.alone in
+      let small : s.client < clients_of script.shape = subst (λ (n : ℕ). s.client < n) (sym orderly.shaped.clients) (of_client s script [] link.terms link.joined) in
+      let said : terms_of script run s ≡ Some link.terms = same_terms s script run.clients s.client ∙ link.joined in
+      record {
+        client = small;
+        said = said;
+        came = came_and_went script run orderly is s link.terms small said;
+        place = found.0;
+        publisher = subst (λ (n : ℕ). found.0 < n) (count_publishers script orderly.shaped) found.1.known;
+        fed = fed_by script orderly.shaped s link.terms.topic found.0 found.1 run is link.terms said refl;
+      }
+
+  abbrev pub calls_on : ObjectId → ℕ → List CallNote
   calls_on o queue = (object_calls (setting_of script) run.queues (record { object = o; queue = queue; plan = [] })).calls
 
   calm_sub : (s : SubId) (queue : ℕ) → HasPlainLink script s → AllByRecursion (λ (n : CallNote). IsCalm n.call) (calls_on (Sub s) queue)
   calm_sub s queue link =
-      let found = only link.terms.topic script.shape.publisher_topics link.alone in
-      let small : s.client < clients_of script.shape = subst (λ (n : ℕ). s.client < n) (sym orderly.shaped.clients) (of_client s script [] link.terms link.joined) in
-      let said : terms_of script run s ≡ Some link.terms = same_terms s script run.clients s.client ∙ link.joined in
-      let was = came_and_went script run orderly is s link.terms small said in
-      let fed = fed_by script orderly.shaped s link.terms.topic found.0 found.1 run is link.terms said refl in
+      let it : IsPlain s link.terms = plain s link in
       ⊎_elim
-      (λ there. faultless_is_calm script run (legal.shaped script run is) (whole_edges script run is) s link.terms found.0 was.joined link.faultless
-      (subst (λ (n : ℕ). found.0 < n) (count_publishers script orderly.shaped) found.1.known) fed was.was was.dead (record { object = Sub s; queue = queue; plan = [] }) refl there)
+      (λ there. faultless_is_calm script run (legal.shaped script run is) (whole_edges script run is) s link.terms it.place it.came.joined link.faultless
+      it.publisher it.fed it.came.was it.came.dead (record { object = Sub s; queue = queue; plan = [] }) refl there)
       (λ past. subst (λ (journal : List (ℕ × QueueNote)). AllByRecursion (λ (n : CallNote). IsCalm n.call) (map noted (calls_of (Sub s) (deeds (orders_by (setting_of script)) journal))))
       (sym (get_or_past run.queues queue [] (subst (λ (n : ℕ). n ≤ queue) (sym (legal.shaped script run is).queues) past))) tt)
       (cases_lt queue (queues_of script.shape))

@@ -138,7 +138,7 @@ pub all_right : {X : Type 0} (P : X → Type 0) (xs ys : List X) → AllByRecurs
 all_right P [] ys all = all
 all_right P (x ∷ xs) ys all = all_right P xs ys all.1
 
--- what holds of each, if something holds
-pub all_under : {X : Type 0} (A : Type 0) (P : X → Type 0) (xs : List X) → (A → AllByRecursion P xs) → AllByRecursion (λ (x : X). A → P x) xs
-all_under A P [] all = tt
-all_under A P (x ∷ xs) all = (λ a. (all a).0, all_under A P xs (λ a. (all a).1))
+-- what holds of each for every a
+pub all_each : {X : Type 0} (A : Type 0) (P : A → X → Type 0) (xs : List X) → ((a : A) → AllByRecursion (P a) xs) → AllByRecursion (λ (x : X). (a : A) → P a x) xs
+all_each A P [] all = tt
+all_each A P (x ∷ xs) all = (λ a. (all a).0, all_each A P xs (λ a. (all a).1))

@@ -29,7 +29,7 @@ use Rattle.mama_event.specs.declared.to_queue.Make.TheVariants as make
 use Rattle.mama_event.specs.declared.to_timers.TimersNote.TheVariants as t
 use Rattle.mama_rules.specs.Bridge.{BridgeEvent, joins, leaves, opens, closes, asks, publishes, images, replies, wishes, client_done, sends_done, settled, bye, no_event, terms_in, is_live, live_subs, open_inboxes, sent_to, sent_with, window, faults_of, inbox_faults_of, inbox_terms_in, reply_window, replied_to, joins_sub, opens_inbox, is_open, is_settling, has_ending, free_slot, may_wish, BridgePut, to_publisher, to_queue, to_timers, place_of, to_place, to_found, to_first, wants_image, delivered, replied, gone, passed_on, passed, passed_reply, ended, ended_inbox, answer, settle_begins, ending_comes, bridge_reaction}
 use Rattle.mama_legal.proofs.Lives.{same_sub-is}
-use Rattle.mama_genuine.proofs.Elements.{all_append, all_if, all_flat_map, all_flat, all_mapped, all_puts_known, all_puts_so_far, all_under}
+use Rattle.mama_genuine.proofs.Elements.{all_append, all_if, all_flat_map, all_flat, all_mapped, all_puts_known, all_puts_so_far, all_each}
 use Rattle.mama_genuine.proofs.Linked.{all_passed_on, all_rest}
 use Rattle.mama_genuine.proofs.Asking.{Own}
 use Rattle.mama_genuine.proofs.Wishing.{Brings}
@@ -120,7 +120,7 @@ module _ (shape : Shape) (s : SubId) (wanted r : ℕ) (first : (n : ℕ) → pos
   all_delivered : (sub : SubId) (sofar : List BridgePut) (msgs : List MarketMsg) → (same_sub sub s ≡ true → AllByRecursion (Own (r + 1)) msgs) → AllByRecursion InPut (delivered sub sofar msgs)
   all_delivered sub sofar msgs all =
       all_flat_map (λ (m : MarketMsg). same_sub sub s ≡ true → Own (r + 1) m) InPut (λ (m : MarketMsg). to_place (place_of (Sub sub) sofar) (λ slot. q.Deliver slot sub m))
-      (λ m h. placed (place_of (Sub sub) sofar) (λ slot. q.Deliver slot sub m) (λ slot. h)) msgs (all_under (same_sub sub s ≡ true) (Own (r + 1)) msgs all)
+      (λ m h. placed (place_of (Sub sub) sofar) (λ slot. q.Deliver slot sub m) (λ slot. h)) msgs (all_each (same_sub sub s ≡ true) (λ same. Own (r + 1)) msgs all)
 
   all_replied : (i : InboxId) (sofar : List BridgePut) (bodies : List (List FieldData)) → AllByRecursion InPut (replied i sofar bodies)
   all_replied i sofar bodies =

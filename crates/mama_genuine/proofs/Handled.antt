@@ -2,6 +2,7 @@
 use Rattle.std.specs.Prelude.{◌&&◌, ◌||◌, not, if◌then◌else◌}
 use Rattle.std.specs.List.{flat_map}
 use Rattle.std.proofs.Common.{◌≡◌, ℕ, ◌+◌, Bool, true, false, List, [], ◌∷◌, ◌++◌, length, refl, sym, ◌∙◌, ap, append_assoc, append-nil}
+use Rattle.std.proofs.lemmas.Bool.{both_ways}
 use Rattle.std.proofs.lemmas.List.Concat.{flat_map-append}
 use Rattle.mama_journal.specs.Journal.{puts_so_far, first_said}
 use Rattle.mama_event.specs.Object.{same_sub}
@@ -38,7 +39,7 @@ muted_stays o live (d ∷ xs) ys h =
     (is_muted_after o ((live || begins_in o d) && not (stops_in o d)) (xs ++ ys)) h (muted_stays o ((live || begins_in o d) && not (stops_in o d)) xs ys)
 
 module _ (orders : ObjectId → ℕ → List Order) (s : SubId) where
-  none_made : (o : ObjectId) (sofar : List Deed) (calls : List Callback) → messages_of s (made orders o sofar calls) ≡ []
+  pub none_made : (o : ObjectId) (sofar : List Deed) (calls : List Callback) → messages_of s (made orders o sofar calls) ≡ []
   none_made o sofar [] = refl
   none_made o sofar (c ∷ cs) =
       let deed : Deed = called o c (orders o (length (calls_of o sofar) + 1)) in
@@ -102,7 +103,7 @@ module _ (orders : ObjectId → ℕ → List Order) (s : SubId) where
     live_served (q.Gone slot object) live = none_made object sofar (on.Destroy ∷ [])
     live_served q.Fin live = refl
 
-  abbrev walk : List (ℕ × QueueNote) → List Deed → List (ℕ × QueueNote) → List Deed
+  abbrev pub walk : List (ℕ × QueueNote) → List Deed → List (ℕ × QueueNote) → List Deed
   walk before sofar es = puts_so_far (λ b d (e : ℕ × QueueNote). served orders b d e.1) before sofar es
 
   muted_walk : (before : List (ℕ × QueueNote)) (sofar : List Deed) (es : List (ℕ × QueueNote)) → is_muted (Sub s) sofar ≡ true
@@ -113,15 +114,21 @@ module _ (orders : ObjectId → ℕ → List Order) (s : SubId) where
       muted_walk (before ++ e ∷ []) (sofar ++ new) es (muted_stays (Sub s) false sofar new muted)
       ∙ flat_map-append (messages_in s) sofar new ∙ ap (λ (ms : List MarketMsg). messages_of s sofar ++ ms) (muted_served before sofar e.1 muted) ∙ append-nil (messages_of s sofar)
 
-  -- what was handled further, and what was not
-  record Part (sofar after : List Deed) (es : List (ℕ × QueueNote)) : Type 0 where
+  -- what is muted stays so to the end
+  muted_end : (before : List (ℕ × QueueNote)) (sofar : List Deed) (es : List (ℕ × QueueNote)) → is_muted (Sub s) sofar ≡ true → is_muted (Sub s) (walk before sofar es) ≡ true
+  muted_end before sofar [] muted = muted
+  muted_end before sofar (e ∷ es) muted = muted_end (before ++ e ∷ []) (sofar ++ served orders before sofar e.1) es (muted_stays (Sub s) false sofar (served orders before sofar e.1) muted)
+
+  -- what was handled further, and what was not; nothing is left where the subscription is not muted
+  pub record Part (sofar after : List Deed) (es : List (ℕ × QueueNote)) : Type 0 where
     pub taken : List MarketMsg
     pub left : List MarketMsg
     pub handled : messages_of s after ≡ messages_of s sofar ++ taken
     pub whole : flat_map (λ (e : ℕ × QueueNote). delivers s e.1) es ≡ taken ++ left
+    pub all : is_muted (Sub s) after ≡ false → left ≡ []
 
-  part : (before : List (ℕ × QueueNote)) (sofar : List Deed) (es : List (ℕ × QueueNote)) → Part sofar (walk before sofar es) es
-  part before sofar [] = record { taken = []; left = []; handled = sym (append-nil (messages_of s sofar)); whole = refl }
+  pub part : (before : List (ℕ × QueueNote)) (sofar : List Deed) (es : List (ℕ × QueueNote)) → Part sofar (walk before sofar es) es
+  part before sofar [] = record { taken = []; left = []; handled = sym (append-nil (messages_of s sofar)); whole = refl; all = λ live. refl }
   part before sofar (e ∷ es) = by_case (is_muted (Sub s) sofar) refl (part (before ++ e ∷ []) (sofar ++ served orders before sofar e.1) es)
     where
       by_case : (m : Bool) → is_muted (Sub s) sofar ≡ m → Part (sofar ++ served orders before sofar e.1) (walk before sofar (e ∷ es)) es → Part sofar (walk before sofar (e ∷ es)) (e ∷ es)
@@ -130,6 +137,7 @@ module _ (orders : ObjectId → ℕ → List Order) (s : SubId) where
         left = flat_map (λ (f : ℕ × QueueNote). delivers s f.1) (e ∷ es);
         handled = muted_walk before sofar (e ∷ es) muted ∙ sym (append-nil (messages_of s sofar));
         whole = refl;
+        all = λ live. absurd (both_ways (is_muted (Sub s) (walk before sofar (e ∷ es))) live (muted_end before sofar (e ∷ es) muted));
       }
       by_case false live ih = record {
         taken = delivers s e.1 ++ ih.taken;
@@ -138,6 +146,7 @@ module _ (orders : ObjectId → ℕ → List Order) (s : SubId) where
             ∙ ap (λ (ms : List MarketMsg). ms ++ ih.taken) (flat_map-append (messages_in s) sofar (served orders before sofar e.1) ∙ ap (λ (ms : List MarketMsg). messages_of s sofar ++ ms) (live_served before sofar e.1 live))
             ∙ append_assoc (messages_of s sofar) (delivers s e.1) ih.taken;
         whole = ap (λ (ms : List MarketMsg). delivers s e.1 ++ ms) ih.whole ∙ sym (append_assoc (delivers s e.1) ih.taken ih.left);
+        all = ih.all;
       }
 
   -- the messages that it handled by a whole journal begin those that the journal delivers

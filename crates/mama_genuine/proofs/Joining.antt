@@ -34,29 +34,29 @@ length-steps queues n moments [] = refl
 length-steps queues n moments (lines ∷ clients) = ap suc (length-steps queues (suc n) moments clients)
 
 -- a word leaves the count of subscriptions
-word_subs : (st : Standing) (word : QueueWord) → (after_word st word).subs ≡ st.subs
+pub word_subs : (st : Standing) (word : QueueWord) → (after_word st word).subs ≡ st.subs
 word_subs st (Number n) = refl
 word_subs st Any = refl
 
 module _ (s : SubId) where
-  abbrev None_joins : List QueuePut → Type 0
-  None_joins puts = AllByRecursion (λ (put : QueuePut). terms_put s put ≡ None) puts
+  abbrev pub JoinsNone : List QueuePut → Type 0
+  JoinsNone puts = AllByRecursion (λ (put : QueuePut). terms_put s put ≡ None) puts
 
   -- each put that joins the subscription joins it with the first terms
   abbrev Says : Option SubTerms → QueuePut → Type 0
   Says first put = (terms : SubTerms) → terms_put s put ≡ Some terms → first ≡ Some terms
 
-  abbrev Joins_once : List QueuePut → Type 0
-  Joins_once puts = AllByRecursion (Says (first_said (terms_put s) puts)) puts
+  abbrev JoinsOnce : List QueuePut → Type 0
+  JoinsOnce puts = AllByRecursion (Says (first_said (terms_put s) puts)) puts
 
-  none_says : (first : Option SubTerms) (puts : List QueuePut) → None_joins puts → AllByRecursion (Says first) puts
+  none_says : (first : Option SubTerms) (puts : List QueuePut) → JoinsNone puts → AllByRecursion (Says first) puts
   none_says first [] none = tt
   none_says first (put ∷ puts) none = (λ terms is. absurd (said_nothing terms (sym none.0 ∙ is)), none_says first puts none.1)
     where
       said_nothing : (terms : SubTerms) → None ≡ Some terms → ⊥
       said_nothing terms h = cc
 
-  none_first : (front rest : List QueuePut) → None_joins front → first_said (terms_put s) (front ++ rest) ≡ first_said (terms_put s) rest
+  pub none_first : (front rest : List QueuePut) → JoinsNone front → first_said (terms_put s) (front ++ rest) ≡ first_said (terms_put s) rest
   none_first [] rest none = refl
   none_first (put ∷ front) rest none =
       ap (λ (o : Option SubTerms). option_or o (first_said (terms_put s) (front ++ rest))) none.0 ∙ none_first front rest none.1
@@ -65,28 +65,28 @@ module _ (s : SubId) where
   says_append first [] rest one two = two
   says_append first (put ∷ front) rest one two = (one.0, says_append first front rest one.1 two)
 
-  skipped : (front rest : List QueuePut) → None_joins front → Joins_once rest → Joins_once (front ++ rest)
+  skipped : (front rest : List QueuePut) → JoinsNone front → JoinsOnce rest → JoinsOnce (front ++ rest)
   skipped front rest none once =
       subst (λ (first : Option SubTerms). AllByRecursion (Says first) (front ++ rest)) (sym (none_first front rest none))
       (says_append (first_said (terms_put s) rest) front rest (none_says (first_said (terms_put s) rest) front none) once)
 
-  none_append : (front rest : List QueuePut) → None_joins front → None_joins rest → None_joins (front ++ rest)
+  none_append : (front rest : List QueuePut) → JoinsNone front → JoinsNone rest → JoinsNone (front ++ rest)
   none_append [] rest one two = two
   none_append (put ∷ front) rest one two = (one.0, none_append front rest one.1 two)
 
   -- ---- lines
 
-  pauses : (n : ℕ) → None_joins (all_steps (replicate n []))
+  pub pauses : (n : ℕ) → JoinsNone (all_steps (replicate n []))
   pauses zero = tt
   pauses (suc n) = pauses n
 
-  ordered : (o : Order) → terms_put s (order_put o) ≡ None
+  pub ordered : (o : Order) → terms_put s (order_put o) ≡ None
   ordered (order.Stop sub) = refl
   ordered (order.Disarm timer) = refl
   ordered (order.Close inbox) = refl
   ordered (order.Ask inbox topic fids) = refl
 
-  not_same : (terms : SubTerms) (c : Bool) → c ≡ false → (if c then Some terms else None) ≡ None
+  pub not_same : (terms : SubTerms) (c : Bool) → c ≡ false → (if c then Some terms else None) ≡ None
   not_same terms c other = ap (λ (x : Bool). if x then Some terms else None) other
 
   module _ (queues c : ℕ) where
@@ -105,11 +105,11 @@ module _ (s : SubId) where
     abbrev Past : Standing → Type 0
     Past st = (n : ℕ) → st.subs ≤ n → same_sub (id n) s ≡ false
 
-    later : (st : Standing) (l : ClientLine) (rest : List QueuePut) → (after_line st l).subs ≡ st.subs → None_joins (own st l) → Past st
-        → (Past (after_line st l) → None_joins rest) → None_joins (own st l ++ rest)
+    later : (st : Standing) (l : ClientLine) (rest : List QueuePut) → (after_line st l).subs ≡ st.subs → JoinsNone (own st l) → Past st
+        → (Past (after_line st l) → JoinsNone rest) → JoinsNone (own st l ++ rest)
     later st l rest same front past more = none_append (own st l) rest front (more (λ n above. past n (subst (λ (k : ℕ). k ≤ n) same above)))
 
-    none_by : (st : Standing) (l : ClientLine) (rest : List QueuePut) → Past st → (Past (after_line st l) → None_joins rest) → None_joins (own st l ++ rest)
+    none_by : (st : Standing) (l : ClientLine) (rest : List QueuePut) → Past st → (Past (after_line st l) → JoinsNone rest) → JoinsNone (own st l ++ rest)
     none_by st (line.Sub topic kind queue cache recaps faults plan) rest past more =
         let terms : SubTerms = record { topic = topic; kind = kind; queue = queue_named queues st queue; cache = cache; recaps = recaps; faults = faults } in
         (not_same terms (same_sub (id st.subs) s) (past st.subs (omega arith)), more (λ n above. past n (omega arith)))
@@ -121,9 +121,9 @@ module _ (s : SubId) where
     none_by st (line.Pause n) rest past more = later st (line.Pause n) rest refl (pauses n) past more
 
     -- no line joins it, where the numbers that it could have are gone
-    none : (st : Standing) (ls : List ClientLine) → Past st → None_joins (steps st ls)
+    none : (st : Standing) (ls : List ClientLine) → Past st → JoinsNone (steps st ls)
     none st [] past = (refl, (refl, tt))
-    none st (l ∷ ls) past = subst None_joins (sym (more st l ls)) (none_by st l (steps (after_line st l) ls) past (none (after_line st l) ls))
+    none st (l ∷ ls) past = subst JoinsNone (sym (more st l ls)) (none_by st l (steps (after_line st l) ls) past (none (after_line st l) ls))
 
     gone_by : (k n : ℕ) → k ≡ s.number → suc k ≤ n → same_sub (id n) s ≡ false
     gone_by k n is above = and_second (c == s.client) (n == s.number) (ne_eqb n s.number (λ same. absurd (omega arith)))
@@ -135,19 +135,19 @@ module _ (s : SubId) where
     named : (n : ℕ) → same_sub (id n) s ≡ true → n ≡ s.number
     named n same = eqb-true n s.number (and_parts (c == s.client) (n == s.number) same).1
 
-    first_one : (n : ℕ) (terms : SubTerms) (rest : List QueuePut) → None_joins rest → same_sub (id n) s ≡ true
-        → Joins_once (to_bridge (b.Join (id n) terms (Sub (id n))) ∷ rest)
+    first_one : (n : ℕ) (terms : SubTerms) (rest : List QueuePut) → JoinsNone rest → same_sub (id n) s ≡ true
+        → JoinsOnce (to_bridge (b.Join (id n) terms (Sub (id n))) ∷ rest)
     first_one n terms rest gone same =
         let head : terms_put s (to_bridge (b.Join (id n) terms (Sub (id n)))) ≡ Some terms = ap (λ (x : Bool). if x then Some terms else None) same in
         let first : Option SubTerms = option_or (if same_sub (id n) s then Some terms else None) (first_said (terms_put s) rest) in
         let is : first ≡ Some terms = ap (λ (o : Option SubTerms). option_or o (first_said (terms_put s) rest)) head in
         (λ given said. is ∙ sym head ∙ said, none_says first rest gone)
 
-    once_by : (st : Standing) (l : ClientLine) (rest : List QueuePut) → Joins_once rest → (Past (after_line st l) → None_joins rest) → Joins_once (own st l ++ rest)
+    once_by : (st : Standing) (l : ClientLine) (rest : List QueuePut) → JoinsOnce rest → (Past (after_line st l) → JoinsNone rest) → JoinsOnce (own st l ++ rest)
     once_by st (line.Sub topic kind queue cache recaps faults plan) rest once gone =
         let l : ClientLine = line.Sub topic kind queue cache recaps faults plan in
         let terms : SubTerms = record { topic = topic; kind = kind; queue = queue_named queues st queue; cache = cache; recaps = recaps; faults = faults } in
-        (elim (same_sub (id st.subs) s) as (λ x. same_sub (id st.subs) s ≡ x → Joins_once (own st l ++ rest)) [
+        (elim (same_sub (id st.subs) s) as (λ x. same_sub (id st.subs) s ≡ x → JoinsOnce (own st l ++ rest)) [
           | true ↦ λ same. first_one st.subs terms rest (gone (λ n above. gone_by st.subs n (named st.subs same) above)) same
           | false ↦ λ other. skipped (own st l) rest (not_same terms (same_sub (id st.subs) s) other, tt) once
         ]) refl
@@ -158,9 +158,9 @@ module _ (s : SubId) where
     once_by st line.NowClock rest once gone = skipped (own st line.NowClock) rest (refl, tt) once
     once_by st (line.Pause n) rest once gone = skipped (own st (line.Pause n)) rest (pauses n) once
 
-    once : (st : Standing) (ls : List ClientLine) → Joins_once (steps st ls)
+    once : (st : Standing) (ls : List ClientLine) → JoinsOnce (steps st ls)
     once st [] = none_says None (steps st []) (refl, (refl, tt))
-    once st (l ∷ ls) = subst Joins_once (sym (more st l ls)) (once_by st l (steps (after_line st l) ls) (once (after_line st l) ls) (none (after_line st l) ls))
+    once st (l ∷ ls) = subst JoinsOnce (sym (more st l ls)) (once_by st l (steps (after_line st l) ls) (once (after_line st l) ls) (none (after_line st l) ls))
 
   -- ---- moments
 
@@ -240,9 +240,9 @@ module _ (s : SubId) where
   all_from_says terms (put ∷ puts) all = (from_says terms put all.0, all_from_says terms puts all.1)
 
   module _ (script : ScriptData) (moments : List (List ℕ)) where
-    other_client : (c : ℕ) → (c ≡ s.client → ⊥) → None_joins (client_puts script moments c)
+    other_client : (c : ℕ) → (c ≡ s.client → ⊥) → JoinsNone (client_puts script moments c)
     other_client c other =
-        each_client None_joins (queues_of script.shape) 0 moments script.clients c tt
+        each_client JoinsNone (queues_of script.shape) 0 moments script.clients c tt
         (λ d st ls is. none (queues_of script.shape) d st ls (λ n above. apart d n (λ same. other (sym (is_client d is) ∙ same))))
       where
         is_client : (d : ℕ) → d ≡ 0 + c → d ≡ c
@@ -258,7 +258,7 @@ module _ (s : SubId) where
         ⊎_elim
         (λ same. all_from_says terms (client_puts script moments c)
         (subst (λ (first : Option SubTerms). AllByRecursion (Says first) (client_puts script moments c)) (ap (λ (d : ℕ). first_said (terms_put s) (client_puts script moments d)) same ∙ said)
-        (each_client Joins_once (queues_of script.shape) 0 moments script.clients c tt (λ d st ls is. once (queues_of script.shape) d st ls))))
+        (each_client JoinsOnce (queues_of script.shape) 0 moments script.clients c tt (λ d st ls is. once (queues_of script.shape) d st ls))))
         (λ other. all_from_says terms (client_puts script moments c) (none_says (Some terms) (client_puts script moments c) (other_client c other)))
         (cases_eq c s.client)
 

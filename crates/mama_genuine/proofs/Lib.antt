@@ -20,4 +20,7 @@ pub mod Wishing
 pub mod Feeding
 pub mod Joining
 pub mod Alone
+pub mod Queued
 pub mod CalmLinks
+pub mod Giving
+pub mod AllGiven

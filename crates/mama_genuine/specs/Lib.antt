@@ -5,3 +5,4 @@ pub mod Gaps
 pub mod Order
 pub mod Faultless
 pub mod CalmLinks
+pub mod GivenAll

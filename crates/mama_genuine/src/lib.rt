@@ -15,7 +15,7 @@ mod laws;
 
 pub use laws::{
     delivered_messages_are_sent, faultless_links_are_calm, given_messages_are_sent,
-    given_messages_of_rounds_are_sent, links_of_rounds_are_calm, messages_of_rounds_are_sent, ok_images_are_records,
-    ok_images_of_rounds_are_records, told_gaps_are_true, told_gaps_of_rounds_are_true,
-    windows_are_in_order,
+    given_messages_of_rounds_are_sent, links_of_rounds_are_calm, messages_of_rounds_are_sent,
+    ok_images_are_records, ok_images_of_rounds_are_records, told_gaps_are_true,
+    told_gaps_of_rounds_are_true, updates_of_rounds_are_given, windows_are_in_order,
 };

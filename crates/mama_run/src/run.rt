@@ -10,7 +10,7 @@ use crate::status::Status;
 use mama_drive::serial;
 use mama_edge::{Clock, ReadAll, Sink, Source, read_all, write_all_counted};
 use mama_genuine::{
-    given_messages_of_rounds_are_sent, messages_of_rounds_are_sent,
+    given_messages_of_rounds_are_sent, links_of_rounds_are_calm, messages_of_rounds_are_sent,
     ok_images_of_rounds_are_records, told_gaps_of_rounds_are_true,
 };
 use mama_legal::round_is_legal;
@@ -132,6 +132,7 @@ fn play<C: Clock>(alloc: Global, script: &Script, clock: &mut C) -> Result<RunRe
     given_messages_of_rounds_are_sent();
     ok_images_of_rounds_are_records();
     told_gaps_of_rounds_are_true();
+    links_of_rounds_are_calm();
     serial(alloc, script, clock)
 }
 
