@@ -3,11 +3,11 @@
 -- the next event that it takes is of that publisher too, if all before it were.
 use Rattle.std.specs.Prelude.{slice_index, slice_index_or, slice_get, position, if◌then◌else◌, ◌⊎◌, Option, None, Some}
 use Rattle.std.specs.List.{AllByRecursion, flat_map}
-use Rattle.std.proofs.Common.{◌≡◌, ℕ, zero, suc, ◌+◌, ◌<◌, ◌==◌, Bool, true, false, List, [], ◌∷◌, ◌++◌, length, map, refl, sym, ◌∙◌, ap, subst, arith, inl, inr, zero-add}
+use Rattle.std.proofs.Common.{◌≡◌, ℕ, zero, suc, ◌+◌, ◌<◌, ◌==◌, Bool, true, false, List, [], ◌∷◌, ◌++◌, length, refl, sym, ◌∙◌, ap, subst, arith, inl, inr, zero-add}
 use Rattle.std.proofs.lemmas.Bool.{both_ways}
 use Rattle.std.proofs.lemmas.Bool.Decides.{Decides-eqb}
 use Rattle.std.proofs.lemmas.List.Quantifiers.{position-Some}
-use Rattle.mama_journal.specs.Journal.{count_of, first_said, puts}
+use Rattle.mama_journal.specs.Journal.{count_of}
 use Rattle.mama_journal.specs.Lane.{by_port}
 use Rattle.mama_msg.specs.Field.{FieldData}
 use Rattle.mama_event.specs.Object.{same_sub}
@@ -35,15 +35,15 @@ use Rattle.mama_script.specs.Script.{ScriptData}
 use Rattle.mama_script.specs.Tree.{IsShaped}
 use Rattle.mama_record.specs.RunData.{RunData}
 use Rattle.mama_rounds.specs.Client.{bridge_part}
-use Rattle.mama_rounds.specs.World.{Setting, World, no_section, orders_by, publisher_part, queue_part, publisher_did, bridge_did, bridge_took, bridge_turn, timers_took, timers_turn, publisher_took, publisher_turn, queue_took, queue_turn}
+use Rattle.mama_rounds.specs.World.{Setting, World, no_section, orders_by, publisher_part, queue_part, publisher_did, bridge_took, bridge_turn, timers_took, timers_turn, publisher_took, publisher_turn, queue_took, queue_turn}
 use Rattle.mama_rounds.specs.Stage.{Stage, client_stepped, client_step, entries_done, publisher_stepped, publisher_step, IsStageDrained}
-use Rattle.mama_rounds.specs.Round.{publishers_from, setting_of, start, IsRound}
-use Rattle.mama_legal.specs.Edges.{client_puts, queue_puts, put_on_bridge, put_on_queue, taken_in, taken_by}
+use Rattle.mama_rounds.specs.Round.{setting_of, start, IsRound}
+use Rattle.mama_legal.specs.Edges.{client_puts, queue_puts, put_on_bridge, put_on_queue, taken_by}
 use Rattle.mama_legal.specs.Streams.{terms_of}
 use Rattle.mama_legal.proofs.AllSent.{count_publishers}
 use Rattle.mama_legal.proofs.Putters.{by_bridge_port}
 use Rattle.mama_legal.proofs.Stages.{IsKept, drain_keeps, IsKeptByRounds, rounds_keep}
-use Rattle.mama_legal.proofs.Whole.{Running, drained, client_runs, publisher_runs, sections_len, resting_at_start}
+use Rattle.mama_legal.proofs.Whole.{Running, drained, client_runs, publisher_runs, resting_at_start}
 use Rattle.mama_legal.proofs.Worlds.{Holds, bridge_turn_keeps, timers_turn_keeps, publisher_turn_keeps, queue_turn_keeps}
 use Rattle.mama_genuine.specs.Sent.{Delivers}
 use Rattle.mama_genuine.specs.Order.{IsFedBy}

@@ -1,12 +1,11 @@
 -- A context that takes messages of one sender alone asks no other for a recap.
 use Rattle.std.specs.Prelude.{if◌then◌else◌}
 use Rattle.std.specs.List.{AllByRecursion}
-use Rattle.std.proofs.Common.{◌≡◌, ℕ, ◌==◌, nat_le, Bool, true, false, List, [], ◌∷◌, ◌++◌, refl, ◌∙◌}
+use Rattle.std.proofs.Common.{◌≡◌, ℕ, ◌==◌, nat_le, Bool, true, false, List, [], ◌∷◌, refl, ◌∙◌}
 use Rattle.mama_msg.specs.Field.{FieldData}
 use Rattle.mama_event.specs.declared.market.MarketMsg.{MarketMsg}
 use Rattle.mama_event.specs.declared.market.SubKind.{SubKind}
 use Rattle.mama_event.specs.declared.market.SubKind.TheVariants.{Market, Snapshot, Basic}
-use Rattle.mama_event.specs.declared.market.Quality.TheVariants as quality
 use Rattle.mama_event.specs.declared.callback.Callback.{Callback}
 use Rattle.mama_event.specs.declared.callback.Callback.TheVariants as on
 use Rattle.mama_dq.specs.declared.table.Phase.{Phase}
@@ -17,7 +16,7 @@ use Rattle.mama_dq.specs.declared.table.Action.TheVariants.{Keep, Start, Apply, 
 use Rattle.mama_dq.specs.Table.{is_update, decided, relation_of}
 use Rattle.mama_dq.specs.Cache.{Reached, reached}
 use Rattle.mama_dq.specs.Context.{ContextData, new_context}
-use Rattle.mama_dq.specs.Strategy.{Step, if_ok, if_stale, turned_to, with_image_of, waiting_for, stale_calls, switch_calls, adopt_calls, update_acted, updated, as_message, handled, cached_above, reached_last, stopped_short, healed, acted, snapshot_acted, step_by, after, after_all, callbacks_of, fold}
+use Rattle.mama_dq.specs.Strategy.{Step, turned_to, with_image_of, waiting_for, stale_calls, switch_calls, adopt_calls, update_acted, updated, as_message, handled, cached_above, reached_last, stopped_short, healed, acted, snapshot_acted, step_by, after, after_all, callbacks_of, fold}
 use Rattle.mama_dq.proofs.Comparisons.{eq_true}
 use Rattle.mama_genuine.proofs.Elements.{all_append}
 

@@ -1,5 +1,5 @@
 -- In a run in rounds a plain link on a topic with one publisher is calm.
-use Rattle.std.specs.Prelude.{slice_index_or, Some}
+use Rattle.std.specs.Prelude.{Some}
 use Rattle.std.specs.List.{AllByRecursion, AllZip}
 use Rattle.std.proofs.Common.{◌≡◌, ℕ, ◌<◌, ◌≤◌, List, [], length, map, refl, sym, ◌∙◌, subst, ⊎_elim}
 use Rattle.std.proofs.lemmas.Bool.{cases_lt}
@@ -26,7 +26,7 @@ use Rattle.mama_legal.proofs.Whole as legal
 use Rattle.mama_genuine.specs.Faultless.{IsCalm}
 use Rattle.mama_genuine.specs.Order.{IsFedBy}
 use Rattle.mama_genuine.specs.CalmLinks.{HasPlainLink, AreCalmFor, HasCalmCalls, RoundLinksAreCalm}
-use Rattle.mama_genuine.proofs.Alone.{only, IsOnly, fed_by}
+use Rattle.mama_genuine.proofs.Alone.{only, fed_by}
 use Rattle.mama_genuine.proofs.Calm.{faultless_is_calm}
 use Rattle.mama_genuine.proofs.Joining.{of_client, same_terms}
 use Rattle.mama_genuine.proofs.Truths.{all_zipped}

@@ -1,9 +1,9 @@
 -- What the bridge puts for a subscription on a topic that one publisher has: it asks that publisher alone for images, and
 -- passes on that publisher's messages alone.
-use Rattle.std.specs.Prelude.{◌-◌, ◌&&◌, ◌||◌, not, position, slice_index, if◌then◌else◌, Option, None, Some}
+use Rattle.std.specs.Prelude.{◌-◌, ◌&&◌, not, position, slice_index, if◌then◌else◌, Option, None, Some}
 use Rattle.std.specs.List.{AllByRecursion, list_any, flat_map}
 use Rattle.std.specs.Option.{option_or}
-use Rattle.std.proofs.Common.{◌≡◌, ℕ, suc, ◌+◌, ◌==◌, Bool, true, false, List, [], ◌∷◌, ◌++◌, map, refl, sym, ◌∙◌, ap, subst, arith}
+use Rattle.std.proofs.Common.{◌≡◌, ℕ, ◌+◌, ◌==◌, true, false, List, [], ◌∷◌, ◌++◌, map, refl, sym, subst, arith}
 use Rattle.std.proofs.lemmas.Bool.Decides.{Decides-eqb}
 use Rattle.mama_msg.specs.Field.{FieldData}
 use Rattle.mama_journal.specs.Journal.{all_puts, turns, first_said, numbers_below}

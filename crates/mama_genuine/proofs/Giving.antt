@@ -1,5 +1,5 @@
 -- Which messages a subscription is given that handles messages of one sender in order.
-use Rattle.std.specs.Prelude.{◌&&◌, ◌||◌, not, filter, if◌then◌else◌, ◌⊎◌, Option, Some, None}
+use Rattle.std.specs.Prelude.{◌&&◌, ◌||◌, not, if◌then◌else◌, ◌⊎◌, Option, Some, None}
 use Rattle.std.specs.List.{AllByRecursion, flat_map}
 use Rattle.std.specs.Option.{option_or}
 use Rattle.std.proofs.Common.{◌≡◌, ℕ, ◌+◌, Bool, true, false, List, [], ◌∷◌, ◌++◌, map, length, refl, sym, ◌∙◌, ap, subst, inl, inr, append_assoc, append-nil}
@@ -21,11 +21,11 @@ use Rattle.mama_event.specs.declared.to_queue.QueueNote.{QueueNote}
 use Rattle.mama_event.specs.declared.to_queue.QueueNote.TheVariants as q
 use Rattle.mama_dq.specs.Table.{is_update}
 use Rattle.mama_dq.specs.Context.{new_context}
-use Rattle.mama_dq.specs.Strategy.{callbacks_of, after_all, fold, calls_after}
+use Rattle.mama_dq.specs.Strategy.{callbacks_of, fold, calls_after}
 use Rattle.mama_dq.specs.Orderly.{AreInOrder, as_ok, from_first_image}
 use Rattle.mama_dq.proofs.OrderlyLaw.{orderly_law}
 use Rattle.mama_dq.proofs.StrategyLemmas.{calls_after-append}
-use Rattle.mama_queue_rules.specs.Queue.{Deed, handled, called, calls_in, calls_of, messages_in, messages_of, is_muted, is_muted_after, begins_in, stops_in, orders_end_of, is_destroy, made, make_in, context_of, served, deeds}
+use Rattle.mama_queue_rules.specs.Queue.{Deed, handled, called, calls_of, messages_in, messages_of, is_muted, is_muted_after, begins_in, stops_in, orders_end_of, is_destroy, made, make_in, context_of, served, deeds}
 use Rattle.mama_legal.specs.Streams.{is_of, events_of}
 use Rattle.mama_legal.proofs.Lives.{same_sub-is, same_sub-itself}
 use Rattle.mama_genuine.specs.GivenAll.{given_in}

@@ -1,6 +1,6 @@
 -- A client's lines join a subscription once.
 use Rattle.std.specs.Prelude.{slice_index_or, replicate, Option, None, Some, if◌then◌else◌}
-use Rattle.std.specs.List.{AllByRecursion, flat_map}
+use Rattle.std.specs.List.{AllByRecursion}
 use Rattle.std.specs.Option.{option_or}
 use Rattle.std.proofs.Common.{◌≡◌, ℕ, zero, suc, ◌+◌, ◌<◌, ◌≤◌, ◌==◌, ◌%◌, ◌&&◌, Bool, true, false, List, [], ◌∷◌, ◌++◌, length, refl, sym, ◌∙◌, ap, subst, arith, ⊎_elim}
 use Rattle.std.proofs.lemmas.Bool.{ne_eqb, eqb-true, and_parts, cases_lt, cases_eq}
@@ -25,7 +25,7 @@ use Rattle.mama_event.specs.Ports.{queues_of}
 use Rattle.mama_rounds.specs.Client.{Standing, at_first, later_moments, queue_named, after_word, after_line, line_steps, steps_from}
 use Rattle.mama_rounds.specs.Round.{all_client_steps}
 use Rattle.mama_legal.specs.Edges.{all_steps, client_puts}
-use Rattle.mama_legal.specs.Streams.{terms_noted, terms_put}
+use Rattle.mama_legal.specs.Streams.{terms_put}
 
 -- each client's steps are those of its lines, and there are no more
 

@@ -2,7 +2,7 @@
 use Rattle.std.specs.Prelude.{slice_index_or, Option, None, Some, if◌then◌else◌}
 use Rattle.std.specs.List.{AllByRecursion}
 use Rattle.std.specs.Option.{option_or}
-use Rattle.std.proofs.Common.{◌≡◌, ℕ, zero, suc, ◌+◌, ◌≤◌, ◌==◌, ◌&&◌, Bool, true, false, List, [], ◌∷◌, ◌++◌, filter, refl, sym, ◌∙◌, ap, subst, arith}
+use Rattle.std.proofs.Common.{◌≡◌, ℕ, zero, suc, ◌+◌, ◌≤◌, ◌==◌, Bool, true, false, List, [], ◌∷◌, ◌++◌, filter, refl, sym, ◌∙◌, ap, subst, arith}
 use Rattle.std.proofs.lemmas.Bool.{eqb-true, and_parts}
 use Rattle.std.proofs.lemmas.List.Concat.{flat_map-append}
 use Rattle.mama_journal.specs.Journal.{first_said}
@@ -10,7 +10,7 @@ use Rattle.mama_event.specs.Object.{same_sub}
 use Rattle.mama_event.specs.Ports.{queues_of}
 use Rattle.mama_event.specs.declared.ids.SubId.{SubId}
 use Rattle.mama_event.specs.declared.ids.ObjectId.{ObjectId}
-use Rattle.mama_event.specs.declared.ids.ObjectId.TheVariants.{Sub, Timer, Inbox}
+use Rattle.mama_event.specs.declared.ids.ObjectId.TheVariants.{Sub}
 use Rattle.mama_event.specs.declared.order.PlanRow.{PlanRow}
 use Rattle.mama_event.specs.declared.to_bridge.SubTerms.{SubTerms}
 use Rattle.mama_queue_rules.specs.Queue.{QueuePut}
@@ -18,7 +18,7 @@ use Rattle.mama_script.specs.declared.client.ClientLine.{ClientLine}
 use Rattle.mama_script.specs.declared.client.ClientLine.TheVariants as line
 use Rattle.mama_script.specs.Script.{ScriptData}
 use Rattle.mama_rounds.specs.Client.{Standing, Planned, at_first, queue_named, after_line, line_steps, steps_from, line_object, objects_from}
-use Rattle.mama_rounds.specs.Round.{all_client_steps, objects_of, is_sub, is_timer, is_inbox, by_kind, setting_of}
+use Rattle.mama_rounds.specs.Round.{all_client_steps, objects_of, is_sub, is_timer, is_inbox, setting_of}
 use Rattle.mama_legal.specs.Edges.{all_steps}
 use Rattle.mama_legal.specs.Streams.{terms_put}
 use Rattle.mama_legal.proofs.Lives.{same_sub-itself}

@@ -1,7 +1,7 @@
 -- A queue wishes recaps for a subscription of the sender alone that all its messages are of.
 use Rattle.std.specs.Prelude.{◌&&◌, not, if◌then◌else◌, Option, Some, None}
 use Rattle.std.specs.List.{AllByRecursion, flat_map}
-use Rattle.std.proofs.Common.{◌≡◌, ℕ, ◌+◌, ◌==◌, Bool, true, false, List, [], ◌∷◌, ◌++◌, map, length, refl, sym, subst}
+use Rattle.std.proofs.Common.{◌≡◌, ℕ, ◌+◌, ◌==◌, true, false, List, [], ◌∷◌, ◌++◌, map, length, refl, sym, subst}
 use Rattle.mama_journal.specs.Journal.{count_of, first_said, puts}
 use Rattle.mama_event.specs.Object.{same_sub, same_object}
 use Rattle.mama_event.specs.declared.ids.SubId.{SubId}

@@ -9,6 +9,12 @@
 //! of these. Where one publisher alone feeds a subscription, what goes into its link is in that publisher's order, without
 //! a hole ([`windows_are_in_order`], `specs/Order.antt`); and where that link has no faults, its listener is told no gap and
 //! no change of quality ([`faultless_links_are_calm`], `specs/Faultless.antt`).
+//!
+//! In a run in rounds one publisher alone feeds a subscription if exactly one publisher of the script has its topic. So
+//! where its line has no fault rows it is told no gap and no change of quality ([`links_of_rounds_are_calm`],
+//! `specs/CalmLinks.antt`), and a market subscription is given all updates ([`updates_of_rounds_are_given`],
+//! `specs/GivenAll.antt`). That needs rounds: a recap is wished of the sender whose messages came, and it comes of the
+//! publisher that was asked, so it is by the order in which things happen that no other publisher is ever asked.
 #![tactic(auto)]
 
 mod laws;

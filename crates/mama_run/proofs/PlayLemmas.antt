@@ -9,11 +9,13 @@ use Rattle.mama_genuine.specs.Sent.{RoundMessagesAreSent, RoundGivenAreSent}
 use Rattle.mama_genuine.specs.Records.{RoundImagesAreRecords}
 use Rattle.mama_genuine.specs.Gaps.{RoundGapsAreTrue}
 use Rattle.mama_genuine.specs.CalmLinks.{RoundLinksAreCalm}
+use Rattle.mama_genuine.specs.GivenAll.{RoundUpdatesAreGiven}
 use Rattle.mama_run.specs.Answers.{IsRun}
 
 pub round_is_run : (script : ScriptData) (run : RunData) → IsScript script → IsWithin script
-    → RoundsAreLegal → RoundMessagesAreSent → RoundGivenAreSent → RoundImagesAreRecords → RoundGapsAreTrue → RoundLinksAreCalm → IsRound script run → IsRun script run
-round_is_run script run accepted within legal sent given records gaps calm round = record {
+    → RoundsAreLegal → RoundMessagesAreSent → RoundGivenAreSent → RoundImagesAreRecords → RoundGapsAreTrue → RoundLinksAreCalm → RoundUpdatesAreGiven
+    → IsRound script run → IsRun script run
+round_is_run script run accepted within legal sent given records gaps calm updates round = record {
   round = round;
   legal = legal script run orderly round;
   messages = sent script run round;
@@ -21,6 +23,7 @@ round_is_run script run accepted within legal sent given records gaps calm round
   images = records script run round;
   gaps = gaps script run round;
   calm = calm script run orderly round;
+  updates = updates script run orderly round;
 }
   where
     orderly : IsOrderly script

@@ -13,6 +13,7 @@ use Rattle.mama_genuine.specs.Sent.{AreSent, AreGivenSent}
 use Rattle.mama_genuine.specs.Records.{AreRecords}
 use Rattle.mama_genuine.specs.Gaps.{HasTrueGaps}
 use Rattle.mama_genuine.specs.CalmLinks.{AreLinksCalm}
+use Rattle.mama_genuine.specs.GivenAll.{AreAllGiven}
 use Rattle.mama_run.specs.declared.status.Status.{Status}
 use Rattle.mama_run.specs.declared.status.Status.TheVariants as s
 use Rattle.mama_run.specs.declared.run.NoLog.{NoLog}
@@ -28,8 +29,10 @@ pub record GaveAll (old new : Option (List ℕ)) (text : List ℕ) : Type 0 wher
 -- in order; what a queue took of a subscription is its Create, what its link lets through of what was sent while it was
 -- live, and its Gone, and likewise of timers and inboxes; the callbacks are those that the queues make, with the orders of
 -- the plans. And whatever the links lose, repeat and hold back: each message that was delivered, or given to a listener, is its
--- sender's own; each image that is ok is its sender's record at its number; and each gap that was told is true. Where a
--- subscription's line has no fault rows, and exactly one publisher has its topic, it is told no gap and no change of quality.
+-- sender's own; each image that is ok is its sender's record at its number; and each gap that was told is true. Where the
+-- line of a subscription has no fault rows, and exactly one publisher has its topic, it is told no gap and no change of
+-- quality; and if it is a market subscription, each update that the bridge took between its Join and its first Leave or the
+-- ending, with a number above the first image's, is called back once, unless the subscription was muted.
 pub record IsRun (script : ScriptData) (run : RunData) : Type 0 where
   pub round : IsRound script run
   pub legal : IsLegal script run
@@ -38,6 +41,7 @@ pub record IsRun (script : ScriptData) (run : RunData) : Type 0 where
   pub images : AreRecords (publishers_from 0 script.publishers) run.images
   pub gaps : AllZip (HasTrueGaps (setting_of script) run.queues) (setting_of script).objects run.calls
   pub calm : AreLinksCalm script run
+  pub updates : AreAllGiven script run
 
 -- the text spells an accepted script, and the other is the log of a run of it, its ports named by the script's shape
 pub record IsLogOf (text log : List ℕ) : Type 0 where

@@ -11,7 +11,7 @@ use mama_drive::serial;
 use mama_edge::{Clock, ReadAll, Sink, Source, read_all, write_all_counted};
 use mama_genuine::{
     given_messages_of_rounds_are_sent, links_of_rounds_are_calm, messages_of_rounds_are_sent,
-    ok_images_of_rounds_are_records, told_gaps_of_rounds_are_true,
+    ok_images_of_rounds_are_records, told_gaps_of_rounds_are_true, updates_of_rounds_are_given,
 };
 use mama_legal::round_is_legal;
 use mama_memory::OutOfMemory;
@@ -133,6 +133,7 @@ fn play<C: Clock>(alloc: Global, script: &Script, clock: &mut C) -> Result<RunRe
     ok_images_of_rounds_are_records();
     told_gaps_of_rounds_are_true();
     links_of_rounds_are_calm();
+    updates_of_rounds_are_given();
     serial(alloc, script, clock)
 }
 
