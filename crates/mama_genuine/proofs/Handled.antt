@@ -32,7 +32,7 @@ or_later : (a b c : Bool) → (a || b) ≡ true → (b ≡ true → c ≡ true) 
 or_later true b c h later = refl
 or_later false b c h later = later h
 
-muted_stays : (o : ObjectId) (live : Bool) (xs ys : List Deed) → is_muted_after o live xs ≡ true → is_muted_after o live (xs ++ ys) ≡ true
+pub muted_stays : (o : ObjectId) (live : Bool) (xs ys : List Deed) → is_muted_after o live xs ≡ true → is_muted_after o live (xs ++ ys) ≡ true
 muted_stays o live [] ys h = absurd cc
 muted_stays o live (d ∷ xs) ys h =
     or_later ((live || begins_in o d) && orders_end_of o d) (is_muted_after o ((live || begins_in o d) && not (stops_in o d)) xs)

@@ -1,0 +1,4 @@
+pub mod Cutting
+pub mod Telling
+pub mod Joining
+pub mod Objects
