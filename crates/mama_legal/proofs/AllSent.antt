@@ -26,7 +26,7 @@ use Rattle.mama_rounds.specs.Client.{Standing, at_first, bridge_part, steps_from
 use Rattle.mama_rounds.specs.World.{Setting, no_section}
 use Rattle.mama_rounds.specs.Round.{publisher_steps, all_client_steps, setting_of, start, IsRound}
 use Rattle.mama_legal.specs.Edges.{all_steps, client_puts, put_on_bridge, put_to_publisher, taken_by, AreEdges}
-use Rattle.mama_legal.specs.Lines.{takes_settle}
+use Rattle.mama_legal.specs.Lines.{takes_settle, AreLines, is_done}
 use Rattle.mama_legal.specs.Laws.{RoundsDoAllLines}
 use Rattle.mama_legal.proofs.Lists.{by_entries, all_empty}
 use Rattle.mama_legal.proofs.Stages.{rounds_keep}
@@ -191,3 +191,43 @@ lines_done script run shaped is =
           (edges.publishers p small ∙ told.whole ∙ ap (λ (b : Bool). told.front ++ tail b (has_ending shape es)) (settling_came script run shaped is)
           ∙ ap (λ (b : Bool). told.front ++ tail true b) (ending_came script run shaped is)) told.calm;
     }
+
+-- ---- where every line was done and every edge is whole, the ending came
+
+module _ (script : ScriptData) (run : RunData) (shaped : IsShaped script) (edges : AreEdges script run) (lines : AreLines script run) where
+  abbrev journal_of : ℕ → List PublisherEntry
+  journal_of p = slice_index_or run.publishers p []
+
+  inside : (p : ℕ) → p < publishers_of script.shape → p < length script.publishers
+  inside p small = subst (λ (n : ℕ). p < n) (count_publishers script shaped) small
+
+  -- a test that passes the last part of a publisher's journal
+  passes_end : (test : PublisherEntry → Bool) (p : ℕ) (small : p < publishers_of script.shape)
+      → ((between : List PublisherEntry) → list_any test (Done ∷ (between ++ (Took Settle ∷ Took Fin ∷ []))) ≡ true) → list_any test (journal_of p) ≡ true
+  passes_end test p small ends =
+      let out = lines.publishers p (inside p small) in
+      ap (list_any test) out.whole
+      ∙ list_any-append test out.before (Done ∷ (out.between ++ (Took Settle ∷ Took Fin ∷ [])))
+      ∙ or_right (list_any test out.before) (list_any test (Done ∷ (out.between ++ (Took Settle ∷ Took Fin ∷ [])))) (ends out.between)
+
+  pub settling_of_lines : is_settling script.shape (heard script.shape run.bridge) ≡ true
+  settling_of_lines =
+      let shape : Shape = script.shape in
+      and_from (all_below (clients_of shape) (λ c. list_any (ends_client c) (heard shape run.bridge))) (all_below (publishers_of shape) (λ p. list_any (ends_sends p) (heard shape run.bridge)))
+      (below_from (clients_of shape) (λ c. list_any (ends_client c) (heard shape run.bridge))
+      (λ c small. hears_client shape c run.bridge small (said_has is_client_done (by_port c run.bridge) (said script run shaped edges c small))))
+      (below_from (publishers_of shape) (λ p. list_any (ends_sends p) (heard shape run.bridge))
+      (λ p small. hears_sends shape p run.bridge small (ap (list_any is_sends_done) (put_by_publisher script run edges p small)
+      ∙ says_done (slice_index_or (setting_of script).publishers p no_section) (journal_of p) (passes_end is_done p small (λ between. refl)))))
+
+  pub settled_of_lines : (p : ℕ) → p < publishers_of script.shape → list_any is_settled (by_port (clients_of script.shape + p) run.bridge) ≡ true
+  settled_of_lines p small =
+      ap (list_any is_settled) (put_by_publisher script run edges p small)
+      ∙ says_settled (slice_index_or (setting_of script).publishers p no_section) (journal_of p)
+      (passes_end takes_settle p small (λ between. list_any-append takes_settle between (Took Settle ∷ Took Fin ∷ []) ∙ or_right (list_any takes_settle between) true refl))
+
+  pub ending_of_lines : has_ending script.shape (heard script.shape run.bridge) ≡ true
+  ending_of_lines =
+      let es : List BridgeEvent = heard script.shape run.bridge in
+      and_from (is_settling script.shape es) (all_below (publishers_of script.shape) (λ p. list_any (settles p) es)) settling_of_lines
+      (below_from (publishers_of script.shape) (λ p. list_any (settles p) es) (λ p small. hears_settled script.shape p run.bridge small (settled_of_lines p small)))

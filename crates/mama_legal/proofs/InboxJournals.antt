@@ -25,15 +25,18 @@ use Rattle.mama_queue_rules.specs.Queue.{QueuePut}
 use Rattle.mama_queue_rules.specs.Queue as queue
 use Rattle.mama_rounds.specs.Client.{bridge_part}
 use Rattle.mama_rounds.specs.Round.{setting_of}
-use Rattle.mama_legal.specs.Edges.{client_puts, put_on_bridge}
-use Rattle.mama_legal.specs.Streams.{is_of, inbox_terms_noted, inbox_terms_put, WasOpen}
-use Rattle.mama_legal.specs.Laws.{RoundsGiveInboxesTheirStreams}
+use Rattle.mama_legal.specs.Edges.{client_puts, put_on_bridge, AreEdges}
+use Rattle.mama_legal.specs.Lines.{AreLines}
+use Rattle.mama_legal.specs.Streams.{is_of, inbox_terms_noted, inbox_terms_put, WasOpen, AreInboxStreams}
+use Rattle.mama_script.specs.Script.{ScriptData}
+use Rattle.mama_record.specs.RunData.{RunData}
+use Rattle.mama_legal.specs.Laws.{IsOrderly, RoundsGiveInboxesTheirStreams}
 use Rattle.mama_legal.proofs.Lists.{by_entries}
 use Rattle.mama_legal.proofs.Putters.{by_bridge_port}
 use Rattle.mama_legal.proofs.Whole.{whole_edges}
 use Rattle.mama_legal.proofs.Endings.{ending_settles}
 use Rattle.mama_legal.proofs.Heard.{is_client_done, is_opening, SaidLast, putter_client, no_late_opening}
-use Rattle.mama_legal.proofs.AllSent.{said, ending_came}
+use Rattle.mama_legal.proofs.AllSent.{said, ending_of_lines, lines_done}
 use Rattle.mama_legal.proofs.QueuesThere.{queues_there}
 use Rattle.mama_legal.proofs.Journals.{one_port, part_stream, on_one_queue, other_ports}
 use Rattle.mama_legal.proofs.Lives.{any_last, lives-push, ending_same, is_word}
@@ -139,11 +142,10 @@ was_live shape s journal = by_entries (λ (j : List (ℕ × BridgeNote)).
               (ap not (ending_same shape es x is.1 ∙ yet));
         }
 
-pub inbox_journals : RoundsGiveInboxesTheirStreams
-inbox_journals script run orderly is = record {
+pub inbox_streams : (script : ScriptData) (run : RunData) → IsOrderly script → AreEdges script run → AreLines script run → AreInboxStreams script run
+inbox_streams script run orderly edges lines = record {
   each = λ s terms small says.
       let shape : Shape = script.shape in
-      let edges = whole_edges script run is in
       let on = (queues_there script run orderly.within).inboxes s terms says in
       let es : List BridgeEvent = heard shape run.bridge in
       let k : ℕ = terms.queue in
@@ -154,7 +156,7 @@ inbox_journals script run orderly is = record {
       let was = was_live shape s run.bridge
       (λ before e after same settling. no_late_opening shape before e after (λ c less. subst (λ (j : List (ℕ × BridgeNote)). SaidLast is_client_done (by_port c j)) same (said script run orderly.shaped edges c less)) settling)
       (said_came s es terms heard_terms) in
-      let dead : is_open shape s es ≡ false = ap (λ (c : Bool). lives (opens_inbox s) (closes_inbox s) es && not c) (ending_came script run orderly.shaped is) ∙ none_and (lives (opens_inbox s) (closes_inbox s) es) in
+      let dead : is_open shape s es ≡ false = ap (λ (c : Bool). lives (opens_inbox s) (closes_inbox s) es && not c) (ending_of_lines script run orderly.shaped edges lines) ∙ none_and (lives (opens_inbox s) (closes_inbox s) es) in
       let stream = inboxes_streams shape run.bridge s terms was dead heard_terms in
       record {
         slot = stream.slot;
@@ -168,3 +170,6 @@ inbox_journals script run orderly is = record {
     none_and : (c : Bool) → (c && false) ≡ false
     none_and true = refl
     none_and false = refl
+
+pub inbox_journals : RoundsGiveInboxesTheirStreams
+inbox_journals script run orderly is = inbox_streams script run orderly (whole_edges script run is) (lines_done script run orderly.shaped is)

@@ -30,15 +30,16 @@ use Rattle.mama_script.specs.Tree.{IsShaped}
 use Rattle.mama_record.specs.RunData.{RunData}
 use Rattle.mama_rounds.specs.Client.{Standing, timers_part, bridge_part, after_line, line_steps, steps_from}
 use Rattle.mama_rounds.specs.World.{timer_part, queue_part}
-use Rattle.mama_rounds.specs.Round.{setting_of, IsRound}
+use Rattle.mama_rounds.specs.Round.{setting_of}
 use Rattle.mama_legal.specs.Edges.{all_steps, client_puts, queue_puts, put_on_bridge, put_on_timers, AreEdges}
 use Rattle.mama_legal.specs.Last.{HaveLast}
 use Rattle.mama_legal.specs.Laws.{RoundsHaveLast}
+use Rattle.mama_legal.specs.Lines.{AreLines}
 use Rattle.mama_legal.proofs.Whole.{whole_edges}
 use Rattle.mama_legal.proofs.Putters.{by_bridge_port, by_timers_port}
 use Rattle.mama_legal.proofs.Endings.{tail}
 use Rattle.mama_legal.proofs.Heard.{is_client_done, is_settled, putter_queue, part_of_steps, said_has, settled_client}
-use Rattle.mama_legal.proofs.AllSent.{count_publishers, below_from, said, settling_came, told_end, ending_came, steps_at, publisher_settled}
+use Rattle.mama_legal.proofs.AllSent.{count_publishers, below_from, said, settling_of_lines, told_end, ending_of_lines, steps_at, settled_of_lines, lines_done}
 use Rattle.mama_legal.proofs.Turns.{any_flat, any_port, bridge_fin_timers, bridge_fin_queue, timers_fin, queue_bye, two_fins}
 
 any_weaker : {X : Type 0} (f g : X → Bool) (xs : List X) → ((x : X) → f x ≡ true → g x ≡ true) → list_any f xs ≡ true → list_any g xs ≡ true
@@ -113,12 +114,9 @@ steps_done queues c s (l ∷ ls) =
     ap (list_any timers_done) (part_of_steps timers_part (line_steps queues c s l) (steps_from queues c (after_line s l) ls)) ∙ list_any-append timers_done here rest
     ∙ or_right (list_any timers_done here) (list_any timers_done rest) (steps_done queues c (after_line s l) ls)
 
--- ---- the record
+-- ---- a record whose edges are whole and whose lines were all done
 
-module _ (script : ScriptData) (run : RunData) (shaped : IsShaped script) (someone : 0 < length script.clients) (is : IsRound script run) where
-  edges : AreEdges script run
-  edges = whole_edges script run is
-
+module _ (script : ScriptData) (run : RunData) (shaped : IsShaped script) (someone : 0 < length script.clients) (edges : AreEdges script run) (lines : AreLines script run) where
   client_small : 0 < clients_of script.shape
   client_small = subst (λ (n : ℕ). 0 < n) (sym shaped.clients) someone
 
@@ -140,7 +138,7 @@ module _ (script : ScriptData) (run : RunData) (shaped : IsShaped script) (someo
       both_ways false refl (and_parts (all_below (clients_of script.shape) (λ c. list_any (timing.ends_client c) [])) false ending).1)
 
   bridge_ended : bridging.has_ending script.shape (bridging.heard script.shape run.bridge) ≡ true
-  bridge_ended = ending_came script run shaped is
+  bridge_ended = ending_of_lines script run shaped edges lines
 
   fin_to_timers : list_any timers_fin_note (by_port (clients_of script.shape + queues_of script.shape) run.timers) ≡ true
   fin_to_timers =
@@ -177,11 +175,11 @@ module _ (script : ScriptData) (run : RunData) (shaped : IsShaped script) (someo
   byes : (q : ℕ) → q < queues_of script.shape → 2 ≤ count_of is_fin (slice_index_or run.queues q [])
   byes q small = two_fins (slice_index_or run.queues q []) (fin_of_bridge q small) (fin_of_timers q small)
 
-  all_last : HaveLast script run
+  pub all_last : HaveLast script run
   all_last = record {
     bridge = by_bridge_port script.shape (λ port who. port < bridge_ports script.shape → list_any bridge.is_last (by_port port run.bridge) ≡ true)
         (λ c small within. any_weaker is_client_done bridge.is_last (by_port c run.bridge) client_done_last (said_has is_client_done (by_port c run.bridge) (said script run shaped edges c small)))
-        (λ p small within. any_weaker is_settled bridge.is_last (by_port (clients_of script.shape + p) run.bridge) settled_last (publisher_settled script run shaped is p small))
+        (λ p small within. any_weaker is_settled bridge.is_last (by_port (clients_of script.shape + p) run.bridge) settled_last (settled_of_lines script run shaped edges lines p small))
         (λ q small within. ap (list_any bridge.is_last) (edges.bridge (clients_of script.shape + publishers_of script.shape + q) ∙ ap (put_on_bridge (setting_of script) (client_puts script run.clients) run.publishers run.queues) (putter_queue script.shape q small))
         ∙ any_flat bridge.is_last bridge_part (queue_puts (setting_of script) (slice_index_or run.queues q []))
         ∙ queue_bye (setting_of script) (λ out. list_any bridge.is_last (bridge_part out)) refl (slice_index_or run.queues q []) (byes q small))
@@ -196,7 +194,7 @@ module _ (script : ScriptData) (run : RunData) (shaped : IsShaped script) (someo
     publishers = λ p inside.
         let told = told_end script run shaped edges p (subst (λ (n : ℕ). p < n) (sym (count_publishers script shaped)) inside) in
         ap (list_any publisher.is_last) (edges.publishers p inside ∙ told.whole
-        ∙ ap (λ (c : Bool). told.front ++ tail c (bridging.has_ending script.shape (bridging.heard script.shape run.bridge))) (settling_came script run shaped is)
+        ∙ ap (λ (c : Bool). told.front ++ tail c (bridging.has_ending script.shape (bridging.heard script.shape run.bridge))) (settling_of_lines script run shaped edges lines)
         ∙ ap (λ (c : Bool). told.front ++ tail true c) bridge_ended)
         ∙ list_any-append publisher.is_last told.front (Settle ∷ Fin ∷ []) ∙ or_right (list_any publisher.is_last told.front) true refl;
     queues = λ q small port within. ⊎_elim
@@ -210,4 +208,5 @@ pub some_client : {n : ℕ} → 1 ≤ n → 0 < n
 some_client some = omega arith
 
 pub have_last : RoundsHaveLast
-have_last script run orderly is = all_last script run orderly.shaped (some_client orderly.within.clients_some) is
+have_last script run orderly is =
+    all_last script run orderly.shaped (some_client orderly.within.clients_some) (whole_edges script run is) (lines_done script run orderly.shaped is)

@@ -27,15 +27,16 @@ use Rattle.mama_rounds.specs.Client.{bridge_part}
 use Rattle.mama_script.specs.Script.{ScriptData}
 use Rattle.mama_record.specs.RunData.{RunData}
 use Rattle.mama_rounds.specs.Round.{IsRound, setting_of}
-use Rattle.mama_legal.specs.Edges.{client_puts, put_on_bridge}
-use Rattle.mama_legal.specs.Streams.{is_of, terms_noted, terms_put, terms_of, WasLive}
+use Rattle.mama_legal.specs.Edges.{client_puts, put_on_bridge, AreEdges}
+use Rattle.mama_legal.specs.Lines.{AreLines}
+use Rattle.mama_legal.specs.Streams.{is_of, terms_noted, terms_put, terms_of, WasLive, AreSubStreams}
 use Rattle.mama_legal.specs.Laws.{IsOrderly, RoundsGiveSubsTheirStreams}
 use Rattle.mama_legal.proofs.Lists.{by_entries}
 use Rattle.mama_legal.proofs.Putters.{by_bridge_port}
 use Rattle.mama_legal.proofs.Whole.{whole_edges}
 use Rattle.mama_legal.proofs.Endings.{is_joining, ending_settles}
 use Rattle.mama_legal.proofs.Heard.{is_client_done, SaidLast, putter_client, no_late_join}
-use Rattle.mama_legal.proofs.AllSent.{said, ending_came}
+use Rattle.mama_legal.proofs.AllSent.{said, ending_of_lines, lines_done}
 use Rattle.mama_legal.proofs.QueuesThere.{queues_there}
 use Rattle.mama_legal.proofs.Journals.{one_port, part_stream, on_one_queue, other_ports}
 use Rattle.mama_legal.proofs.Lives.{any_last, lives-push, ending_same, is_word}
@@ -149,11 +150,10 @@ pub record CameAndWent (script : ScriptData) (run : RunData) (s : SubId) (terms 
   pub was : WasLive script.shape s (heard script.shape run.bridge)
   pub dead : is_live script.shape s (heard script.shape run.bridge) ≡ false
 
-pub came_and_went : (script : ScriptData) (run : RunData) → IsOrderly script → IsRound script run → (s : SubId) (terms : SubTerms) → s.client < clients_of script.shape
+came_by_lines : (script : ScriptData) (run : RunData) → IsOrderly script → AreEdges script run → AreLines script run → (s : SubId) (terms : SubTerms) → s.client < clients_of script.shape
     → terms_of script run s ≡ Some terms → CameAndWent script run s terms
-came_and_went script run orderly is s terms small says =
+came_by_lines script run orderly edges lines s terms small says =
     let shape : Shape = script.shape in
-    let edges = whole_edges script run is in
     let es : List BridgeEvent = heard shape run.bridge in
     let heard_terms : first_said (terms_in s) es ≡ Some terms =
     terms_heard shape s small run.bridge ∙ ap (first_said (terms_noted s)) (edges.bridge s.client ∙ ap (put_on_bridge (setting_of script) (client_puts script run.clients) run.publishers run.queues) (putter_client shape s.client small))
@@ -163,23 +163,28 @@ came_and_went script run orderly is s terms small says =
       was = was_live shape s run.bridge
           (λ before e after same settling. no_late_join shape before e after (λ c less. subst (λ (j : List (ℕ × BridgeNote)). SaidLast is_client_done (by_port c j)) same (said script run orderly.shaped edges c less)) settling)
           (said_came s es terms heard_terms);
-      dead = ap (λ (c : Bool). lives (joins_sub s) (leaves_sub s) es && not c) (ending_came script run orderly.shaped is) ∙ none_and (lives (joins_sub s) (leaves_sub s) es);
+      dead = ap (λ (c : Bool). lives (joins_sub s) (leaves_sub s) es && not c) (ending_of_lines script run orderly.shaped edges lines) ∙ none_and (lives (joins_sub s) (leaves_sub s) es);
     }
   where
     none_and : (c : Bool) → (c && false) ≡ false
     none_and true = refl
     none_and false = refl
 
-pub sub_journals : RoundsGiveSubsTheirStreams
-sub_journals script run orderly is = record {
+-- so it is in the record of a run in rounds
+pub came_and_went : (script : ScriptData) (run : RunData) → IsOrderly script → IsRound script run → (s : SubId) (terms : SubTerms) → s.client < clients_of script.shape
+    → terms_of script run s ≡ Some terms → CameAndWent script run s terms
+came_and_went script run orderly is s terms small says =
+    came_by_lines script run orderly (whole_edges script run is) (lines_done script run orderly.shaped is) s terms small says
+
+pub sub_streams : (script : ScriptData) (run : RunData) → IsOrderly script → AreEdges script run → AreLines script run → AreSubStreams script run
+sub_streams script run orderly edges lines = record {
   each = λ s terms small says.
       let shape : Shape = script.shape in
-      let edges = whole_edges script run is in
       let on = (queues_there script run orderly.within).subs s terms says in
       let es : List BridgeEvent = heard shape run.bridge in
       let k : ℕ = terms.queue in
       let journal : List (ℕ × QueueNote) = slice_index_or run.queues k [] in
-      let came = came_and_went script run orderly is s terms small says in
+      let came = came_by_lines script run orderly edges lines s terms small says in
       let stream = subs_streams shape run.bridge s terms came.was came.dead came.joined in
       record {
         slot = stream.slot;
@@ -189,3 +194,6 @@ sub_journals script run orderly is = record {
             ∙ on_one_queue k (q.Create stream.slot (Sub s) (make.Sub terms.kind terms.cache) stream.tag) (q.Gone stream.slot (Sub s)) (λ m. q.Deliver stream.slot s m) (through terms.faults (window shape s es));
       };
 }
+
+pub sub_journals : RoundsGiveSubsTheirStreams
+sub_journals script run orderly is = sub_streams script run orderly (whole_edges script run is) (lines_done script run orderly.shaped is)

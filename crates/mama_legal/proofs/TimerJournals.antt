@@ -34,13 +34,14 @@ use Rattle.mama_rounds.specs.Client.{Standing, timers_part, line_steps, after_li
 use Rattle.mama_rounds.specs.Round.{setting_of}
 use Rattle.mama_legal.specs.Edges.{all_steps, client_puts, put_on_timers, put_on_queue, AreEdges}
 use Rattle.mama_legal.specs.Streams.{is_of}
-use Rattle.mama_legal.specs.Ticks.{ticks, timer_stream, WasArmed, arming_noted, arming_put}
-use Rattle.mama_legal.specs.Laws.{RoundsGiveTimersTheirStreams}
+use Rattle.mama_legal.specs.Lines.{AreLines}
+use Rattle.mama_legal.specs.Ticks.{ticks, timer_stream, WasArmed, arming_noted, arming_put, AreTimerStreams}
+use Rattle.mama_legal.specs.Laws.{IsOrderly, RoundsGiveTimersTheirStreams}
 use Rattle.mama_legal.proofs.Lists.{by_entries, by_port-append}
 use Rattle.mama_legal.proofs.Putters.{by_timers_port, by_queue_port}
 use Rattle.mama_legal.proofs.Whole.{whole_edges}
 use Rattle.mama_legal.proofs.Heard.{SaidLast, no_pause, part_of_steps, below_at, nothing_after}
-use Rattle.mama_legal.proofs.AllSent.{steps_at}
+use Rattle.mama_legal.proofs.AllSent.{steps_at, lines_done}
 use Rattle.mama_legal.proofs.LastEvents.{timers_done, timers_client, timers_ended, some_client}
 use Rattle.mama_legal.proofs.Lives.{any_last}
 use Rattle.mama_legal.proofs.QueuesThere.{queues_there}
@@ -247,11 +248,10 @@ other_ports timer shape run k journal port apart put = ap (filter (is_of (Timer 
     (λ away. part_stream (Timer timer) k (bridge_puts shape run.bridge) ∙ ap (by_port k) (bridge_none timer shape (bridging.heard shape run.bridge)))
     (λ away. absurd (away refl)) (λ n past away. refl) port apart
 
-pub timer_journals : RoundsGiveTimersTheirStreams
-timer_journals script run orderly is = record {
+pub timer_streams : (script : ScriptData) (run : RunData) → IsOrderly script → AreEdges script run → AreLines script run → AreTimerStreams script run
+timer_streams script run orderly edges lines = record {
   each = λ timer terms small says.
       let shape : Shape = script.shape in
-      let edges = whole_edges script run is in
       let on = (queues_there script run orderly.within).timers timer terms says in
       let es : List TimersEvent = heard shape run.timers in
       let k : ℕ = terms.0 in
@@ -263,7 +263,7 @@ timer_journals script run orderly is = record {
       let was = was_armed shape timer run.timers
       (λ before e after whole ended. no_late_arm shape timer before e after (λ c less. subst (λ (j : List (ℕ × TimersNote)). SaidLast timers_done (by_port c j)) whole (said script run orderly.shaped edges c less)) ended)
       (said_came timer es terms heard_terms) in
-      let dead : is_live shape timer es ≡ false = ap (λ (c : Bool). is_armed timer es && not c) (timers_ended script run orderly.shaped (some_client orderly.within.clients_some) is) ∙ none_and (is_armed timer es) in
+      let dead : is_live shape timer es ≡ false = ap (λ (c : Bool). is_armed timer es && not c) (timers_ended script run orderly.shaped (some_client orderly.within.clients_some) edges lines) ∙ none_and (is_armed timer es) in
       let stream = timers_streams shape run.timers timer terms was dead heard_terms in
       record {
         slot = stream.slot;
@@ -277,3 +277,6 @@ timer_journals script run orderly is = record {
     none_and : (c : Bool) → (c && false) ≡ false
     none_and true = refl
     none_and false = refl
+
+pub timer_journals : RoundsGiveTimersTheirStreams
+timer_journals script run orderly is = timer_streams script run orderly (whole_edges script run is) (lines_done script run orderly.shaped is)

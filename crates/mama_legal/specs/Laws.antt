@@ -85,6 +85,12 @@ TimersGetTheirStreams = (shape : Shape) (journal : List (ℕ × TimersNote)) (ti
 abbrev pub RoundsGiveTimersTheirStreams : Type 0
 RoundsGiveTimersTheirStreams = (script : ScriptData) (run : RunData) → IsOrderly script → IsRound script run → AreTimerStreams script run
 
+-- Whichever thread ran what when: a record is legal where it has the journals that the script asks for, every line was
+-- done, every edge is whole, and the callbacks and images are those of the journals.
+abbrev pub WholeEdgesAreLegal : Type 0
+WholeEdgesAreLegal = (script : ScriptData) (run : RunData) → IsOrderly script → IsShapedFor script run → AreLines script run → AreEdges script run → AreCalls script run
+    → IsLegal script run
+
 -- the record of a run in rounds is legal
 abbrev pub RoundsAreLegal : Type 0
 RoundsAreLegal = (script : ScriptData) (run : RunData) → IsOrderly script → IsRound script run → IsLegal script run

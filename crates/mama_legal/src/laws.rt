@@ -1,4 +1,4 @@
-ghost use Rattle.mama_legal.specs.Laws.{RoundsAreWhole, RoundsAreShaped, RoundsTellCalls, RoundsGiveOneRecord, RoundsDoAllLines, RoundsHaveLast, SubsGetTheirStreams, RoundsGiveSubsTheirStreams, InboxesGetTheirStreams, RoundsGiveInboxesTheirStreams, TimersGetTheirStreams, RoundsGiveTimersTheirStreams, RoundsAreLegal, QueuesAreThere};
+ghost use Rattle.mama_legal.specs.Laws.{RoundsAreWhole, RoundsAreShaped, RoundsTellCalls, RoundsGiveOneRecord, RoundsDoAllLines, RoundsHaveLast, SubsGetTheirStreams, RoundsGiveSubsTheirStreams, InboxesGetTheirStreams, RoundsGiveInboxesTheirStreams, TimersGetTheirStreams, RoundsGiveTimersTheirStreams, WholeEdgesAreLegal, RoundsAreLegal, QueuesAreThere};
 
 /// A law: in the record of a run in rounds every edge is whole: what each actor took by each port is all that was put
 /// there, in order.
@@ -67,6 +67,13 @@ pub fn timers_get_their_streams()
 /// `Create`, its ticks, and its `Gone`, and nothing else.
 pub fn rounds_give_timers_their_streams()
     ensures { RoundsGiveTimersTheirStreams }
+{}
+
+/// A law: whichever thread ran what when, a record is legal for its script where it has the journals that the script asks
+/// for, every line was done, every edge is whole, and the callbacks and images are those of the journals. Then each object
+/// got its stream, and by every port the last event was taken.
+pub fn whole_edges_are_legal()
+    ensures { WholeEdgesAreLegal }
 {}
 
 /// A law: the record of a run in rounds is legal for its script, for every script that is within its bounds and whose
