@@ -1,3 +1,4 @@
 pub mod Standing
 pub mod Client
+pub mod Calls
 pub mod Group

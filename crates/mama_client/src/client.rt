@@ -1,7 +1,11 @@
-ghost use Rattle.std.specs.Prelude.{◌≡◌, ◌↔◌, ◌+◌, Bool, true, None, IfOk, OnOk, OnErr, IsErr, Result};
+ghost use Rattle.std.specs.Prelude.{◌≡◌, ◌↔◌, ◌+◌, Bool, true, None, Some, IfOk, OnOk, OnErr, IsErr, Result};
 ghost use Rattle.std.specs.Result.{result_err};
 ghost use Rattle.mama_event.specs.declared.to_bridge.ToBridge.TheVariants as bridge;
 ghost use Rattle.mama_event.specs.declared.to_timers.ToTimers.TheVariants as timers;
+ghost use Rattle.mama_event.specs.declared.ids.ObjectId.{ObjectId};
+ghost use Rattle.mama_event.specs.ToBridge.{note_of as bridge_note};
+ghost use Rattle.mama_event.specs.ToTimers.{note_of as timers_note};
+ghost use Rattle.mama_client.specs.Calls.{IsCall};
 ghost use Rattle.mama_client.specs.Client.{sub_refusal, timer_refusal, inbox_refusal, ask_refusal};
 
 use crate::fault::{AskFault, ClientFault, Closed};
@@ -56,6 +60,7 @@ impl Client {
         ensures event { IfOk result (λ made. made.1 ≡ bridge.Join made.0 terms listener) }
         ensures ok { OnOk result (self.new ≡ record self.old { subs = self.old.subs + 1 }) }
         ensures err { OnErr result (self.new ≡ self.old) }
+        ensures call { IfOk result (λ made. (tagged : L → ObjectId) → IsCall self.old self.new (Some (bridge_note tagged made.1)) None) }
     {
         if self.done {
             return Err(ClientFault::Closed(listener));
@@ -96,6 +101,7 @@ impl Client {
         ensures event { IfOk result (λ made. made.1 ≡ timers.Arm made.0 queue interval listener) }
         ensures ok { OnOk result (self.new ≡ record self.old { timers = self.old.timers + 1 }) }
         ensures err { OnErr result (self.new ≡ self.old) }
+        ensures call { IfOk result (λ made. (tagged : L → ObjectId) → IsCall self.old self.new None (Some (timers_note tagged made.1))) }
     {
         if self.done {
             return Err(ClientFault::Closed(listener));
@@ -136,6 +142,7 @@ impl Client {
         ensures event { IfOk result (λ made. made.1 ≡ bridge.OpenInbox made.0 terms listener) }
         ensures ok { OnOk result (self.new ≡ record self.old { inboxes = self.old.inboxes + 1 }) }
         ensures err { OnErr result (self.new ≡ self.old) }
+        ensures call { IfOk result (λ made. (tagged : L → ObjectId) → IsCall self.old self.new (Some (bridge_note tagged made.1)) None) }
     {
         if self.done {
             return Err(ClientFault::Closed(listener));
@@ -166,6 +173,7 @@ impl Client {
         ensures refused { IsErr result ↔ (self.old.done ≡ true) }
         ensures event { IfOk result (λ event. event ≡ bridge.Leave sub) }
         ensures stays { self.new ≡ self.old }
+        ensures call { IfOk result (λ event. (tagged : L → ObjectId) → IsCall self.old self.new (Some (bridge_note tagged event)) None) }
     {
         self.open()?;
         Ok(ToBridge::Leave { sub })
@@ -176,6 +184,7 @@ impl Client {
         ensures refused { IsErr result ↔ (self.old.done ≡ true) }
         ensures event { IfOk result (λ event. event ≡ timers.Disarm timer) }
         ensures stays { self.new ≡ self.old }
+        ensures call { IfOk result (λ event. (tagged : L → ObjectId) → IsCall self.old self.new None (Some (timers_note tagged event))) }
     {
         self.open()?;
         Ok(ToTimers::Disarm { timer })
@@ -186,6 +195,7 @@ impl Client {
         ensures refused { IsErr result ↔ (self.old.done ≡ true) }
         ensures event { IfOk result (λ event. event ≡ bridge.CloseInbox inbox) }
         ensures stays { self.new ≡ self.old }
+        ensures call { IfOk result (λ event. (tagged : L → ObjectId) → IsCall self.old self.new (Some (bridge_note tagged event)) None) }
     {
         self.open()?;
         Ok(ToBridge::CloseInbox { inbox })
@@ -201,6 +211,7 @@ impl Client {
         ensures refused { result_err result ≡ ask_refusal self.old topic }
         ensures event { IfOk result (λ event. event ≡ bridge.Ask inbox topic fids) }
         ensures stays { self.new ≡ self.old }
+        ensures call { IfOk result (λ event. (tagged : L → ObjectId) → IsCall self.old self.new (Some (bridge_note tagged event)) None) }
     {
         if self.done {
             return Err(AskFault::Closed);
@@ -216,6 +227,7 @@ impl Client {
         ensures refused { IsErr result ↔ (self.old.done ≡ true) }
         ensures event { IfOk result (λ event. event ≡ timers.Now moment) }
         ensures stays { self.new ≡ self.old }
+        ensures call { IfOk result (λ event. (tagged : L → ObjectId) → IsCall self.old self.new None (Some (timers_note tagged event))) }
     {
         self.open()?;
         Ok(ToTimers::Now { moment })
@@ -227,6 +239,7 @@ impl Client {
         ensures timers { IfOk result (λ last. last.0 ≡ timers.ClientDone) }
         ensures bridge { IfOk result (λ last. last.1 ≡ bridge.ClientDone) }
         ensures done { self.new ≡ record self.old { done = true } }
+        ensures call { IfOk result (λ last. (tagged : L → ObjectId) → IsCall self.old self.new (Some (bridge_note tagged last.1)) (Some (timers_note tagged last.0))) }
     {
         self.open()?;
         self.done = true;
