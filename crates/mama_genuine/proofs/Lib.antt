@@ -24,3 +24,4 @@ pub mod Queued
 pub mod CalmLinks
 pub mod Giving
 pub mod AllGiven
+pub mod PlainRows
