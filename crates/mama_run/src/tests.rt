@@ -39,7 +39,7 @@ fn plays_the_worked_scripts_whole(rt: HostRuntime) -> Result<(), Fail> {
     let words = words_of(alloc, &["serial"])?;
     for (script, log) in [(FIRST, FIRST_LOG), (GAP, GAP_LOG)] {
         let mut source = source_of(alloc, script, &[])?;
-        let mut sink = MemorySink::new(alloc, 4000, 1000, Vec::new(alloc))?;
+        let mut sink = MemorySink::new(alloc, 8000, 1000, Vec::new(alloc))?;
         let mut clock = MemoryClock::new(Vec::new(alloc));
         let status = run_plain(alloc, words.as_slice(), &mut source, &mut sink, &mut clock);
         assert_eq!(rt; status, Status::Ok);
@@ -173,6 +173,60 @@ const WORKED: &[Worked] = &[
         lines: "topic \"EQ.ABC\"\npublisher 0 22:bid:u32:100\nclient\ninbox 0\nat 1 ask i0.0 0 22\nat 1 close i0.0\ninbox 0\nfault dup 1\nask i0.1 0 22\n",
         moments: &[],
         part: "on i0.0\ncreate\norder ask i0.0 0 22\norder close i0.0\ndestroy\non i0.1\ncreate\nreply 22:bid:u32:100\nreply 22:bid:u32:100\ndestroy\n",
+    },
+    // One that joins late gets the record as it then is.
+    Worked {
+        lines: "topic \"EQ.ABC\"\npublisher 0 22:bid:u32:100\nupdate 22:bid:u32:101\nupdate 25:ask:u32:103\nupdate 22:bid:u32:102\nclient\npause 4\nsub 0 market 0 10 1000\n",
+        moments: &[],
+        part: "on s0.0\ncreate\nmsg initial 1 3 ok 22:bid:u32:102 25:ask:u32:103\ndestroy\nimages\ns0.0 ok 1 3 22:bid:u32:102 25:ask:u32:103\nend\n",
+    },
+    // A message that comes twice is called back once.
+    Worked {
+        lines: "topic \"EQ.ABC\"\npublisher 0 22:bid:u32:100\nupdate 22:bid:u32:101\nupdate 25:ask:u32:103\nupdate 22:bid:u32:102\nclient\nsub 0 market 0 10 1000\nfault dup 2\n",
+        moments: &[],
+        part: "b data 0 s0.0 update 1 1 22:bid:u32:101\nb data 0 s0.0 update 1 1 22:bid:u32:101\nb data 0 s0.0 update 1 2 25:ask:u32:103\nb data 0 s0.0 update 1 3 22:bid:u32:102\nb gone 0 s0.0\nb fin\nt fin\non s0.0\ncreate\nmsg initial 1 0 ok 22:bid:u32:100\nmsg update 1 1 ok 22:bid:u32:101\nmsg update 1 2 ok 25:ask:u32:103\nmsg update 1 3 ok 22:bid:u32:102\ndestroy\nimages\ns0.0 ok 1 3 22:bid:u32:102 25:ask:u32:103\nend\n",
+    },
+    // A message that is held back is missing until a recap comes.
+    Worked {
+        lines: "topic \"EQ.ABC\"\npublisher 0 22:bid:u32:100\nupdate 22:bid:u32:101\nupdate 25:ask:u32:103\nupdate 22:bid:u32:102\nclient\nsub 0 market 0 10 1000\nfault hold 2 1\n",
+        moments: &[],
+        part: "on s0.0\ncreate\nmsg initial 1 0 ok 22:bid:u32:100\ngap 1 1\nquality stale 0\nrequest 1\nmsg update 1 2 stale 25:ask:u32:103\nmsg recap 1 2 ok 22:bid:u32:101 25:ask:u32:103\nquality ok 2\nmsg update 1 3 ok 22:bid:u32:102\ndestroy\n",
+    },
+    // A full cache drops its lowest numbers, which are then missing.
+    Worked {
+        lines: "topic \"EQ.ABC\"\npublisher 0 22:bid:u32:100\nupdate 22:bid:u32:1\nupdate 22:bid:u32:2\nupdate 22:bid:u32:3\nupdate 22:bid:u32:4\nupdate 22:bid:u32:5\nupdate 22:bid:u32:6\nupdate 22:bid:u32:7\nupdate 22:bid:u32:8\nupdate 22:bid:u32:9\nupdate 22:bid:u32:10\nupdate 22:bid:u32:11\nupdate 22:bid:u32:12\nupdate 22:bid:u32:13\nupdate 22:bid:u32:14\nupdate 22:bid:u32:15\nupdate 22:bid:u32:16\nupdate 22:bid:u32:17\nupdate 22:bid:u32:18\nupdate 22:bid:u32:19\nupdate 22:bid:u32:20\nupdate 22:bid:u32:21\nupdate 22:bid:u32:22\nupdate 22:bid:u32:23\nupdate 22:bid:u32:24\nupdate 22:bid:u32:25\nclient\npause 10\nsub 0 market 0 10 1000\nfault hold 1 15\n",
+        moments: &[],
+        part: "on s0.0\ncreate\nmsg initial 1 10 ok 22:bid:u32:10\ngap 11 15\nquality stale 10\nrequest 1\nmsg update 1 16 stale 22:bid:u32:16\nmsg update 1 17 stale 22:bid:u32:17\nmsg update 1 18 stale 22:bid:u32:18\nmsg update 1 19 stale 22:bid:u32:19\nmsg update 1 20 stale 22:bid:u32:20\nmsg update 1 21 stale 22:bid:u32:21\nmsg update 1 22 stale 22:bid:u32:22\nmsg update 1 23 stale 22:bid:u32:23\nmsg update 1 24 stale 22:bid:u32:24\nmsg update 1 25 stale 22:bid:u32:25\nmsg recap 1 25 ok 22:bid:u32:25\nquality ok 25\ndestroy\n",
+    },
+    // Without its first image a subscription is told nothing.
+    Worked {
+        lines: "topic \"EQ.ABC\"\npublisher 0 22:bid:u32:100\nupdate 22:bid:u32:101\nupdate 25:ask:u32:103\nupdate 22:bid:u32:102\nclient\nsub 0 market 0 10 1000\nfault lose 1\n",
+        moments: &[],
+        part: "on s0.0\ncreate\ndestroy\nimages\nend\n",
+    },
+    // A cache of no updates.
+    Worked {
+        lines: "topic \"EQ.ABC\"\npublisher 0 22:bid:u32:100\nupdate 22:bid:u32:101\nupdate 25:ask:u32:103\nupdate 22:bid:u32:102\nclient\nsub 0 market 0 0 1000\nfault hold 1 2\n",
+        moments: &[],
+        part: "on s0.0\ncreate\nmsg initial 1 0 ok 22:bid:u32:100\ngap 1 2\nquality stale 0\nrequest 1\nmsg update 1 3 stale 22:bid:u32:102\nmsg recap 1 3 ok 22:bid:u32:102 25:ask:u32:103\nquality ok 3\ndestroy\n",
+    },
+    // No recap may be asked for, so the image stays stale.
+    Worked {
+        lines: "topic \"EQ.ABC\"\npublisher 0 22:bid:u32:100\nupdate 22:bid:u32:101\nupdate 25:ask:u32:103\nupdate 22:bid:u32:102\nupdate 25:ask:u32:104\nclient\nsub 0 market 0 10 0\nfault lose 3\n",
+        moments: &[],
+        part: "gap 2 2\nquality stale 1\nrequest 1\nmsg update 1 3 stale 22:bid:u32:102\nmsg update 1 4 stale 25:ask:u32:104\ndestroy\nimages\ns0.0 stale 1 4 22:bid:u32:102 25:ask:u32:104\nend\n",
+    },
+    // A snapshot takes the first image alone.
+    Worked {
+        lines: "topic \"EQ.ABC\"\npublisher 0 22:bid:u32:100\nupdate 22:bid:u32:101\nupdate 25:ask:u32:103\nupdate 22:bid:u32:102\nclient\nsub 0 snapshot 0 10 1000\n",
+        moments: &[],
+        part: "on s0.0\ncreate\nmsg initial 1 0 ok 22:bid:u32:100\ndestroy\nimages\ns0.0 ok 1 0 22:bid:u32:100\nend\n",
+    },
+    // Nobody but a client.
+    Worked {
+        lines: "client\n",
+        moments: &[],
+        part: "mama log 1\nclient 0\nbridge\nc0 done\nq0 bye\ntimers\nc0 done\nb fin\nq0 bye\nqueue 0\nb fin\nt fin\nimages\nend\n",
     },
 ];
 
