@@ -7,10 +7,11 @@ use Rattle.mama_event.specs.Ports.{publishers_of, queues_of}
 use Rattle.mama_rules.specs.Bridge.{BridgeEvent}
 use Rattle.mama_bridge_rules.specs.Table.{Table, kept, settles_all, ends_all, closing, begins_settling, begins_ending}
 use Rattle.mama_bridge.specs.declared.out.BridgeOut.{BridgeOut}
-use Rattle.mama_bridge.specs.declared.subs.SubLink.{SubLink}
+use Rattle.mama_bridge.specs.declared.live.Live.{Live}
 use Rattle.mama_bridge.specs.declared.inboxes.InboxLink.{InboxLink}
 use Rattle.mama_bridge.specs.Outs.{Adds}
-use Rattle.mama_bridge.specs.Links.{sub_seen, sub_view, inbox_seen, inbox_view, end_outs, inbox_end_outs, settle_outs, fin_outs, EndsIf}
+use Rattle.mama_bridge.specs.Links.{inbox_seen, inbox_view, end_outs, inbox_end_outs, settle_outs, fin_outs}
+use Rattle.mama_bridge.specs.Live.{IsLive, EndsLive}
 use Rattle.mama_bridge.proofs.Adding.{says_append, adds_said}
 use Rattle.mama_bridge.proofs.Wishing.{says_if}
 use Rattle.mama_bridge.proofs.Joining.{map_kept, says_settles, says_ending}
@@ -22,9 +23,9 @@ seen_kept {A} {R} {V} seen view links old rows ends ends' h same e =
     ap (map seen) h ∙ map_kept seen ends old ∙ ap (λ (vs : List V). kept ends vs) same ∙ sym (map_kept view ends rows) ∙ ap (λ b. map view (kept b rows)) e
 
 module _ {L : Type 0} (tagged : L → ObjectId) where
-  pub adds_closing : (shape : Shape) (table : Table) (e : BridgeEvent) (subs : List SubLink) (inboxes : List InboxLink) (o0 o1 : List (BridgeOut L)) (settles ends : Bool)
-      → map sub_seen subs ≡ map sub_view table.subs → map inbox_seen inboxes ≡ map inbox_view table.inboxes
-      → EndsIf ends (publishers_of shape) (queues_of shape) subs inboxes (o0 ++ cond settles (settle_outs (publishers_of shape)) []) o1
+  pub adds_closing : (shape : Shape) (table : Table) (e : BridgeEvent) (subs : Live) (inboxes : List InboxLink) (o0 o1 : List (BridgeOut L)) (settles ends : Bool)
+      → IsLive table.subs subs → map inbox_seen inboxes ≡ map inbox_view table.inboxes
+      → EndsLive ends (publishers_of shape) (queues_of shape) subs inboxes (o0 ++ cond settles (settle_outs (publishers_of shape)) []) o1
       → settles ≡ begins_settling table e → ends ≡ begins_ending table e
       → Adds tagged o0 o1 (closing shape table e) []
   adds_closing shape table e subs inboxes o0 o1 settles ends h k put s t =

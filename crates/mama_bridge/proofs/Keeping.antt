@@ -18,7 +18,9 @@ use Rattle.mama_bridge.specs.declared.putter.Putter.TheVariants as putter
 use Rattle.mama_bridge.specs.Putters.{actor_of, IsThere, HasFlags}
 use Rattle.mama_bridge.specs.Routing.{is_last_bye}
 use Rattle.mama_bridge.specs.Desk.{Stands, Sound, AllButByes, IsKept}
-use Rattle.mama_bridge.specs.Links.{sub_seen, inbox_seen}
+use Rattle.mama_bridge.specs.Links.{inbox_seen}
+use Rattle.mama_bridge.specs.Live.{IsLive}
+use Rattle.mama_bridge.specs.declared.live.Live.{Live}
 
 -- there is a flag for each client, publisher and queue
 
@@ -98,7 +100,7 @@ stood : (table : Table) (desk desk' : Desk) → Stands table desk → desk'.byes
 stood table desk desk' s h rest = record {
   joined = λ one. ap (λ (known : List SubId). is_sub_among known one) rest.joined ∙ s.joined one;
   opened = λ one. ap (λ (known : List InboxId). is_inbox_among known one) rest.opened ∙ s.opened one;
-  subs = ap (λ xs. map sub_seen xs) rest.subs ∙ s.subs;
+  subs = subst (λ (live : Live). IsLive table.subs live) (sym rest.subs) s.subs;
   inboxes = ap (λ xs. map inbox_seen xs) rest.inboxes ∙ s.inboxes;
   clients = rest.clients ∙ s.clients;
   sends = rest.sends ∙ s.sends;
@@ -114,7 +116,7 @@ bye_stands shape table desk desk' (putter.Publisher n) s h rest = stood table de
 bye_stands shape table desk desk' (putter.Queue n) s h rest = record {
   joined = λ one. ap (λ (known : List SubId). is_sub_among known one) rest.joined ∙ s.joined one;
   opened = λ one. ap (λ (known : List InboxId). is_inbox_among known one) rest.opened ∙ s.opened one;
-  subs = ap (λ xs. map sub_seen xs) rest.subs ∙ s.subs;
+  subs = subst (λ (live : Live). IsLive table.subs live) (sym rest.subs) s.subs;
   inboxes = ap (λ xs. map inbox_seen xs) rest.inboxes ∙ s.inboxes;
   clients = rest.clients ∙ s.clients;
   sends = rest.sends ∙ s.sends;

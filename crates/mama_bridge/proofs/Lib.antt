@@ -11,3 +11,5 @@ pub mod Closing
 pub mod Brought
 pub mod Keeping
 pub mod Known
+pub mod ByTopic
+pub mod InOrder

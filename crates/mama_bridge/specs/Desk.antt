@@ -16,13 +16,14 @@ use Rattle.mama_bridge.specs.declared.out.BridgeOut.{BridgeOut}
 use Rattle.mama_bridge.specs.declared.desk.Desk.{Desk}
 use Rattle.mama_bridge.specs.Outs.{Adds, brought, is_create}
 use Rattle.mama_bridge.specs.Ids.{is_sub_among, is_inbox_among}
-use Rattle.mama_bridge.specs.Links.{sub_seen, sub_view, inbox_seen, inbox_view}
+use Rattle.mama_bridge.specs.Links.{inbox_seen, inbox_view}
+use Rattle.mama_bridge.specs.Live.{IsLive}
 
 -- what is kept stands for a table
 pub record Stands (table : Table) (desk : Desk) : Type 0 where
   pub joined : (s : SubId) → is_sub_among desk.joined s ≡ list_any (λ (r : SubId). same_sub r s) table.joined
   pub opened : (i : InboxId) → is_inbox_among desk.opened i ≡ list_any (λ (r : InboxId). same_inbox r i) table.opened
-  pub subs : map sub_seen desk.subs.items ≡ map sub_view table.subs
+  pub subs : IsLive table.subs desk.subs
   pub inboxes : map inbox_seen desk.inboxes.items ≡ map inbox_view table.inboxes
   pub clients : desk.clients ≡ table.clients
   pub sends : desk.sends ≡ table.sends
@@ -63,7 +64,7 @@ pub record AllBut (before after : Desk) : Type 0 where
 -- only who opened and the links of inboxes may have changed
 pub record AllButInboxes (before after : Desk) : Type 0 where
   pub joined : after.joined ≡ before.joined
-  pub subs : after.subs.items ≡ before.subs.items
+  pub subs : after.subs ≡ before.subs
   pub clients : after.clients ≡ before.clients
   pub sends : after.sends ≡ before.sends
   pub settled : after.settled ≡ before.settled
@@ -82,7 +83,7 @@ pub record AllButLinks (before after : Desk) : Type 0 where
 pub record AllButByes (before after : Desk) : Type 0 where
   pub joined : after.joined ≡ before.joined
   pub opened : after.opened ≡ before.opened
-  pub subs : after.subs.items ≡ before.subs.items
+  pub subs : after.subs ≡ before.subs
   pub inboxes : after.inboxes.items ≡ before.inboxes.items
   pub clients : after.clients ≡ before.clients
   pub sends : after.sends ≡ before.sends

@@ -5,3 +5,4 @@ pub mod Routing
 pub mod Putters
 pub mod Marks
 pub mod Ids
+pub mod Live

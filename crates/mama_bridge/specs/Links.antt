@@ -157,6 +157,10 @@ pub record InboxReadyFor (link : InboxLink) (pass : Readied (List FieldData)) : 
   pub prepared : IsPreparedFor link.link pass
   pub len : (x : List (List FieldData)) → StandsFor x link.link.standing → pass.len ≡ length (emit link.link.standing.rows (x ++ pass.message ∷ []) (length x + 1))
 
+-- a row after a wish, which counts where the row's terms allow one more
+abbrev pub wished_once : SubRow → SubRow
+wished_once row = if nat_lt row.wished row.terms.recaps then sub_wished row else row
+
 -- what is done to the rows that pass a test, and what is put out for them
 module _ {L : Type 0} where
   abbrev pub SubsPass : (SubRow → Bool) → MarketMsg → List SubLink → List SubLink → List (BridgeOut L) → List (BridgeOut L) → Type 0
@@ -172,7 +176,7 @@ module _ {L : Type 0} where
 
   abbrev pub SubWishes : ℕ → SubId → List SubLink → List SubLink → List (BridgeOut L) → List (BridgeOut L) → Type 0
   SubWishes sender s old new outs outs' = (rows : List SubRow) → map sub_seen old ≡ map sub_view rows → Alone same_sub (λ (row : SubRow). row.sub) rows
-      → (map sub_seen new ≡ map sub_view (changed (of_sub s) (λ row. if nat_lt row.wished row.terms.recaps then sub_wished row else row) rows)) × (outs' ≡ outs ++ flat_map (wish_outs sender) (filter (of_sub s) rows))
+      → (map sub_seen new ≡ map sub_view (changed (of_sub s) wished_once rows)) × (outs' ≡ outs ++ flat_map (wish_outs sender) (filter (of_sub s) rows))
 
   abbrev pub InboxPass : InboxId → List FieldData → List InboxLink → List InboxLink → List (BridgeOut L) → List (BridgeOut L) → Type 0
   InboxPass i body old new outs outs' = (rows : List InboxRow) → map inbox_seen old ≡ map inbox_view rows → Alone same_inbox (λ (row : InboxRow). row.inbox) rows
@@ -185,9 +189,6 @@ module _ {L : Type 0} where
 -- the slots of a queue that links have
 abbrev pub link_slot : ℕ → ℕ → ℕ → List ℕ
 link_slot queue of_queue slot = if of_queue == queue then slot ∷ [] else []
-
-abbrev pub sub_link_slots : ℕ → List SubLink → List ℕ
-sub_link_slots queue links = flat_map (λ (link : SubLink). link_slot queue link.queue link.slot) links
 
 abbrev pub inbox_link_slots : ℕ → List InboxLink → List ℕ
 inbox_link_slots queue links = flat_map (λ (link : InboxLink). link_slot queue link.queue link.slot) links
@@ -215,9 +216,3 @@ module _ {L : Type 0} where
   abbrev pub first_outs : Option ℕ → ToPublisher → List (BridgeOut L)
   first_outs None event = []
   first_outs (Some number) event = out.Publisher number event ∷ []
-
-module _ {L : Type 0} where
-  -- the ending, if it comes
-  abbrev pub EndsIf : Bool → ℕ → ℕ → List SubLink → List InboxLink → List (BridgeOut L) → List (BridgeOut L) → Type 0
-  EndsIf ends publishers queues subs inboxes outs outs' = (rows : List SubRow) (others : List InboxRow) → map sub_seen subs ≡ map sub_view rows → map inbox_seen inboxes ≡ map inbox_view others
-      → outs' ≡ outs ++ (if ends then flat_map end_outs rows ++ flat_map inbox_end_outs others ++ fin_outs publishers queues else [])

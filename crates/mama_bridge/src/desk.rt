@@ -1,4 +1,4 @@
-ghost use Rattle.std.specs.Prelude.{◌≡◌, ◌+◌, ◌<◌, ◌≤◌, ◌^◌, ◌==◌, ◌&&◌, ◌||◌, ◌++◌, [], ◌∷◌, not, nat_lt, nat_le, slice_set, true, length, position, sum_by, vec_len, IfOk, IfErr, OnOk, OnErr, if◌then◌else◌};
+ghost use Rattle.std.specs.Prelude.{◌≡◌, ◌+◌, ◌<◌, ◌≤◌, ◌^◌, ◌==◌, ◌&&◌, ◌||◌, ◌++◌, [], ◌∷◌, List, not, nat_lt, nat_le, slice_set, true, length, position, sum_by, vec_len, IfOk, IfErr, OnOk, OnErr, if◌then◌else◌};
 ghost use Rattle.std.specs.Vec.{vec_capacity};
 ghost use Rattle.mama_journal.specs.Journal.{least_free};
 ghost use Rattle.mama_link.specs.Link.{standing_after};
@@ -7,16 +7,18 @@ ghost use Rattle.mama_event.specs.declared.ids.SubId.{SubId as Sub};
 ghost use Rattle.mama_event.specs.declared.ids.InboxId.{InboxId as Inbox};
 ghost use Rattle.mama_event.specs.declared.shape.Shape.{Shape};
 ghost use Rattle.mama_rules.specs.Bridge.{joins, leaves, opens, closes, asks, publishes, images, replies, wishes, client_done, sends_done, settled, put_by};
-ghost use Rattle.mama_bridge_rules.specs.Table.{empty_table, all_set, marked, leaver_in, is_settling_by, is_ended_by, kept};
+ghost use Rattle.mama_bridge_rules.specs.Table.{SubRow, empty_table, all_set, marked, leaver_in, is_settling_by, is_ended_by, kept};
 ghost use Rattle.mama_bridge.specs.Desk.{Stands, Hears, AsBefore, AllBut, AllButInboxes, AllButLinks, AllButByes};
 ghost use Rattle.mama_bridge.specs.Ids.{is_sub_among, is_inbox_among};
 ghost use Rattle.mama_bridge.specs.Putters.{actor_of, HasFlags};
-ghost use Rattle.mama_bridge.specs.Links.{sub_seen, inbox_seen, first_outs, image_outs, settle_outs, sub_held, inbox_held, EndsIf, sub_link_slots, inbox_link_slots};
+ghost use Rattle.mama_bridge.specs.Links.{sub_seen, inbox_seen, first_outs, image_outs, settle_outs, inbox_held, inbox_link_slots};
+ghost use Rattle.mama_bridge.specs.Live.{place_slots, all_held, IsLive, StaysLive, HasRoomOn, GainsIf, EndsLive};
 
-use crate::ending::{end_all, held_by_inboxes, held_by_subs, room, settle_if};
+use crate::ending::{end_all, held_by_inboxes, room, settle_if};
 use crate::flags::Flags;
 use crate::ids::{InboxIds, SubIds};
 use crate::inboxes::InboxLink;
+use crate::live::Live;
 use crate::out::BridgeOut;
 use crate::putter::Putter;
 use crate::slots::free_slot;
@@ -37,7 +39,7 @@ pub(crate) struct Desk {
     alloc: Global,
     joined: SubIds,
     opened: InboxIds,
-    subs: Vec<SubLink>,
+    subs: Live,
     inboxes: Vec<InboxLink>,
     clients: Flags,
     sends: Flags,
@@ -54,7 +56,7 @@ impl Desk {
             alloc,
             joined: SubIds::new(alloc),
             opened: InboxIds::new(alloc),
-            subs: Vec::new(alloc),
+            subs: Live::new(alloc),
             inboxes: Vec::new(alloc),
             clients: Flags::new(alloc, shape.clients as usize)?,
             sends: Flags::new(alloc, publishers)?,
@@ -86,7 +88,7 @@ impl Desk {
         ensures same { OnErr result (AsBefore self.old self.new) }
         ensures err { OnErr result (out.new.items ≡ out.old.items) }
     {
-        routes::leave(self.alloc, &mut self.subs, sub, out)
+        self.subs.leave(self.alloc, sub, out)
     }
 
     pub(crate) fn close<L: Tagged>(
@@ -111,7 +113,7 @@ impl Desk {
         ensures same { OnErr result (AsBefore self.old self.new) }
         ensures err { OnErr result (out.new.items ≡ out.old.items) }
     {
-        routes::image(self.alloc, &mut self.subs, sub, msg, out)
+        self.subs.image(self.alloc, sub, msg, out)
     }
 
     pub(crate) fn reply<L: Tagged>(
@@ -140,7 +142,7 @@ impl Desk {
         ensures err { OnErr result (out.new.items ≡ out.old.items) }
     {
         let topic = shape.publisher_topics.at(publisher as usize);
-        routes::publish(self.alloc, &mut self.subs, topic, msg, out)
+        self.subs.publish(self.alloc, topic, msg, out)
     }
 
     pub(crate) fn wish<L: Tagged>(
@@ -157,7 +159,7 @@ impl Desk {
         if !may_forward(self.is_settling(), sender, shape.publisher_topics.len()) {
             return Ok(());
         }
-        routes::wish(&mut self.subs, sub, sender, out)
+        self.subs.wish(sub, sender, out)
     }
 
     pub(crate) fn ask<L: Tagged>(
@@ -183,20 +185,22 @@ impl Desk {
     fn ready_sub<L>(
         &mut self,
         sub: SubId,
+        topic: u32,
         queue: u32,
         out: &mut Outbox<BridgeOut<L>>,
     ) -> Result<u32, OutOfMemory>
-        ensures slot { IfOk result (λ slot. slot ≡ least_free (sub_link_slots queue self.old.subs.items ++ inbox_link_slots queue self.old.inboxes.items)) }
-        ensures room_subs { OnOk result (vec_len self.new.subs < vec_capacity self.new.subs) }
+        ensures slot { IfOk result (λ slot. slot ≡ least_free (place_slots queue self.old.subs.places.items ++ inbox_link_slots queue self.old.inboxes.items)) }
+        ensures room_places { OnOk result (vec_len self.new.subs.places < vec_capacity self.new.subs.places) }
+        ensures room_links { OnOk result (HasRoomOn self.new.subs.topics topic) }
         ensures room_out { OnOk result (1 < out.new.spare) }
         ensures joined { OnOk result ((one : Sub) → is_sub_among self.new.joined one ≡ (is_sub_among self.old.joined one || same_sub sub one)) }
         ensures not_joined { OnErr result (self.new.joined ≡ self.old.joined) }
-        ensures subs { self.new.subs.items ≡ self.old.subs.items }
+        ensures subs { StaysLive self.old.subs self.new.subs }
         ensures rest { AllBut self.old self.new }
         ensures out { out.new.items ≡ out.old.items }
     {
-        let slot = free_slot(self.alloc, &self.subs, &self.inboxes, queue)?;
-        self.subs.reserve(1)?;
+        let slot = free_slot(self.alloc, &self.subs.places, &self.inboxes, queue)?;
+        self.subs.reserve(self.alloc, topic)?;
         out.reserve(2)?;
         self.joined.add(sub)?;
         Ok(slot)
@@ -219,7 +223,7 @@ impl Desk {
         if self.joined.has(sub) {
             return Ok(());
         }
-        let slot = match self.ready_sub(sub, terms.queue, out) {
+        let slot = match self.ready_sub(sub, terms.topic, terms.queue, out) {
             Ok(slot) => slot,
             Err(_) => return Err((terms, listener)),
         };
@@ -340,30 +344,33 @@ impl Desk {
         }
     }
 
-    /// Ends all links, if the ending comes, into outboxes with room.
+    /// Ends all links, if the ending comes, into a list and outboxes with room.
     fn end_if<L>(
         &mut self,
         ends: bool,
         publishers: u32,
         queues: u32,
+        mut links: Vec<SubLink>,
         msgs: &mut Outbox<MarketMsg>,
         bodies: &mut Outbox<Msg>,
         out: &mut Outbox<BridgeOut<L>>,
     )
-        requires msgs { sum_by sub_held self.old.subs.items ≤ msgs.old.spare }
+        requires no_links { links.items ≡ [] }
+        requires links { vec_len self.old.subs.places ≤ vec_capacity links }
+        requires msgs { all_held self.old.subs.topics ≤ msgs.old.spare }
         requires bodies { sum_by inbox_held self.old.inboxes.items ≤ bodies.old.spare }
-        requires out { sum_by sub_held self.old.subs.items + length self.old.subs.items + (sum_by inbox_held self.old.inboxes.items + length self.old.inboxes.items) + (queues + publishers + 1) ≤ out.old.spare }
+        requires out { all_held self.old.subs.topics + vec_len self.old.subs.places + (sum_by inbox_held self.old.inboxes.items + length self.old.inboxes.items) + (queues + publishers + 1) ≤ out.old.spare }
         requires no_msgs { msgs.old.items ≡ [] }
         requires no_bodies { bodies.old.items ≡ [] }
-        ensures subs { self.new.subs.items ≡ kept ends self.old.subs.items }
+        ensures subs { (rows : List SubRow) → IsLive rows self.old.subs → IsLive (kept ends rows) self.new.subs }
         ensures inboxes { self.new.inboxes.items ≡ kept ends self.old.inboxes.items }
-        ensures out { EndsIf ends publishers queues self.old.subs.items self.old.inboxes.items out.old.items out.new.items }
+        ensures out { EndsLive ends publishers queues self.old.subs self.old.inboxes.items out.old.items out.new.items }
         ensures rest { AllButLinks self.old self.new }
     {
         if ends {
-            let subs = std::mem::replace(&mut self.subs, Vec::new(self.alloc));
+            self.subs.take_all(&mut links);
             let inboxes = std::mem::replace(&mut self.inboxes, Vec::new(self.alloc));
-            end_all(subs, inboxes, publishers, queues, msgs, bodies, out);
+            end_all(links, inboxes, publishers, queues, msgs, bodies, out);
         }
     }
 
@@ -376,31 +383,36 @@ impl Desk {
         queues: u32,
         out: &mut Outbox<BridgeOut<L>>,
     ) -> Result<(), OutOfMemory>
-        ensures subs { OnOk result (self.new.subs.items ≡ kept ends self.old.subs.items) }
+        ensures subs { OnOk result ((rows : List SubRow) → IsLive rows self.old.subs → IsLive (kept ends rows) self.new.subs) }
         ensures inboxes { OnOk result (self.new.inboxes.items ≡ kept ends self.old.inboxes.items) }
-        ensures out { OnOk result (EndsIf ends publishers queues self.old.subs.items self.old.inboxes.items (out.old.items ++ (if settles then settle_outs publishers else [])) out.new.items) }
+        ensures out { OnOk result (EndsLive ends publishers queues self.old.subs self.old.inboxes.items (out.old.items ++ (if settles then settle_outs publishers else [])) out.new.items) }
         ensures rest { AllButLinks self.old self.new }
-        ensures same_subs { OnErr result (self.new.subs.items ≡ self.old.subs.items) }
+        ensures same_subs { OnErr result (self.new.subs ≡ self.old.subs) }
         ensures same_inboxes { OnErr result (self.new.inboxes.items ≡ self.old.inboxes.items) }
         ensures err { OnErr result (out.new.items ≡ out.old.items) }
     {
-        let held = held_by_subs(&self.subs)?;
+        let held = self.subs.held()?;
+        let count = self.subs.len();
         let replies = held_by_inboxes(&self.inboxes)?;
-        let more = room(
-            held,
-            self.subs.len(),
-            replies,
-            self.inboxes.len(),
-            publishers,
-            queues,
-        )?;
+        let opened = self.inboxes.len();
+        let more = room(held, count, replies, opened, publishers, queues)?;
         out.reserve(more)?;
+        let mut links = Vec::new(self.alloc);
+        links.reserve(count)?;
         let mut msgs = Outbox::new(self.alloc);
         msgs.reserve(held)?;
         let mut bodies = Outbox::new(self.alloc);
         bodies.reserve(replies)?;
         settle_if(settles, publishers, out);
-        self.end_if(ends, publishers, queues, &mut msgs, &mut bodies, out);
+        self.end_if(
+            ends,
+            publishers,
+            queues,
+            links,
+            &mut msgs,
+            &mut bodies,
+            out,
+        );
         Ok(())
     }
 
@@ -413,11 +425,11 @@ impl Desk {
         queues: u32,
         out: &mut Outbox<BridgeOut<L>>,
     ) -> Result<(), OutOfMemory>
-        ensures subs { OnOk result (self.new.subs.items ≡ kept ends self.old.subs.items) }
+        ensures subs { OnOk result ((rows : List SubRow) → IsLive rows self.old.subs → IsLive (kept ends rows) self.new.subs) }
         ensures inboxes { OnOk result (self.new.inboxes.items ≡ kept ends self.old.inboxes.items) }
-        ensures out { OnOk result (EndsIf ends publishers queues self.old.subs.items self.old.inboxes.items (out.old.items ++ (if settles then settle_outs publishers else [])) out.new.items) }
+        ensures out { OnOk result (EndsLive ends publishers queues self.old.subs self.old.inboxes.items (out.old.items ++ (if settles then settle_outs publishers else [])) out.new.items) }
         ensures rest { AllButLinks self.old self.new }
-        ensures same_subs { OnErr result (self.new.subs.items ≡ self.old.subs.items) }
+        ensures same_subs { OnErr result (self.new.subs ≡ self.old.subs) }
         ensures same_inboxes { OnErr result (self.new.inboxes.items ≡ self.old.inboxes.items) }
         ensures err { OnErr result (out.new.items ≡ out.old.items) }
     {
@@ -483,7 +495,7 @@ impl Desk {
         queue: u32,
         out: &mut Outbox<BridgeOut<L>>,
     ) -> Result<u32, OutOfMemory>
-        ensures slot { IfOk result (λ slot. slot ≡ least_free (sub_link_slots queue self.old.subs.items ++ inbox_link_slots queue self.old.inboxes.items)) }
+        ensures slot { IfOk result (λ slot. slot ≡ least_free (place_slots queue self.old.subs.places.items ++ inbox_link_slots queue self.old.inboxes.items)) }
         ensures room_inboxes { OnOk result (vec_len self.new.inboxes < vec_capacity self.new.inboxes) }
         ensures room_out { OnOk result (0 < out.new.spare) }
         ensures opened { OnOk result ((one : Inbox) → is_inbox_among self.new.opened one ≡ (is_inbox_among self.old.opened one || same_inbox inbox one)) }
@@ -492,7 +504,7 @@ impl Desk {
         ensures rest { AllButInboxes self.old self.new }
         ensures out { out.new.items ≡ out.old.items }
     {
-        let slot = free_slot(self.alloc, &self.subs, &self.inboxes, queue)?;
+        let slot = free_slot(self.alloc, &self.subs.places, &self.inboxes, queue)?;
         self.inboxes.reserve(1)?;
         out.reserve(1)?;
         self.opened.add(inbox)?;
@@ -501,13 +513,14 @@ impl Desk {
 
     /// Keeps the link of a new subscription, unless the ending has come.
     fn add_sub(&mut self, ended: bool, link: SubLink)
-        requires { vec_len self.old.subs < vec_capacity self.old.subs }
+        requires places { vec_len self.old.subs.places < vec_capacity self.old.subs.places }
+        requires links { HasRoomOn self.old.subs.topics link.topic }
         ensures joined { self.new.joined ≡ self.old.joined }
-        ensures subs { self.new.subs.items ≡ self.old.subs.items ++ kept ended (link ∷ []) }
+        ensures subs { GainsIf ended link self.old.subs self.new.subs }
         ensures rest { AllBut self.old self.new }
     {
         if !ended {
-            self.subs.push_reserved(link);
+            self.subs.add(link);
         }
     }
 }

@@ -12,17 +12,6 @@ use mama_link::Outbox;
 use mama_memory::OutOfMemory;
 use mama_msg::Msg;
 
-/// How many messages the links of subscriptions still hold.
-pub(crate) fn held_by_subs(links: &Vec<SubLink>) -> Result<usize, OutOfMemory>
-    ensures { IfOk result (λ n. n ≡ sum_by sub_held links.now.items) }
-{
-    let mut total: usize = 0;
-    for link in links {
-        total = plus(total, link.link.held())?;
-    }
-    Ok(total)
-}
-
 /// How many replies the links of inboxes still hold.
 pub(crate) fn held_by_inboxes(links: &Vec<InboxLink>) -> Result<usize, OutOfMemory>
     ensures { IfOk result (λ n. n ≡ sum_by inbox_held links.now.items) }

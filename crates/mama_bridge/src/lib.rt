@@ -5,9 +5,12 @@
 //! before it. The contract of [`MemoryBridge::take`] says so of every event that comes by any port, in any order, and
 //! that the listener of a `Create` is the one that the event of that entry brought.
 //!
-//! A bridge keeps a link for each live subscription and each open inbox, in order, and not what it heard. A publish
-//! costs the live links, and what comes out of those of its topic; a Join, a Leave and an Ask cost the live links, and a
-//! Join a logarithm of all that joined before. Want of memory leaves the bridge and the outbox as they were.
+//! A bridge keeps a link for each live subscription and each open inbox, and not what it heard. The links of
+//! subscriptions stand by topic: a publish costs the links of its topic, what comes out of them, and a logarithm of the
+//! topics. An image, a wish and a Leave cost the links of one topic, and a look at the place of each live subscription; a
+//! Join costs the places and the inboxes, and a logarithm of all that joined before; a reply, an Ask and the end of an
+//! inbox cost the inboxes. All links are looked at where settling begins and where the ending comes. Want of memory
+//! leaves the bridge and the outbox as they were.
 #![tactic(auto)]
 
 mod bridge;
@@ -18,6 +21,7 @@ mod flags;
 mod hearing;
 mod ids;
 mod inboxes;
+mod live;
 mod out;
 mod putter;
 mod routes;

@@ -12,11 +12,12 @@ use mama_link::Outbox;
 use mama_memory::OutOfMemory;
 use mama_msg::Msg;
 use std::alloc::Global;
+use std::collections::VecDeque;
 
 /// Passes a message through all links on a topic, in order.
 pub(crate) fn publish<L>(
     alloc: Global,
-    links: &mut Vec<SubLink>,
+    links: &mut VecDeque<SubLink>,
     topic: u32,
     msg: &MarketMsg,
     out: &mut Outbox<BridgeOut<L>>,
@@ -55,7 +56,7 @@ fn send<L>(
 /// Passes a message through a subscription's link, if it is live.
 pub(crate) fn image<L>(
     alloc: Global,
-    links: &mut Vec<SubLink>,
+    links: &mut VecDeque<SubLink>,
     sub: SubId,
     msg: &MarketMsg,
     out: &mut Outbox<BridgeOut<L>>,
@@ -73,7 +74,7 @@ pub(crate) fn image<L>(
 /// Ends a subscription's link, if it is live.
 pub(crate) fn leave<L>(
     alloc: Global,
-    links: &mut Vec<SubLink>,
+    links: &mut VecDeque<SubLink>,
     sub: SubId,
     out: &mut Outbox<BridgeOut<L>>,
 ) -> Result<(), OutOfMemory>
@@ -87,7 +88,7 @@ pub(crate) fn leave<L>(
             out.reserve(plus(held, 1)?)?;
             let mut msgs = Outbox::new(alloc);
             msgs.reserve(held)?;
-            let link = links.remove(i);
+            let link = subs::remove_at(links, i);
             subs::end(link, &mut msgs, out);
             Ok(())
         }
@@ -120,7 +121,7 @@ fn wish_one<L>(
 
 /// Forwards a wish of a subscription, if it is live and its terms allow one more.
 pub(crate) fn wish<L>(
-    links: &mut Vec<SubLink>,
+    links: &mut VecDeque<SubLink>,
     sub: SubId,
     sender: u32,
     out: &mut Outbox<BridgeOut<L>>,

@@ -1,10 +1,11 @@
 ghost use Rattle.std.specs.Prelude.{◌≡◌, ◌<◌, ◌++◌, length, replicate, slice_set, slice_index_or, true, false, IfOk, OnOk};
 ghost use Rattle.mama_journal.specs.Journal.{least_free};
-ghost use Rattle.mama_bridge.specs.Links.{link_slot, sub_link_slots, inbox_link_slots};
+ghost use Rattle.mama_bridge.specs.Links.{link_slot, inbox_link_slots};
+ghost use Rattle.mama_bridge.specs.Live.{place_slots};
 ghost use Rattle.mama_bridge.specs.Marks.{marked_by};
 
 use crate::inboxes::InboxLink;
-use crate::subs::SubLink;
+use crate::live::Place;
 use mama_memory::OutOfMemory;
 use std::alloc::Global;
 
@@ -18,11 +19,11 @@ fn note(used: &mut Vec<u32>, queue: u32, of_queue: u32, slot: u32) -> Result<(),
     Ok(())
 }
 
-fn note_subs(used: &mut Vec<u32>, links: &Vec<SubLink>, queue: u32) -> Result<(), OutOfMemory>
-    ensures { OnOk result (used.new.items ≡ used.old.items ++ sub_link_slots queue links.now.items) }
+fn note_places(used: &mut Vec<u32>, places: &Vec<Place>, queue: u32) -> Result<(), OutOfMemory>
+    ensures { OnOk result (used.new.items ≡ used.old.items ++ place_slots queue places.now.items) }
 {
-    for link in links {
-        note(used, queue, link.queue, link.slot)?;
+    for place in places {
+        note(used, queue, place.queue, place.slot)?;
     }
     Ok(())
 }
@@ -90,14 +91,14 @@ fn first_free(alloc: Global, used: &Vec<u32>) -> Result<u32, OutOfMemory>
 /// The least slot of a queue that no link has.
 pub(crate) fn free_slot(
     alloc: Global,
-    subs: &Vec<SubLink>,
+    places: &Vec<Place>,
     inboxes: &Vec<InboxLink>,
     queue: u32,
 ) -> Result<u32, OutOfMemory>
-    ensures { IfOk result (λ slot. slot ≡ least_free (sub_link_slots queue subs.now.items ++ inbox_link_slots queue inboxes.now.items)) }
+    ensures { IfOk result (λ slot. slot ≡ least_free (place_slots queue places.now.items ++ inbox_link_slots queue inboxes.now.items)) }
 {
     let mut used = Vec::new(alloc);
-    note_subs(&mut used, subs, queue)?;
+    note_places(&mut used, places, queue)?;
     note_inboxes(&mut used, inboxes, queue)?;
     first_free(alloc, &used)
 }

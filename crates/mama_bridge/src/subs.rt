@@ -1,4 +1,5 @@
-ghost use Rattle.std.specs.Prelude.{◌≡◌, ◌+◌, ◌<◌, ◌≤◌, ◌++◌, [], ◌∷◌, map, length, position, take, IfOk, OnOk, OnErr, IfSome, sum_by, if◌then◌else◌};
+ghost use Rattle.std.specs.Prelude.{◌≡◌, ◌+◌, ◌<◌, ◌≤◌, ◌++◌, [], ◌∷◌, map, length, position, take, IfOk, OnOk, OnErr, IfSome, sum_by, remove, slice_index_or, if◌then◌else◌};
+ghost use Rattle.std.specs.VecDeque.{deque_len};
 ghost use Rattle.mama_link.specs.Link.{emit};
 ghost use Rattle.mama_event.specs.Object.{same_sub};
 ghost use Rattle.mama_event.specs.declared.market.MarketMsg.{MarketMsg};
@@ -10,6 +11,7 @@ use crate::out::{BridgeOut, deliver, gone};
 use mama_event::{MarketMsg, ObjectId, SubId};
 use mama_link::{Link, Outbox, Prepared};
 use mama_memory::OutOfMemory;
+use std::collections::VecDeque;
 
 /// The link of a live subscription: its topic, its place, how many recaps may be asked for it and how many were, and
 /// the pass that is prepared, if one is.
@@ -54,7 +56,7 @@ fn prepare_if(link: &mut SubLink, topic: u32, msg: &MarketMsg) -> Result<usize, 
 
 /// Prepares the next pass of all links on a topic, and tells how many messages they will put out.
 pub(crate) fn prepare_topic(
-    links: &mut Vec<SubLink>,
+    links: &mut VecDeque<SubLink>,
     topic: u32,
     msg: &MarketMsg,
 ) -> Result<usize, OutOfMemory>
@@ -114,7 +116,7 @@ fn pass_if<L>(
 
 /// Passes what is prepared through all links on a topic, in order.
 pub(crate) fn pass_topic<L>(
-    links: &mut Vec<SubLink>,
+    links: &mut VecDeque<SubLink>,
     topic: u32,
     msgs: &mut Outbox<MarketMsg>,
     out: &mut Outbox<BridgeOut<L>>,
@@ -154,8 +156,17 @@ pub(crate) fn end<L>(link: SubLink, msgs: &mut Outbox<MarketMsg>, out: &mut Outb
 }
 
 /// The place of a subscription's link in the list.
-pub(crate) fn find(links: &Vec<SubLink>, sub: SubId) -> Option<usize>
+pub(crate) fn find(links: &VecDeque<SubLink>, sub: SubId) -> Option<usize>
     ensures { result ≡ position (λ link. same_sub link.sub sub) links.now.items }
 {
     links.iter().position(|link| link.sub == sub)
+}
+
+/// Takes the link at a place of the list out.
+pub(crate) fn remove_at(links: &mut VecDeque<SubLink>, i: usize) -> SubLink
+    requires { i < deque_len links.old }
+    ensures items { links.new.items ≡ remove links.old.items i }
+    ensures value { result ≡ slice_index_or links.old.items i result }
+{
+    links.remove(i).unwrap()
 }

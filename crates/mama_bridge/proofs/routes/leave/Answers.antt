@@ -5,9 +5,9 @@ use Rattle.mama_bridge.proofs.routes.leave.Goals as goal
 
 pub returns-in_ok-reserve-in-Some-2-clause-ok : goal.returns-in_ok-reserve-in-Some-2-clause-ok
 returns-in_ok-reserve-in-Some-2-clause-ok g c rows h alone =
-    let both = sub_left end_outs c.args.sub c.args.links.now.items c.in-Some.i c.remove-link.result c.args.out.now.items c.end.new.out.items (sym c.in-Some.ensures) c.remove-link.ensures.value
+    let both = sub_left end_outs c.args.sub c.args.links.now.items c.in-Some.i c.remove_at-link.result c.args.out.now.items c.end.new.out.items (sym c.in-Some.ensures) c.remove_at-link.ensures.value
     (λ row same. (c.end.ensures.step row same (c.reserve-in-Some.ensures.items ∙ c.new-msgs.ensures)).0 ∙ ap (λ os. os ++ end_outs row) c.reserve.ensures.items) rows h alone in
-    (ap (map sub_seen) c.remove-link.ensures.items ∙ both.0, both.1)
+    (ap (map sub_seen) c.remove_at-link.ensures.items ∙ both.0, both.1)
 
 pub returns-in-None-clause-ok : goal.returns-in-None-clause-ok
 returns-in-None-clause-ok g c = sub_not_left end_outs c.args.sub c.args.links.now.items c.args.out.now.items (sym c.in-None.ensures)

@@ -3,9 +3,10 @@ use Rattle.mama_event.specs.declared.ids.SubId.{SubId}
 use Rattle.mama_event.specs.declared.ids.InboxId.{InboxId}
 use Rattle.mama_event.specs.Ports.{queues_of}
 use Rattle.mama_rules.specs.Bridge.{client_done}
-use Rattle.mama_bridge_rules.specs.Table.{begins_settling, begins_ending}
+use Rattle.mama_bridge_rules.specs.Table.{kept, begins_settling, begins_ending}
 use Rattle.mama_bridge.specs.Ids.{is_sub_among, is_inbox_among}
-use Rattle.mama_bridge.specs.Links.{sub_seen, sub_view, inbox_seen, inbox_view, settle_outs, EndsIf}
+use Rattle.mama_bridge.specs.Links.{inbox_seen, inbox_view, settle_outs}
+use Rattle.mama_bridge.specs.Live.{IsLive, EndsLive}
 use Rattle.mama_bridge.proofs.Closing.{seen_kept, adds_closing}
 use Rattle.mama_bridge.proofs.desk.Desk.client_done.Goals as goal
 
@@ -16,17 +17,17 @@ returns-clause-ok g c table s sound =
     let turned = c.in_ok-turn.ensures in
     let rest = turned.rest in
     let before = c.args.self.now in
-    let out = subst (λ (n : ℕ). EndsIf {L = g.row.L.Denot} c.begins-ends.result n (queues_of c.args.shape.now) before.subs.items before.inboxes.items (c.args.out.now.items ++ cond c.begins-settles.result (settle_outs n) []) c.turn.new.out.items) c.requires.publishers turned.out in
+    let out = subst (λ (n : ℕ). EndsLive {L = g.row.L.Denot} c.begins-ends.result n (queues_of c.args.shape.now) before.subs before.inboxes.items (c.args.out.now.items ++ cond c.begins-settles.result (settle_outs n) []) c.turn.new.out.items) c.requires.publishers turned.out in
     record {
       stands = record {
         joined = λ one. ap (λ (known : List SubId). is_sub_among known one) rest.joined ∙ s.joined one;
         opened = λ one. ap (λ (known : List InboxId). is_inbox_among known one) rest.opened ∙ s.opened one;
-        subs = seen_kept sub_seen sub_view c.turn.new.self.subs.items before.subs.items table.subs c.begins-ends.result (begins_ending table (client_done c.args.client)) turned.subs s.subs ends;
+        subs = subst (λ (b : Bool). IsLive (kept b table.subs) c.turn.new.self.subs) ends (turned.subs table.subs s.subs);
         inboxes = seen_kept inbox_seen inbox_view c.turn.new.self.inboxes.items before.inboxes.items table.inboxes c.begins-ends.result (begins_ending table (client_done c.args.client)) turned.inboxes s.inboxes ends;
         clients = c.set.ensures ∙ ap (λ (flags : List Bool). set flags c.args.client true) (rest.clients ∙ s.clients);
         sends = rest.sends ∙ s.sends;
         settled = rest.settled ∙ s.settled;
         byes = rest.byes ∙ s.byes;
       };
-      adds = adds_closing g.L.Tagged.tagged c.args.shape.now table (client_done c.args.client) before.subs.items before.inboxes.items c.args.out.now.items c.turn.new.out.items c.begins-settles.result c.begins-ends.result s.subs s.inboxes out settles ends;
+      adds = adds_closing g.L.Tagged.tagged c.args.shape.now table (client_done c.args.client) before.subs before.inboxes.items c.args.out.now.items c.turn.new.out.items c.begins-settles.result c.begins-ends.result s.subs s.inboxes out settles ends;
     }

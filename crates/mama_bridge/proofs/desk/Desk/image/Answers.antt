@@ -1,5 +1,5 @@
 use Rattle.std.specs.List.{flat_map}
-use Rattle.std.proofs.Common.{◌∙◌, filter}
+use Rattle.std.proofs.Common.{filter}
 use Rattle.std.proofs.lemmas.Result.{on_ok_weaker, on_err_weaker}
 use Rattle.mama_bridge_rules.specs.Table.{of_sub, sub_emits}
 use Rattle.mama_bridge.specs.Links.{emit_outs}
@@ -20,5 +20,5 @@ returns-clause-ok g c =
 pub returns-clause-same : goal.returns-clause-same
 returns-clause-same g c =
     on_err_weaker c.image.result
-    (λ same. λ table s. record { joined = s.joined; opened = s.opened; subs = same ∙ s.subs; inboxes = s.inboxes; clients = s.clients; sends = s.sends; settled = s.settled; byes = s.byes })
-    c.image.ensures.seen
+    (λ same. λ table s. record { joined = s.joined; opened = s.opened; subs = same table.subs s.subs; inboxes = s.inboxes; clients = s.clients; sends = s.sends; settled = s.settled; byes = s.byes })
+    c.image.ensures.same

@@ -1,5 +1,5 @@
 use Rattle.std.specs.Prelude.{position}
-use Rattle.std.proofs.Common.{List, ◌≡◌, ◌∙◌, ◌==◌, sym, ap, false, [], map}
+use Rattle.std.proofs.Common.{List, Bool, ◌≡◌, ◌∙◌, ◌==◌, ◌++◌, ◌∷◌, sym, ap, subst, false, [], map}
 use Rattle.mama_link.specs.Link.{standing_after}
 use Rattle.mama_event.specs.declared.ids.InboxId.{InboxId}
 use Rattle.mama_event.specs.declared.ids.ObjectId.TheVariants.{Sub}
@@ -7,11 +7,12 @@ use Rattle.mama_event.specs.declared.market.MsgKind.TheVariants.{Initial}
 use Rattle.mama_event.specs.declared.to_publisher.ToPublisher.TheVariants as asked
 use Rattle.mama_event.specs.declared.to_queue.Make.TheVariants as make
 use Rattle.mama_rules.specs.Bridge.{wants_image}
-use Rattle.mama_bridge_rules.specs.Table.{has_joined, slot_for, ended_now, new_sub}
+use Rattle.mama_bridge_rules.specs.Table.{has_joined, slot_for, ended_now, new_sub, kept}
 use Rattle.mama_bridge.specs.Ids.{is_sub_among, is_inbox_among}
 use Rattle.mama_bridge.specs.Links.{SubView, sub_seen, sub_view, inbox_seen, first_outs, image_outs}
+use Rattle.mama_bridge.specs.Live.{IsLive}
 use Rattle.mama_bridge.proofs.Known.{sub_joined}
-use Rattle.mama_bridge.proofs.Joining.{slot_same, ended_same, seen_more, adds_created, says_image}
+use Rattle.mama_bridge.proofs.Joining.{slot_same, ended_same, adds_created, says_image}
 use Rattle.mama_bridge.proofs.desk.Desk.join.Goals as goal
 
 pub returns-clause-ok : goal.returns-clause-ok
@@ -21,7 +22,7 @@ returns-clause-ok g c table s sound =
     let last = c.add_sub.ensures.rest in
     let had : is_sub_among before.joined c.args.sub ≡ false = sym c.if-has.ensures in
     let new : has_joined c.args.sub table ≡ false = sym (s.joined c.args.sub) ∙ had in
-    let slot : c.in-Ok.slot ≡ slot_for c.args.terms.queue table = c.in-Ok.ensures.slot ∙ slot_same c.args.terms.queue before.subs.items before.inboxes.items table.subs table.inboxes s.subs s.inboxes in
+    let slot : c.in-Ok.slot ≡ slot_for c.args.terms.queue table = c.in-Ok.ensures.slot ∙ slot_same c.args.terms.queue before.subs.places.items before.inboxes.items table.subs table.inboxes s.subs.places s.inboxes in
     let ended : c.is_ended-ended.result ≡ ended_now table = c.is_ended-ended.ensures ∙ ended_same _ _ _ _ _ _ (rest.clients ∙ s.clients) (rest.sends ∙ s.sends) (rest.settled ∙ s.settled) in
     let link : sub_seen c.new_link-link.result ≡ sub_view (new_sub table c.args.sub c.args.terms) =
     c.new_link-link.ensures ∙ ap {B = SubView} (λ n. record { sub = c.args.sub; topic = c.args.terms.topic; queue = c.args.terms.queue; slot = n; recaps = c.args.terms.recaps; wished = 0; link = standing_after c.args.terms.faults [] }) slot in
@@ -30,7 +31,7 @@ returns-clause-ok g c table s sound =
       stands = record {
         joined = rw new (sub_joined c.args.sub before.joined c.ready_sub.new.self.joined c.add_sub.new.self.joined table.joined c.in-Ok.ensures.joined c.add_sub.ensures.joined s.joined);
         opened = λ one. ap (λ (known : List InboxId). is_inbox_among known one) (last.opened ∙ rest.opened) ∙ s.opened one;
-        subs = rw new (seen_more sub_seen sub_view c.add_sub.new.self.subs.items c.ready_sub.new.self.subs.items table.subs c.new_link-link.result (new_sub table c.args.sub c.args.terms) c.is_ended-ended.result (ended_now table) c.add_sub.ensures.subs (ap (λ xs. map sub_seen xs) c.ready_sub.ensures.subs ∙ s.subs) link ended);
+        subs = rw new (subst (λ (b : Bool). IsLive (table.subs ++ kept b (new_sub table c.args.sub c.args.terms ∷ [])) c.add_sub.new.self.subs) ended (c.add_sub.ensures.subs table.subs (new_sub table c.args.sub c.args.terms) (c.ready_sub.ensures.subs table.subs s.subs) link));
         inboxes = ap (λ xs. map inbox_seen xs) (last.inboxes ∙ rest.inboxes) ∙ s.inboxes;
         clients = last.clients ∙ rest.clients ∙ s.clients;
         sends = last.sends ∙ rest.sends ∙ s.sends;

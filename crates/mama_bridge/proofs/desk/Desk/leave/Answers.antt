@@ -1,8 +1,8 @@
 use Rattle.std.specs.List.{flat_map}
-use Rattle.std.proofs.Common.{◌∙◌, ap, map, filter}
+use Rattle.std.proofs.Common.{filter}
 use Rattle.std.proofs.lemmas.Result.{on_ok_weaker, on_err_weaker}
 use Rattle.mama_bridge_rules.specs.Table.{of_sub, sub_ends}
-use Rattle.mama_bridge.specs.Links.{sub_seen, end_outs}
+use Rattle.mama_bridge.specs.Links.{end_outs}
 use Rattle.mama_bridge.proofs.Adding.{says_ends, adds_said}
 use Rattle.mama_bridge.proofs.desk.Desk.leave.Goals as goal
 
@@ -20,5 +20,5 @@ returns-clause-ok g c =
 pub returns-clause-same : goal.returns-clause-same
 returns-clause-same g c =
     on_err_weaker c.leave.result
-    (λ same. λ table s. record { joined = s.joined; opened = s.opened; subs = ap (map sub_seen) same ∙ s.subs; inboxes = s.inboxes; clients = s.clients; sends = s.sends; settled = s.settled; byes = s.byes })
-    c.leave.ensures.seen
+    (λ same. λ table s. record { joined = s.joined; opened = s.opened; subs = same table.subs s.subs; inboxes = s.inboxes; clients = s.clients; sends = s.sends; settled = s.settled; byes = s.byes })
+    c.leave.ensures.same

@@ -1,8 +1,9 @@
 use Rattle.std.specs.List.{flat_map}
-use Rattle.std.proofs.Common.{ℕ, ◌∙◌, filter, subst}
+use Rattle.std.proofs.Common.{ℕ, filter, subst}
 use Rattle.std.proofs.lemmas.Result.{on_ok_weaker, on_err_weaker}
-use Rattle.mama_bridge_rules.specs.Table.{is_on_topic_of, sub_emits}
-use Rattle.mama_bridge.specs.Links.{emit_outs, SubsPass, row_is_on}
+use Rattle.mama_bridge_rules.specs.Table.{is_on_topic_of, sub_emits, sub_passed}
+use Rattle.mama_bridge.specs.Links.{emit_outs, row_is_on}
+use Rattle.mama_bridge.specs.Live.{LiveDoes}
 use Rattle.mama_bridge.proofs.Adding.{says_emits, adds_said}
 use Rattle.mama_bridge.proofs.desk.Desk.publish.Goals as goal
 
@@ -10,7 +11,7 @@ pub returns-clause-ok : goal.returns-clause-ok
 returns-clause-ok g c =
     on_ok_weaker c.publish.result
     (λ done. λ table s sound.
-    let done' = subst (λ (n : ℕ). SubsPass {L = g.row.L.Denot} (row_is_on n) c.args.msg.now c.args.self.now.subs.items c.publish.new.links.items c.args.out.now.items c.publish.new.out.items) c.at-topic.ensures done in
+    let done' = subst (λ (n : ℕ). LiveDoes {L = g.row.L.Denot} (row_is_on n) (sub_passed c.args.msg.now) (emit_outs c.args.msg.now) c.args.self.now.subs c.publish.new.self c.args.out.now.items c.publish.new.out.items) c.at-topic.ensures done in
     let both = done' table.subs s.subs sound.subs_once in
     record {
       stands = record { joined = s.joined; opened = s.opened; subs = both.0; inboxes = s.inboxes; clients = s.clients; sends = s.sends; settled = s.settled; byes = s.byes };
@@ -21,5 +22,5 @@ returns-clause-ok g c =
 pub returns-clause-same : goal.returns-clause-same
 returns-clause-same g c =
     on_err_weaker c.publish.result
-    (λ same. λ table s. record { joined = s.joined; opened = s.opened; subs = same ∙ s.subs; inboxes = s.inboxes; clients = s.clients; sends = s.sends; settled = s.settled; byes = s.byes })
-    c.publish.ensures.seen
+    (λ same. λ table s. record { joined = s.joined; opened = s.opened; subs = same table.subs s.subs; inboxes = s.inboxes; clients = s.clients; sends = s.sends; settled = s.settled; byes = s.byes })
+    c.publish.ensures.same

@@ -1,0 +1,308 @@
+-- Rows by topic: what is done to the rows on one topic is done to all rows.
+use Rattle.std.specs.Prelude.{nat_lt, position, remove, option_to_list, IfNone, sum_by}
+use Rattle.std.specs.List.{list_any, flat_map}
+use Rattle.std.specs.BTreeMap.{BTreeMap, get}
+use Rattle.std.specs.Ordering.{nat_cmp}
+use Rattle.std.specs.declared.collections.VecDeque.{VecDeque}
+use Rattle.std.proofs.Common.{◌≡◌, ℕ, zero, suc, ◌+◌, ◌<◌, ◌≤◌, Bool, true, false, not, ◌||◌, ◌==◌, cond, List, [], ◌∷◌, ◌++◌, length, map, filter, get_or, take, drop, Option, None, Some, refl, sym, ◌∙◌, ap, arith, subst, eq-eqb, append-nil}
+use Rattle.std.proofs.lemmas.Bool.{eqb-true}
+use Rattle.std.proofs.lemmas.List.{map-append, map-id, length-map, take_all}
+use Rattle.std.proofs.lemmas.List.Elements.{filter-append}
+use Rattle.std.proofs.lemmas.List.Quantifiers.{position-Some}
+use Rattle.mama_event.specs.Object.{same_sub}
+use Rattle.mama_event.specs.EqualityLaws.{same_sub-Decides}
+use Rattle.mama_event.specs.declared.ids.SubId.{SubId}
+use Rattle.mama_bridge_rules.specs.Laws.{Alone}
+use Rattle.mama_bridge_rules.specs.Table.{SubRow, of_sub, sub_wished, changed, without, kept}
+use Rattle.mama_bridge.specs.declared.live.Live.{Live}
+use Rattle.mama_bridge.specs.declared.live.Place.{Place}
+use Rattle.mama_bridge.specs.declared.out.BridgeOut.{BridgeOut}
+use Rattle.mama_bridge.specs.declared.subs.SubLink.{SubLink}
+use Rattle.mama_bridge.specs.Links.{SubView, Each, sub_seen, sub_view, row_is_on, end_outs, wished_once, SubLeaves}
+use Rattle.mama_bridge.specs.Live.{links_in, links_on, OnTopic, place_of, IsLive, AloneSubs, IsTopicOf, LiveLeaves}
+use Rattle.mama_bridge.proofs.TheOne.{the_one, no_one, none_taken, none_changed, none_without}
+
+heads : {V : Type 0} {v w : V} {vs ws : List V} → v ∷ vs ≡ w ∷ ws → v ≡ w
+heads e = cc
+
+tails : {V : Type 0} {v w : V} {vs ws : List V} → v ∷ vs ≡ w ∷ ws → vs ≡ ws
+tails e = cc
+
+both : {V : Type 0} {v w : V} {vs ws : List V} → v ≡ w → vs ≡ ws → v ∷ vs ≡ w ∷ ws
+both p q = cc
+
+-- two topics of one row are one
+clash : {A : Type 0} (t q n : ℕ) → (t == n) ≡ true → (q == n) ≡ true → (t == q) ≡ false → A
+clash t q n h k apart =
+    let same : (t == q) ≡ true = eq-eqb t q (eqb-true t n h ∙ sym (eqb-true q n k)) in
+    absurd (let bad : false ≡ true = sym apart ∙ same in cc)
+
+no_true : {A : Type 0} (b : Bool) → b ≡ true → b ≡ false → A
+no_true b h k = absurd (let bad : false ≡ true = sym k ∙ h in cc)
+
+-- ---- what holds of the rows that pass a test
+
+module _ {R : Type 0} where
+  each_first : (P : R → Type 0) (b : Bool) (row : R) (rows : List R) → b ≡ true → Each P (cond b (row ∷ rows) rows) → P row
+  each_first P true row rows e h = h.0
+  each_first P false row rows e h = no_true false e refl
+
+  each_rest : (P : R → Type 0) (b : Bool) (row : R) (rows : List R) → Each P (cond b (row ∷ rows) rows) → Each P rows
+  each_rest P true row rows h = h.1
+  each_rest P false row rows h = h
+
+  pub each_filter : (test : R → Bool) (rows : List R) → Each (λ row. test row ≡ true) (filter test rows)
+  each_filter test [] = tt
+  each_filter test (row ∷ rows) = at (each_filter test rows) (test row) refl
+    where
+      at : Each (λ r. test r ≡ true) (filter test rows) → (b : Bool) → test row ≡ b → Each (λ r. test r ≡ true) (cond b (row ∷ filter test rows) (filter test rows))
+      at more true e = (e, more)
+      at more false e = more
+
+  any_filter : (p q : R → Bool) (rows : List R) → list_any q rows ≡ false → list_any q (filter p rows) ≡ false
+  any_filter p q [] h = refl
+  any_filter p q (row ∷ rows) h = at (first (q row) (list_any q rows) h) (any_filter p q rows (rest (q row) (list_any q rows) h)) (p row)
+    where
+      first : (a b : Bool) → (a || b) ≡ false → a ≡ false
+      first true b e = e
+      first false b e = refl
+
+      rest : (a b : Bool) → (a || b) ≡ false → b ≡ false
+      rest true b e = cc
+      rest false b e = e
+
+      at : q row ≡ false → list_any q (filter p rows) ≡ false → (b : Bool) → list_any q (cond b (row ∷ filter p rows) (filter p rows)) ≡ false
+      at here more true = rw here more
+      at here more false = more
+
+  pub alone_filter : {I : Type 0} (same : I → I → Bool) (key : R → I) (p : R → Bool) (rows : List R) → Alone same key rows → Alone same key (filter p rows)
+  alone_filter same key p [] h = tt
+  alone_filter same key p (row ∷ rows) h = at (alone_filter same key p rows h.1) (p row)
+    where
+      at : Alone same key (filter p rows) → (b : Bool) → Alone same key (cond b (row ∷ filter p rows) (filter p rows))
+      at more true = (any_filter p (λ other. same (key other) (key row)) rows h.0, more)
+      at more false = more
+
+  -- two tests, in either order
+  pub filter_swap : (p q : R → Bool) (rows : List R) → filter p (filter q rows) ≡ filter q (filter p rows)
+  filter_swap p q [] = refl
+  filter_swap p q (row ∷ rows) = at (filter_swap p q rows) (p row) refl (q row) refl
+    where
+      at : filter p (filter q rows) ≡ filter q (filter p rows) → (a : Bool) → p row ≡ a → (b : Bool) → q row ≡ b → filter p (cond b (row ∷ filter q rows) (filter q rows)) ≡ filter q (cond a (row ∷ filter p rows) (filter p rows))
+      at more true d true e = rw (d, e) (ap (λ rs. row ∷ rs) more)
+      at more true d false e = rw e more
+      at more false d true e = rw d more
+      at more false d false e = more
+
+-- ---- changes that keep each row's place
+
+abbrev pub KeepsPlaces : (SubRow → SubRow) → Type 0
+KeepsPlaces f = (row : SubRow) → place_of (f row) ≡ place_of row
+
+kept_place : (f : SubRow → SubRow) → KeepsPlaces f → (b : Bool) (row : SubRow) → place_of (cond b (f row) row) ≡ place_of row
+kept_place f k true row = k row
+kept_place f k false row = refl
+
+pub places_kept : (test : SubRow → Bool) (f : SubRow → SubRow) → KeepsPlaces f → (rows : List SubRow) → map place_of (changed test f rows) ≡ map place_of rows
+places_kept test f k [] = refl
+places_kept test f k (row ∷ rows) = both (kept_place f k (test row) row) (places_kept test f k rows)
+
+pub filter_changed : (test : SubRow → Bool) (f : SubRow → SubRow) → KeepsPlaces f → (q : ℕ) (rows : List SubRow) → filter (row_is_on q) (changed test f rows) ≡ changed test f (filter (row_is_on q) rows)
+filter_changed test f k q [] = refl
+filter_changed test f k q (row ∷ rows) =
+    ap (λ (b : Bool). cond b (cond (test row) (f row) row ∷ filter (row_is_on q) (changed test f rows)) (filter (row_is_on q) (changed test f rows))) on
+    ∙ at (filter_changed test f k q rows) (row_is_on q row)
+  where
+    on : row_is_on q (cond (test row) (f row) row) ≡ row_is_on q row
+    on = ap (λ (p : Place). q == p.topic) (kept_place f k (test row) row)
+
+    at : filter (row_is_on q) (changed test f rows) ≡ changed test f (filter (row_is_on q) rows)
+        → (b : Bool) → cond b (cond (test row) (f row) row ∷ filter (row_is_on q) (changed test f rows)) (filter (row_is_on q) (changed test f rows)) ≡ changed test f (cond b (row ∷ filter (row_is_on q) rows) (filter (row_is_on q) rows))
+    at more true = ap (λ (rs : List SubRow). cond (test row) (f row) row ∷ rs) more
+    at more false = more
+
+-- where all rows that pass are on one topic
+
+abbrev pub AllOn : ℕ → List SubRow → Type 0
+AllOn topic rows = Each (λ (row : SubRow). row_is_on topic row ≡ true) rows
+
+-- none of another topic passes
+none_other : (test : SubRow → Bool) (t q : ℕ) → (t == q) ≡ false → (rows : List SubRow) → AllOn t (filter test rows) → list_any test (filter (row_is_on q) rows) ≡ false
+none_other test t q apart [] h = refl
+none_other test t q apart (row ∷ rows) h =
+    at (none_other test t q apart rows (each_rest (λ (r : SubRow). row_is_on t r ≡ true) (test row) row (filter test rows) h)) (row_is_on q row) refl (test row) refl
+  where
+    at : list_any test (filter (row_is_on q) rows) ≡ false
+        → (b : Bool) → row_is_on q row ≡ b → (c : Bool) → test row ≡ c → list_any test (cond b (row ∷ filter (row_is_on q) rows) (filter (row_is_on q) rows)) ≡ false
+    at rest true e true d = clash t q row.terms.topic (each_first (λ (r : SubRow). row_is_on t r ≡ true) (test row) row (filter test rows) d h) e apart
+    at rest true e false d = rw d rest
+    at rest false e c d = rest
+
+-- those that pass are found among those on the topic
+pub filter_within : (test : SubRow → Bool) (t : ℕ) (rows : List SubRow) → AllOn t (filter test rows) → filter test (filter (row_is_on t) rows) ≡ filter test rows
+filter_within test t [] h = refl
+filter_within test t (row ∷ rows) h =
+    at (filter_within test t rows (each_rest (λ (r : SubRow). row_is_on t r ≡ true) (test row) row (filter test rows) h)) (row_is_on t row) refl (test row) refl
+  where
+    at : filter test (filter (row_is_on t) rows) ≡ filter test rows
+        → (b : Bool) → row_is_on t row ≡ b → (c : Bool) → test row ≡ c → filter test (cond b (row ∷ filter (row_is_on t) rows) (filter (row_is_on t) rows)) ≡ cond c (row ∷ filter test rows) (filter test rows)
+    at rest true e true d = rw d (ap (λ (rs : List SubRow). row ∷ rs) rest)
+    at rest true e false d = rw d rest
+    at rest false e true d = no_true (row_is_on t row) (each_first (λ (r : SubRow). row_is_on t r ≡ true) (test row) row (filter test rows) d h) e
+    at rest false e false d = rest
+
+-- a link that is seen as before stays on its topic
+pub stays_on : (t : ℕ) (old new : Live) → new.places.items ≡ old.places.items → OnTopic t (λ a b. map sub_seen b ≡ map sub_seen a) old.topics new.topics → (rows : List SubRow) → IsLive rows old → IsLive rows new
+stays_on t old new places on rows live = record {
+  places = places ∙ live.places;
+  topics = λ q. at q (t == q) refl;
+}
+  where
+    at : (q : ℕ) (b : Bool) → (t == q) ≡ b → map sub_seen (links_on new.topics q) ≡ map sub_view (filter (row_is_on q) rows)
+    at q true e = subst (λ n. map sub_seen (links_on new.topics n) ≡ map sub_view (filter (row_is_on n) rows)) (eqb-true t q e) (on.here ∙ live.topics t)
+    at q false e = ap (map sub_seen) (on.others q e) ∙ live.topics q
+
+-- rows are changed, all on one topic
+pub live_does : {L : Type 0} (test : SubRow → Bool) (f : SubRow → SubRow) (put : SubRow → List (BridgeOut L)) → KeepsPlaces f → (t : ℕ) (old new : Live) (o0 o1 : List (BridgeOut L)) → new.places.items ≡ old.places.items
+    → OnTopic t (λ a b. (rows : List SubRow) → map sub_seen a ≡ map sub_view rows → AloneSubs rows → (map sub_seen b ≡ map sub_view (changed test f rows)) × (o1 ≡ o0 ++ flat_map put (filter test rows))) old.topics new.topics
+    → (rows : List SubRow) → AllOn t (filter test rows) → IsLive rows old → AloneSubs rows → IsLive (changed test f rows) new × (o1 ≡ o0 ++ flat_map put (filter test rows))
+live_does {L} test f put k t old new o0 o1 places on rows only live alone =
+    let done = on.here (filter (row_is_on t) rows) (live.topics t) (alone_filter same_sub (λ (row : SubRow). row.sub) (row_is_on t) rows alone) in
+    (
+      record {
+        places = places ∙ live.places ∙ sym (places_kept test f k rows);
+        topics = λ q. at done.0 q (t == q) refl;
+      },
+      done.1 ∙ ap (λ (rs : List SubRow). o0 ++ flat_map put rs) (filter_within test t rows only),
+    )
+  where
+    at : map sub_seen (links_on new.topics t) ≡ map sub_view (changed test f (filter (row_is_on t) rows)) → (q : ℕ) (b : Bool) → (t == q) ≡ b → map sub_seen (links_on new.topics q) ≡ map sub_view (filter (row_is_on q) (changed test f rows))
+    at here q true e = subst (λ n. map sub_seen (links_on new.topics n) ≡ map sub_view (filter (row_is_on n) (changed test f rows))) (eqb-true t q e) (here ∙ sym (ap (map sub_view) (filter_changed test f k t rows)))
+    at here q false e =
+        ap (map sub_seen) (on.others q e) ∙ live.topics q
+        ∙ sym (ap (map sub_view) (filter_changed test f k q rows ∙ none_changed test f (filter (row_is_on q) rows) (none_other test t q e rows only)))
+
+-- a row is gone
+pub live_leaves : {L : Type 0} (s : SubId) (t : ℕ) (old new : Live) (o0 o1 : List (BridgeOut L)) (rows : List SubRow) → AllOn t (filter (of_sub s) rows) → new.places.items ≡ map place_of (without (of_sub s) rows)
+    → OnTopic t (λ a b. SubLeaves s a b o0 o1) old.topics new.topics
+    → IsLive rows old → AloneSubs rows → IsLive (without (of_sub s) rows) new × (o1 ≡ o0 ++ flat_map end_outs (filter (of_sub s) rows))
+live_leaves {L} s t old new o0 o1 rows only places on live alone =
+    let done = on.here (filter (row_is_on t) rows) (live.topics t) (alone_filter same_sub (λ (row : SubRow). row.sub) (row_is_on t) rows alone) in
+    (
+      record {
+        places = places;
+        topics = λ q. at done.0 q (t == q) refl;
+      },
+      done.1 ∙ ap (λ (rs : List SubRow). o0 ++ flat_map end_outs rs) (filter_within (of_sub s) t rows only),
+    )
+  where
+    at : map sub_seen (links_on new.topics t) ≡ map sub_view (without (of_sub s) (filter (row_is_on t) rows)) → (q : ℕ) (b : Bool) → (t == q) ≡ b → map sub_seen (links_on new.topics q) ≡ map sub_view (filter (row_is_on q) (without (of_sub s) rows))
+    at here q true e = subst (λ n. map sub_seen (links_on new.topics n) ≡ map sub_view (filter (row_is_on n) (without (of_sub s) rows))) (eqb-true t q e) (here ∙ sym (ap (map sub_view) (filter_swap (row_is_on t) (λ (row : SubRow). not (of_sub s row)) rows)))
+    at here q false e =
+        ap (map sub_seen) (on.others q e) ∙ live.topics q
+        ∙ sym (ap (map sub_view) (filter_swap (row_is_on q) (λ (row : SubRow). not (of_sub s row)) rows ∙ none_without (of_sub s) (filter (row_is_on q) rows) (none_other (of_sub s) t q e rows only)))
+
+-- a row more
+pub live_gains : (t : ℕ) (link : SubLink) (old new : Live) → new.places.items ≡ old.places.items ++ record { sub = link.sub; topic = link.topic; queue = link.queue; slot = link.slot } ∷ [] → t ≡ link.topic
+    → OnTopic t (λ a b. b ≡ a ++ link ∷ []) old.topics new.topics
+    → (rows : List SubRow) (row : SubRow) → IsLive rows old → sub_seen link ≡ sub_view row → IsLive (rows ++ row ∷ []) new
+live_gains t link old new places is on rows row live same = record {
+  places = places ∙ ap (λ (ps : List Place). ps ++ record { sub = link.sub; topic = link.topic; queue = link.queue; slot = link.slot } ∷ []) live.places
+      ∙ ap (λ (v : SubView). map place_of rows ++ record { sub = v.sub; topic = v.topic; queue = v.queue; slot = v.slot } ∷ []) same ∙ sym (map-append place_of rows (row ∷ []));
+  topics = λ q. at q (t == q) refl;
+}
+  where
+    topic : t ≡ row.terms.topic
+    topic = is ∙ ap (λ (v : SubView). v.topic) same
+
+    some : (b : Bool) → b ≡ true → filter (λ (r : SubRow). b) (row ∷ []) ≡ row ∷ []
+    some true e = refl
+    some false e = cc
+
+    at : (q : ℕ) (b : Bool) → (t == q) ≡ b → map sub_seen (links_on new.topics q) ≡ map sub_view (filter (row_is_on q) (rows ++ row ∷ []))
+    at q true e = subst (λ n. map sub_seen (links_on new.topics n) ≡ map sub_view (filter (row_is_on n) (rows ++ row ∷ []))) (eqb-true t q e)
+        (ap (map sub_seen) on.here ∙ map-append sub_seen (links_on old.topics t) (link ∷ [])
+        ∙ ap (λ (vs : List SubView). vs ++ sub_seen link ∷ []) (live.topics t) ∙ ap (λ (v : SubView). map sub_view (filter (row_is_on t) rows) ++ v ∷ []) same
+        ∙ sym (map-append sub_view (filter (row_is_on t) rows) (row ∷ []))
+        ∙ sym (ap (map sub_view) (filter-append (row_is_on t) rows (row ∷ []) ∙ ap (λ (b : Bool). filter (row_is_on t) rows ++ cond b (row ∷ []) []) (eq-eqb t row.terms.topic topic))))
+    at q false e = ap (map sub_seen) (on.others q e) ∙ live.topics q
+        ∙ sym (ap (map sub_view) (filter-append (row_is_on q) rows (row ∷ []) ∙ ap (λ (b : Bool). filter (row_is_on q) rows ++ cond b (row ∷ []) []) (off (q == row.terms.topic) refl) ∙ append-nil (filter (row_is_on q) rows)))
+      where
+        off : (b : Bool) → (q == row.terms.topic) ≡ b → b ≡ false
+        off true h = clash t q row.terms.topic (eq-eqb t row.terms.topic topic) h e
+        off false h = refl
+
+-- ---- places
+
+sub_decides : (a b : SubId) → same_sub a b ≡ true → a ≡ b
+sub_decides a b h = (same_sub-Decides a b).0 h
+
+place_named : (a : Place) (r : SubRow) → a ≡ place_of r → a.sub ≡ r.sub
+place_named a r h = ap (λ (p : Place). p.sub) h
+
+pub topic_found : (s : SubId) (places : List Place) (n : ℕ) (place : Place) → position (λ (p : Place). same_sub p.sub s) places ≡ Some n → place ≡ get_or places n place
+    → (rows : List SubRow) → places ≡ map place_of rows → AloneSubs rows → AllOn place.topic (filter (of_sub s) rows) × (remove places n ≡ map place_of (without (of_sub s) rows))
+topic_found s places n place at value rows h alone =
+    let found = position-Some (λ (p : Place). same_sub p.sub s) places n place at in
+    let it : same_sub place.sub s ≡ true = ap (λ (p : Place). same_sub p.sub s) value ∙ found.1 in
+    let one = the_one (λ (p : Place). p) place_of (λ (p : Place). p.sub) (λ (r : SubRow). r.sub) same_sub sub_decides place_named s places rows n place (map-id places ∙ h) alone found.0 value it in
+    (
+      subst (λ (rs : List SubRow). AllOn place.topic rs) (sym one.taken) (eq-eqb place.topic one.row.terms.topic (ap (λ (p : Place). p.topic) one.stands), tt),
+      sym (map-id (remove places n)) ∙ one.removes,
+    )
+
+pub no_topic : (s : SubId) (places : List Place) → position (λ (p : Place). same_sub p.sub s) places ≡ None → (rows : List SubRow) → places ≡ map place_of rows → list_any (of_sub s) rows ≡ false
+no_topic s places at rows h = no_one (λ (p : Place). p) place_of (λ (p : Place). p.sub) (λ (r : SubRow). r.sub) same_sub sub_decides place_named s places rows (map-id places ∙ h) at
+
+-- where a subscription has no row, nothing is done
+pub live_idle : {L : Type 0} (test : SubRow → Bool) (f : SubRow → SubRow) (put : SubRow → List (BridgeOut L)) (live : Live) (o : List (BridgeOut L)) (rows : List SubRow) → list_any test rows ≡ false → IsLive rows live
+    → IsLive (changed test f rows) live × (o ≡ o ++ flat_map put (filter test rows))
+live_idle {L} test f put live o rows none h =
+    (subst (λ (rs : List SubRow). IsLive rs live) (sym (none_changed test f rows none)) h, sym (ap (λ (rs : List SubRow). o ++ flat_map put rs) (none_taken test rows none) ∙ append-nil o))
+
+pub live_stays : {L : Type 0} (s : SubId) (live : Live) (o : List (BridgeOut L)) (rows : List SubRow) → list_any (of_sub s) rows ≡ false → IsLive rows live
+    → IsLive (without (of_sub s) rows) live × (o ≡ o ++ flat_map end_outs (filter (of_sub s) rows))
+live_stays {L} s live o rows none h =
+    (subst (λ (rs : List SubRow). IsLive rs live) (sym (none_without (of_sub s) rows none)) h, sym (ap (λ (rs : List SubRow). o ++ flat_map end_outs rs) (none_taken (of_sub s) rows none) ∙ append-nil o))
+
+-- none of these rows passes
+pub none_from_taken : (test : SubRow → Bool) (rows : List SubRow) → filter test rows ≡ [] → list_any test rows ≡ false
+none_from_taken test [] h = refl
+none_from_taken test (row ∷ rows) h = at (none_from_taken test rows) (test row) h
+  where
+    at : (filter test rows ≡ [] → list_any test rows ≡ false) → (b : Bool) → cond b (row ∷ filter test rows) (filter test rows) ≡ [] → (b || list_any test rows) ≡ false
+    at rest true e = cc
+    at rest false e = rest e
+
+-- where a topic has no links, nothing is done
+pub none_on : {A : Type 0} (topics new : BTreeMap ℕ (VecDeque SubLink A)) (t : ℕ) (Does : List SubLink → List SubLink → Type 0) → None ≡ get nat_cmp topics t → new ≡ topics → Does [] [] → OnTopic t Does topics new
+none_on topics new t Does none same done =
+    let empty : links_on topics t ≡ [] = sym (ap links_in none) in
+    let still : links_on new t ≡ [] = ap (λ m. links_on m t) same ∙ empty in
+    record {
+      here = subst (λ (xs : List SubLink). Does xs (links_on new t)) (sym empty) (subst (λ (ys : List SubLink). Does [] ys) (sym still) done);
+      others = λ q e. ap (λ m. links_on m q) same;
+    }
+
+pub none_done : {L : Type 0} (test : SubRow → Bool) (f : SubRow → SubRow) (put : SubRow → List (BridgeOut L)) (o : List (BridgeOut L)) (rows : List SubRow) → map sub_seen [] ≡ map sub_view rows → AloneSubs rows
+    → (map sub_seen [] ≡ map sub_view (changed test f rows)) × (o ≡ o ++ flat_map put (filter test rows))
+none_done test f put o [] h alone = (refl, sym (append-nil o))
+none_done test f put o (row ∷ rows) h alone = cc
+
+pub none_left : {L : Type 0} (s : SubId) (o : List (BridgeOut L)) → SubLeaves {L = L} s [] [] o o
+none_left s o [] h alone = (refl, sym (append-nil o))
+none_left s o (row ∷ rows) h alone = cc
+
+-- what a topic that was told says
+pub topic_told : (s : SubId) (told : Option ℕ) (topic : ℕ) (rows : List SubRow) → told ≡ Some topic → IsTopicOf s told rows → AllOn topic (filter (of_sub s) rows)
+topic_told s told topic rows is h = subst (λ (o : Option ℕ). IsTopicOf s o rows) is h
+
+pub topic_none : (s : SubId) (told : Option ℕ) (rows : List SubRow) → told ≡ None → IsTopicOf s told rows → list_any (of_sub s) rows ≡ false
+topic_none s told rows is h = none_from_taken (of_sub s) rows (subst (λ (o : Option ℕ). IsTopicOf s o rows) is h)
+
+pub wish_keeps_places : KeepsPlaces wished_once
+wish_keeps_places row = at (nat_lt row.wished row.terms.recaps)
+  where
+    at : (b : Bool) → place_of (cond b (sub_wished row) row) ≡ place_of row
+    at true = refl
+    at false = refl

@@ -1,0 +1,360 @@
+ghost use Rattle.std.specs.Prelude.{◌≡◌, ◌+◌, ◌<◌, ◌≤◌, ◌++◌, [], ◌∷◌, List, ℕ, false, map, length, sum_by, vec_len, option_to_list, take, drop, position, IfOk, IfNone, OnOk, OnErr, ◌==◌, if◌then◌else◌};
+ghost use Rattle.std.specs.Vec.{vec_capacity};
+ghost use Rattle.mama_event.specs.Object.{same_sub};
+ghost use Rattle.mama_event.specs.declared.market.MarketMsg.{MarketMsg};
+ghost use Rattle.mama_bridge_rules.specs.Table.{SubRow, of_sub, sub_passed};
+ghost use Rattle.mama_bridge.specs.Links.{sub_seen, sub_view, sub_held, row_is_on, emit_outs, end_outs, wish_outs, wished_once, SubsPass, SubLeaves, SubWishes};
+ghost use Rattle.mama_bridge.specs.Live.{links_on, links_held, all_held, place_of, HasRoomOn, OnTopic, IsLive, StaysLive, AloneSubs, IsTopicOf, LiveDoes, LiveLeaves, Gains, IsTaken};
+
+use crate::ends::plus;
+use crate::out::BridgeOut;
+use crate::routes;
+use crate::subs::SubLink;
+use mama_event::{MarketMsg, SubId};
+use mama_link::Outbox;
+use mama_memory::OutOfMemory;
+use std::alloc::Global;
+use std::collections::{BTreeMap, VecDeque};
+
+/// Where a live subscription is: its topic, its queue, and its slot there.
+#[derive(Clone, Copy)]
+pub(crate) struct Place {
+    pub(crate) sub: SubId,
+    pub(crate) topic: u32,
+    pub(crate) queue: u32,
+    pub(crate) slot: u32,
+}
+
+/// Links by topic, those of a topic in order of joining.
+type ByTopic = BTreeMap<u32, VecDeque<SubLink>>;
+
+/// The live subscriptions: their places in order of joining, and their links by topic.
+#[derive(Drop)]
+pub(crate) struct Live {
+    pub(crate) places: Vec<Place>,
+    pub(crate) topics: ByTopic,
+}
+
+/// Passes a message through the links of a topic, in order.
+fn publish_on<L>(
+    alloc: Global,
+    topics: &mut ByTopic,
+    topic: u32,
+    msg: &MarketMsg,
+    out: &mut Outbox<BridgeOut<L>>,
+) -> Result<(), OutOfMemory>
+    ensures ok { OnOk result (OnTopic topic (λ old new. SubsPass (row_is_on topic) msg.now old new out.old.items out.new.items) topics.old topics.new) }
+    ensures seen { OnErr result (OnTopic topic (λ old new. map sub_seen new ≡ map sub_seen old) topics.old topics.new) }
+    ensures err { OnErr result (out.new.items ≡ out.old.items) }
+{
+    match topics.get_mut(&topic) {
+        Some(links) => routes::publish(alloc, links, topic, msg, out),
+        None => Ok(()),
+    }
+}
+
+/// Passes a message through a subscription's link, if it is on the topic.
+fn image_on<L>(
+    alloc: Global,
+    topics: &mut ByTopic,
+    topic: u32,
+    sub: SubId,
+    msg: &MarketMsg,
+    out: &mut Outbox<BridgeOut<L>>,
+) -> Result<(), OutOfMemory>
+    ensures ok { OnOk result (OnTopic topic (λ old new. SubsPass (of_sub sub) msg.now old new out.old.items out.new.items) topics.old topics.new) }
+    ensures seen { OnErr result (OnTopic topic (λ old new. map sub_seen new ≡ map sub_seen old) topics.old topics.new) }
+    ensures err { OnErr result (out.new.items ≡ out.old.items) }
+{
+    match topics.get_mut(&topic) {
+        Some(links) => routes::image(alloc, links, sub, msg, out),
+        None => Ok(()),
+    }
+}
+
+/// Forwards a wish of a subscription, if it is on the topic and its terms allow one more.
+fn wish_on<L>(
+    topics: &mut ByTopic,
+    topic: u32,
+    sub: SubId,
+    sender: u32,
+    out: &mut Outbox<BridgeOut<L>>,
+) -> Result<(), OutOfMemory>
+    requires { 0 < sender }
+    ensures ok { OnOk result (OnTopic topic (λ old new. SubWishes sender sub old new out.old.items out.new.items) topics.old topics.new) }
+    ensures seen { OnErr result (OnTopic topic (λ old new. map sub_seen new ≡ map sub_seen old) topics.old topics.new) }
+    ensures err { OnErr result (out.new.items ≡ out.old.items) }
+{
+    match topics.get_mut(&topic) {
+        Some(links) => routes::wish(links, sub, sender, out),
+        None => Ok(()),
+    }
+}
+
+/// Ends a subscription's link, if it is on the topic.
+fn leave_on<L>(
+    alloc: Global,
+    topics: &mut ByTopic,
+    topic: u32,
+    sub: SubId,
+    out: &mut Outbox<BridgeOut<L>>,
+) -> Result<(), OutOfMemory>
+    ensures ok { OnOk result (OnTopic topic (λ old new. SubLeaves sub old new out.old.items out.new.items) topics.old topics.new) }
+    ensures seen { OnErr result (OnTopic topic (λ old new. map sub_seen new ≡ map sub_seen old) topics.old topics.new) }
+    ensures err { OnErr result (out.new.items ≡ out.old.items) }
+{
+    match topics.get_mut(&topic) {
+        Some(links) => routes::leave(alloc, links, sub, out),
+        None => Ok(()),
+    }
+}
+
+/// Makes room for one link more on a topic.
+fn reserve_on(alloc: Global, topics: &mut ByTopic, topic: u32) -> Result<(), OutOfMemory>
+    ensures room { OnOk result (HasRoomOn topics.new topic) }
+    ensures same { (q : ℕ) → links_on topics.new q ≡ links_on topics.old q }
+{
+    match topics.get_mut(&topic) {
+        Some(links) => links.reserve(1)?,
+        None => {
+            let mut links = VecDeque::new(alloc);
+            links.reserve(1)?;
+            topics.insert(topic, links)?;
+        }
+    }
+    Ok(())
+}
+
+/// Adds a link after those of its topic, for which there is room.
+fn add_on(topics: &mut ByTopic, topic: u32, link: SubLink)
+    requires { HasRoomOn topics.old topic }
+    ensures { OnTopic topic (λ old new. new ≡ old ++ link ∷ []) topics.old topics.new }
+{
+    match topics.get_mut(&topic) {
+        Some(links) => links.push_back_reserved(link),
+        None => {}
+    }
+}
+
+/// Takes the first link of a topic out, if there is one.
+fn next_on(topics: &mut ByTopic, topic: u32) -> Option<SubLink>
+    ensures links { OnTopic topic (λ old new. old ≡ option_to_list result ++ new) topics.old topics.new }
+    ensures none { IfNone result (links_on topics.old topic ≡ []) }
+    ensures held { all_held topics.new + sum_by sub_held (option_to_list result) ≡ all_held topics.old }
+{
+    match topics.get_mut(&topic) {
+        Some(links) => links.pop_front(),
+        None => None,
+    }
+}
+
+/// Adds a link to a list with room, if there is one.
+fn put_next(links: &mut Vec<SubLink>, link: Option<SubLink>)
+    requires { vec_len links.old < vec_capacity links.old }
+    ensures items { links.new.items ≡ links.old.items ++ option_to_list link }
+    ensures len { vec_len links.new ≤ vec_len links.old + 1 }
+    ensures capacity { vec_capacity links.new ≡ vec_capacity links.old }
+{
+    if let Some(link) = link {
+        links.push_reserved(link);
+    }
+}
+
+/// Moves all links to a list with room, in the order of their places.
+fn take_in_order(places: &Vec<Place>, topics: &mut ByTopic, links: &mut Vec<SubLink>)
+    requires none { links.old.items ≡ [] }
+    requires room { vec_len places.now ≤ vec_capacity links.old }
+    ensures taken { IsTaken places.now.items topics.old links.new.items }
+    ensures held { sum_by sub_held links.new.items ≤ all_held topics.old }
+    ensures len { vec_len links.new ≤ vec_len places.now }
+{
+    for i in 0..places.len() {
+        let topic = places[i].topic;
+        let link = next_on(topics, topic);
+        put_next(links, link);
+    }
+}
+
+/// How many messages the links of one topic hold.
+fn held_on(links: &VecDeque<SubLink>) -> Result<usize, OutOfMemory>
+    ensures { IfOk result (λ n. n ≡ links_held links.now) }
+{
+    let mut total: usize = 0;
+    for i in 0..links.len() {
+        total = plus(total, links[i].link.held())?;
+    }
+    Ok(total)
+}
+
+/// How many messages the links of all topics hold.
+fn held_by_all(topics: &ByTopic) -> Result<usize, OutOfMemory>
+    ensures { IfOk result (λ n. n ≡ all_held topics.now) }
+{
+    let mut total: usize = 0;
+    for links in topics.values() {
+        total = plus(total, held_on(links)?)?;
+    }
+    Ok(total)
+}
+
+/// The place of a subscription in the list of places.
+fn find(places: &Vec<Place>, sub: SubId) -> Option<usize>
+    ensures { result ≡ position (λ place. same_sub place.sub sub) places.now.items }
+{
+    places.iter().position(|place| place.sub == sub)
+}
+
+impl Live {
+    pub(crate) fn new(alloc: Global) -> Live
+        ensures { IsLive [] result }
+    {
+        Live {
+            places: Vec::new(alloc),
+            topics: BTreeMap::new(alloc),
+        }
+    }
+
+    /// How many subscriptions are live.
+    pub(crate) fn len(&self) -> usize
+        ensures { result ≡ vec_len self.now.places }
+    {
+        self.places.len()
+    }
+
+    /// How many messages all links hold.
+    pub(crate) fn held(&self) -> Result<usize, OutOfMemory>
+        ensures { IfOk result (λ n. n ≡ all_held self.now.topics) }
+    {
+        held_by_all(&self.topics)
+    }
+
+    /// Passes a message through all links on a topic, in order.
+    pub(crate) fn publish<L>(
+        &mut self,
+        alloc: Global,
+        topic: u32,
+        msg: &MarketMsg,
+        out: &mut Outbox<BridgeOut<L>>,
+    ) -> Result<(), OutOfMemory>
+        ensures ok { OnOk result (LiveDoes (row_is_on topic) (sub_passed msg.now) (emit_outs msg.now) self.old self.new out.old.items out.new.items) }
+        ensures same { OnErr result (StaysLive self.old self.new) }
+        ensures err { OnErr result (out.new.items ≡ out.old.items) }
+    {
+        publish_on(alloc, &mut self.topics, topic, msg, out)
+    }
+
+    /// The topic of a subscription, if it is live.
+    fn topic_of(&self, sub: SubId) -> Option<u32>
+        ensures { (rows : List SubRow) → IsLive rows self.now → AloneSubs rows → IsTopicOf sub result rows }
+    {
+        match find(&self.places, sub) {
+            Some(i) => Some(self.places[i].topic),
+            None => None,
+        }
+    }
+
+    /// Passes a message through a subscription's link, if it is live.
+    pub(crate) fn image<L>(
+        &mut self,
+        alloc: Global,
+        sub: SubId,
+        msg: &MarketMsg,
+        out: &mut Outbox<BridgeOut<L>>,
+    ) -> Result<(), OutOfMemory>
+        ensures ok { OnOk result (LiveDoes (of_sub sub) (sub_passed msg.now) (emit_outs msg.now) self.old self.new out.old.items out.new.items) }
+        ensures same { OnErr result (StaysLive self.old self.new) }
+        ensures err { OnErr result (out.new.items ≡ out.old.items) }
+    {
+        match self.topic_of(sub) {
+            Some(topic) => image_on(alloc, &mut self.topics, topic, sub, msg, out),
+            None => Ok(()),
+        }
+    }
+
+    /// Forwards a wish of a subscription, if it is live and its terms allow one more.
+    pub(crate) fn wish<L>(
+        &mut self,
+        sub: SubId,
+        sender: u32,
+        out: &mut Outbox<BridgeOut<L>>,
+    ) -> Result<(), OutOfMemory>
+        requires { 0 < sender }
+        ensures ok { OnOk result (LiveDoes (of_sub sub) wished_once (wish_outs sender) self.old self.new out.old.items out.new.items) }
+        ensures same { OnErr result (StaysLive self.old self.new) }
+        ensures err { OnErr result (out.new.items ≡ out.old.items) }
+    {
+        match self.topic_of(sub) {
+            Some(topic) => wish_on(&mut self.topics, topic, sub, sender, out),
+            None => Ok(()),
+        }
+    }
+
+    /// Ends a subscription's link, if it is live.
+    pub(crate) fn leave<L>(
+        &mut self,
+        alloc: Global,
+        sub: SubId,
+        out: &mut Outbox<BridgeOut<L>>,
+    ) -> Result<(), OutOfMemory>
+        ensures ok { OnOk result (LiveLeaves sub self.old self.new out.old.items out.new.items) }
+        ensures same { OnErr result (StaysLive self.old self.new) }
+        ensures err { OnErr result (out.new.items ≡ out.old.items) }
+    {
+        match find(&self.places, sub) {
+            Some(i) => {
+                let topic = self.places[i].topic;
+                leave_on(alloc, &mut self.topics, topic, sub, out)?;
+                self.places.remove(i);
+                Ok(())
+            }
+            None => Ok(()),
+        }
+    }
+
+    /// Makes room for one subscription more on a topic.
+    pub(crate) fn reserve(&mut self, alloc: Global, topic: u32) -> Result<(), OutOfMemory>
+        ensures places { OnOk result (vec_len self.new.places < vec_capacity self.new.places) }
+        ensures links { OnOk result (HasRoomOn self.new.topics topic) }
+        ensures same { StaysLive self.old self.new }
+    {
+        self.places.reserve(1)?;
+        reserve_on(alloc, &mut self.topics, topic)
+    }
+
+    /// Adds the link of a subscription, for which there is room.
+    pub(crate) fn add(&mut self, link: SubLink)
+        requires places { vec_len self.old.places < vec_capacity self.old.places }
+        requires links { HasRoomOn self.old.topics link.topic }
+        ensures { Gains link self.old self.new }
+    {
+        let SubLink {
+            sub,
+            topic,
+            queue,
+            slot,
+            ..
+        } = &link;
+        let place = Place {
+            sub: *sub,
+            topic: *topic,
+            queue: *queue,
+            slot: *slot,
+        };
+        self.places.push_reserved(place);
+        add_on(&mut self.topics, place.topic, link);
+    }
+
+    /// Moves all links to a list with room, in order of joining. None is live then.
+    pub(crate) fn take_all(&mut self, links: &mut Vec<SubLink>)
+        requires none { links.old.items ≡ [] }
+        requires room { vec_len self.old.places ≤ vec_capacity links.old }
+        ensures seen { (rows : List SubRow) → IsLive rows self.old → map sub_seen links.new.items ≡ map sub_view rows }
+        ensures held { sum_by sub_held links.new.items ≤ all_held self.old.topics }
+        ensures len { vec_len links.new ≤ vec_len self.old.places }
+        ensures empty { IsLive [] self.new }
+    {
+        take_in_order(&self.places, &mut self.topics, links);
+        self.places.clear();
+        self.topics.clear();
+    }
+}
