@@ -1,25 +1,24 @@
 -- Rows by topic: what is done to the rows on one topic is done to all rows.
-use Rattle.std.specs.Prelude.{nat_lt, position, remove, option_to_list, IfNone, sum_by}
+use Rattle.std.specs.Prelude.{nat_lt, position, remove}
 use Rattle.std.specs.List.{list_any, flat_map}
 use Rattle.std.specs.BTreeMap.{BTreeMap, get}
 use Rattle.std.specs.Ordering.{nat_cmp}
 use Rattle.std.specs.declared.collections.VecDeque.{VecDeque}
-use Rattle.std.proofs.Common.{◌≡◌, ℕ, zero, suc, ◌+◌, ◌<◌, ◌≤◌, Bool, true, false, not, ◌||◌, ◌==◌, cond, List, [], ◌∷◌, ◌++◌, length, map, filter, get_or, take, drop, Option, None, Some, refl, sym, ◌∙◌, ap, arith, subst, eq-eqb, append-nil}
+use Rattle.std.proofs.Common.{◌≡◌, ℕ, Bool, true, false, not, ◌||◌, ◌==◌, cond, List, [], ◌∷◌, ◌++◌, map, filter, get_or, Option, None, Some, refl, sym, ◌∙◌, ap, subst, eq-eqb, append-nil}
 use Rattle.std.proofs.lemmas.Bool.{eqb-true}
-use Rattle.std.proofs.lemmas.List.{map-append, map-id, length-map, take_all}
-use Rattle.std.proofs.lemmas.List.Elements.{filter-append}
+use Rattle.std.proofs.lemmas.List.{map-id}
 use Rattle.std.proofs.lemmas.List.Quantifiers.{position-Some}
 use Rattle.mama_event.specs.Object.{same_sub}
 use Rattle.mama_event.specs.EqualityLaws.{same_sub-Decides}
 use Rattle.mama_event.specs.declared.ids.SubId.{SubId}
 use Rattle.mama_bridge_rules.specs.Laws.{Alone}
-use Rattle.mama_bridge_rules.specs.Table.{SubRow, of_sub, sub_wished, changed, without, kept}
+use Rattle.mama_bridge_rules.specs.Table.{SubRow, of_sub, sub_wished, changed, without}
 use Rattle.mama_bridge.specs.declared.live.Live.{Live}
 use Rattle.mama_bridge.specs.declared.live.Place.{Place}
 use Rattle.mama_bridge.specs.declared.out.BridgeOut.{BridgeOut}
 use Rattle.mama_bridge.specs.declared.subs.SubLink.{SubLink}
-use Rattle.mama_bridge.specs.Links.{SubView, Each, sub_seen, sub_view, row_is_on, end_outs, wished_once, SubLeaves}
-use Rattle.mama_bridge.specs.Live.{links_in, links_on, OnTopic, place_of, IsLive, AloneSubs, IsTopicOf, LiveLeaves}
+use Rattle.mama_bridge.specs.Links.{Each, sub_seen, sub_view, row_is_on, end_outs, wished_once, SubLeaves}
+use Rattle.mama_bridge.specs.Live.{links_in, links_on, OnTopic, place_of, IsLive, AloneSubs, IsTopicOf}
 use Rattle.mama_bridge.proofs.TheOne.{the_one, no_one, none_taken, none_changed, none_without}
 
 heads : {V : Type 0} {v w : V} {vs ws : List V} → v ∷ vs ≡ w ∷ ws → v ≡ w
@@ -167,8 +166,7 @@ pub live_does : {L : Type 0} (test : SubRow → Bool) (f : SubRow → SubRow) (p
     → OnTopic t (λ a b. (rows : List SubRow) → map sub_seen a ≡ map sub_view rows → AloneSubs rows → (map sub_seen b ≡ map sub_view (changed test f rows)) × (o1 ≡ o0 ++ flat_map put (filter test rows))) old.topics new.topics
     → (rows : List SubRow) → AllOn t (filter test rows) → IsLive rows old → AloneSubs rows → IsLive (changed test f rows) new × (o1 ≡ o0 ++ flat_map put (filter test rows))
 live_does {L} test f put k t old new o0 o1 places on rows only live alone =
-    let done = on.here (filter (row_is_on t) rows) (live.topics t) (alone_filter same_sub (λ (row : SubRow). row.sub) (row_is_on t) rows alone) in
-    (
+    let done = on.here (filter (row_is_on t) rows) (live.topics t) (alone_filter same_sub (λ (row : SubRow). row.sub) (row_is_on t) rows alone) in (
       record {
         places = places ∙ live.places ∙ sym (places_kept test f k rows);
         topics = λ q. at done.0 q (t == q) refl;
@@ -187,8 +185,7 @@ pub live_leaves : {L : Type 0} (s : SubId) (t : ℕ) (old new : Live) (o0 o1 : L
     → OnTopic t (λ a b. SubLeaves s a b o0 o1) old.topics new.topics
     → IsLive rows old → AloneSubs rows → IsLive (without (of_sub s) rows) new × (o1 ≡ o0 ++ flat_map end_outs (filter (of_sub s) rows))
 live_leaves {L} s t old new o0 o1 rows only places on live alone =
-    let done = on.here (filter (row_is_on t) rows) (live.topics t) (alone_filter same_sub (λ (row : SubRow). row.sub) (row_is_on t) rows alone) in
-    (
+    let done = on.here (filter (row_is_on t) rows) (live.topics t) (alone_filter same_sub (λ (row : SubRow). row.sub) (row_is_on t) rows alone) in (
       record {
         places = places;
         topics = λ q. at done.0 q (t == q) refl;
@@ -201,36 +198,6 @@ live_leaves {L} s t old new o0 o1 rows only places on live alone =
     at here q false e =
         ap (map sub_seen) (on.others q e) ∙ live.topics q
         ∙ sym (ap (map sub_view) (filter_swap (row_is_on q) (λ (row : SubRow). not (of_sub s row)) rows ∙ none_without (of_sub s) (filter (row_is_on q) rows) (none_other (of_sub s) t q e rows only)))
-
--- a row more
-pub live_gains : (t : ℕ) (link : SubLink) (old new : Live) → new.places.items ≡ old.places.items ++ record { sub = link.sub; topic = link.topic; queue = link.queue; slot = link.slot } ∷ [] → t ≡ link.topic
-    → OnTopic t (λ a b. b ≡ a ++ link ∷ []) old.topics new.topics
-    → (rows : List SubRow) (row : SubRow) → IsLive rows old → sub_seen link ≡ sub_view row → IsLive (rows ++ row ∷ []) new
-live_gains t link old new places is on rows row live same = record {
-  places = places ∙ ap (λ (ps : List Place). ps ++ record { sub = link.sub; topic = link.topic; queue = link.queue; slot = link.slot } ∷ []) live.places
-      ∙ ap (λ (v : SubView). map place_of rows ++ record { sub = v.sub; topic = v.topic; queue = v.queue; slot = v.slot } ∷ []) same ∙ sym (map-append place_of rows (row ∷ []));
-  topics = λ q. at q (t == q) refl;
-}
-  where
-    topic : t ≡ row.terms.topic
-    topic = is ∙ ap (λ (v : SubView). v.topic) same
-
-    some : (b : Bool) → b ≡ true → filter (λ (r : SubRow). b) (row ∷ []) ≡ row ∷ []
-    some true e = refl
-    some false e = cc
-
-    at : (q : ℕ) (b : Bool) → (t == q) ≡ b → map sub_seen (links_on new.topics q) ≡ map sub_view (filter (row_is_on q) (rows ++ row ∷ []))
-    at q true e = subst (λ n. map sub_seen (links_on new.topics n) ≡ map sub_view (filter (row_is_on n) (rows ++ row ∷ []))) (eqb-true t q e)
-        (ap (map sub_seen) on.here ∙ map-append sub_seen (links_on old.topics t) (link ∷ [])
-        ∙ ap (λ (vs : List SubView). vs ++ sub_seen link ∷ []) (live.topics t) ∙ ap (λ (v : SubView). map sub_view (filter (row_is_on t) rows) ++ v ∷ []) same
-        ∙ sym (map-append sub_view (filter (row_is_on t) rows) (row ∷ []))
-        ∙ sym (ap (map sub_view) (filter-append (row_is_on t) rows (row ∷ []) ∙ ap (λ (b : Bool). filter (row_is_on t) rows ++ cond b (row ∷ []) []) (eq-eqb t row.terms.topic topic))))
-    at q false e = ap (map sub_seen) (on.others q e) ∙ live.topics q
-        ∙ sym (ap (map sub_view) (filter-append (row_is_on q) rows (row ∷ []) ∙ ap (λ (b : Bool). filter (row_is_on q) rows ++ cond b (row ∷ []) []) (off (q == row.terms.topic) refl) ∙ append-nil (filter (row_is_on q) rows)))
-      where
-        off : (b : Bool) → (q == row.terms.topic) ≡ b → b ≡ false
-        off true h = clash t q row.terms.topic (eq-eqb t row.terms.topic topic) h e
-        off false h = refl
 
 -- ---- places
 
@@ -245,8 +212,7 @@ pub topic_found : (s : SubId) (places : List Place) (n : ℕ) (place : Place) �
 topic_found s places n place at value rows h alone =
     let found = position-Some (λ (p : Place). same_sub p.sub s) places n place at in
     let it : same_sub place.sub s ≡ true = ap (λ (p : Place). same_sub p.sub s) value ∙ found.1 in
-    let one = the_one (λ (p : Place). p) place_of (λ (p : Place). p.sub) (λ (r : SubRow). r.sub) same_sub sub_decides place_named s places rows n place (map-id places ∙ h) alone found.0 value it in
-    (
+    let one = the_one (λ (p : Place). p) place_of (λ (p : Place). p.sub) (λ (r : SubRow). r.sub) same_sub sub_decides place_named s places rows n place (map-id places ∙ h) alone found.0 value it in (
       subst (λ (rs : List SubRow). AllOn place.topic rs) (sym one.taken) (eq-eqb place.topic one.row.terms.topic (ap (λ (p : Place). p.topic) one.stands), tt),
       sym (map-id (remove places n)) ∙ one.removes,
     )

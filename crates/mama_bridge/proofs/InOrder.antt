@@ -47,9 +47,6 @@ abbrev pub IsTakenTo : {A : Type 0} → List Place → BTreeMap ℕ (VecDeque Su
 IsTakenTo places old topics links i = (rows : List SubRow) → places ≡ map place_of rows → ((topic : ℕ) → map sub_seen (links_on old topic) ≡ map sub_view (filter (row_is_on topic) rows))
     → (map sub_seen links ≡ map sub_view (take i rows)) × ((topic : ℕ) → map sub_seen (links_on topics topic) ≡ map sub_view (filter (row_is_on topic) (drop i rows)))
 
-pub none_taken_yet : {A : Type 0} (places : List Place) (topics : BTreeMap ℕ (VecDeque SubLink A)) (links : List SubLink) → links ≡ [] → IsTakenTo places topics topics links 0
-none_taken_yet places topics links none rows h k = (ap (map sub_seen) none, k)
-
 pub one_taken : {A : Type 0} (places : List Place) (old topics topics' : BTreeMap ℕ (VecDeque SubLink A)) (links links' : List SubLink) (i topic : ℕ) (d : Place) (r : Option SubLink) → i < length places → topic ≡ (get_or places i d).topic
     → OnTopic topic (λ a b. a ≡ option_to_list r ++ b) topics topics' → IfNone r (links_on topics topic ≡ []) → links' ≡ links ++ option_to_list r
     → IsTakenTo places old topics links i → IsTakenTo places old topics' links' (i + 1)
@@ -62,11 +59,10 @@ one_taken places old topics topics' links links' i topic d r lt is on none put b
     let here : map sub_seen (links_on topics topic) ≡ sub_view found.row ∷ map sub_view (filter (row_is_on topic) (drop (suc i) rows)) =
     now.1 topic ∙ ap (λ (rs : List SubRow). map sub_view (filter (row_is_on topic) rs)) found.rest
     ∙ ap (λ (b : Bool). map sub_view (cond b (found.row ∷ filter (row_is_on topic) (drop (suc i) rows)) (filter (row_is_on topic) (drop (suc i) rows)))) (eq-eqb topic found.row.terms.topic same) in
-    let first = first_is r (links_on topics topic) (links_on topics' topic) (sub_view found.row) (map sub_view (filter (row_is_on topic) (drop (suc i) rows))) none on.here here in
-    (
+    let first = first_is r (links_on topics topic) (links_on topics' topic) (sub_view found.row) (map sub_view (filter (row_is_on topic) (drop (suc i) rows))) none on.here here in (
       ap (map sub_seen) put ∙ map-append sub_seen links (option_to_list r) ∙ ap (λ (vs : List SubView). vs ++ map sub_seen (option_to_list r)) now.0
-      ∙ ap (λ (vs : List SubView). map sub_view (take i rows) ++ vs) first.0 ∙ sym (map-append sub_view (take i rows) (found.row ∷ []))
-      ∙ ap (map sub_view) (sym found.front) ∙ ap (λ (n : ℕ). map sub_view (take n rows)) (sym next),
+          ∙ ap (λ (vs : List SubView). map sub_view (take i rows) ++ vs) first.0 ∙ sym (map-append sub_view (take i rows) (found.row ∷ []))
+          ∙ ap (map sub_view) (sym found.front) ∙ ap (λ (n : ℕ). map sub_view (take n rows)) (sym next),
       λ q. at found same first.1 q (topic == q) refl ∙ ap (λ (n : ℕ). map sub_view (filter (row_is_on q) (drop n rows))) (sym next),
     )
   where

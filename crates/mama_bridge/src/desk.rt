@@ -404,15 +404,7 @@ impl Desk {
         let mut bodies = Outbox::new(self.alloc);
         bodies.reserve(replies)?;
         settle_if(settles, publishers, out);
-        self.end_if(
-            ends,
-            publishers,
-            queues,
-            links,
-            &mut msgs,
-            &mut bodies,
-            out,
-        );
+        self.end_if(ends, publishers, queues, links, &mut msgs, &mut bodies, out);
         Ok(())
     }
 

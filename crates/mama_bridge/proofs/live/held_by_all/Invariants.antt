@@ -1,5 +1,4 @@
 use Rattle.std.proofs.Common.{◌≡◌, ◌+◌, sum_by}
-use Rattle.std.specs.BTreeMap.{values}
 use Rattle.mama_bridge.specs.Live.{links_held, all_held}
 use Rattle.mama_bridge.proofs.live.held_by_all.Given as goal
 

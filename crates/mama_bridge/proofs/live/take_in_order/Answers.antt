@@ -1,4 +1,4 @@
-use Rattle.std.proofs.Common.{◌≡◌, ◌+◌, ◌<◌, ◌≤◌, length, arith, rules, sym, ◌∙◌, ap}
+use Rattle.std.proofs.Common.{◌<◌, ◌≤◌, length, arith, rules, ap}
 use Rattle.mama_bridge.specs.declared.live.Place.{Place}
 use Rattle.mama_bridge.proofs.InOrder.{one_taken, all_taken, held_more}
 use Rattle.mama_bridge.proofs.live.take_in_order.Goals as goal

@@ -1,4 +1,4 @@
-use Rattle.std.proofs.Common.{sym, refl}
+use Rattle.std.proofs.Common.{sym}
 use Rattle.mama_bridge.proofs.ByTopic.{topic_found, no_topic}
 use Rattle.mama_bridge.proofs.TheOne.{none_taken}
 use Rattle.mama_bridge_rules.specs.Table.{of_sub}

@@ -1,4 +1,3 @@
-use Rattle.std.specs.Prelude.{nat_lt}
 use Rattle.std.proofs.Common.{refl}
 use Rattle.std.proofs.lemmas.Result.{on_ok_weaker, on_err_weaker}
 use Rattle.mama_bridge_rules.specs.Table.{of_sub}
