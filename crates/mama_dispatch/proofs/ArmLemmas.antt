@@ -211,22 +211,38 @@ or_right_true : (b : Bool) → (b || true) ≡ true
 or_right_true true = refl
 or_right_true false = refl
 
+-- the one deed of a Gone
+pub gone_deed : (orders : ObjectId → ℕ → List Order) (journal : List (ℕ × QueueNote)) (ds : List Deed) (slot : ℕ) (o : ObjectId) (before middle : List SeatData) (pb pa : List QueuePut)
+    → (once : CalledOnce o on.Destroy before middle pb pa) → is_some (listener_in o before) ≡ true → Fits orders middle → Stands journal ds before
+    → served orders journal ds (q.Gone slot o) ≡ called o on.Destroy once.orders ∷ []
+gone_deed orders journal ds slot o before middle pb pa once here fits stands =
+    let has = seat_from o before here in
+    let f = found (is_live ds) ds (born journal) before o has.seat stands.seated has.is in
+    let os : List Order = once.orders in
+    let number : length has.seat.calls ≡ length (calls_of o ds) = ap length f.calls ∙ length-map (calls_of o ds) noted in
+    let given : os ≡ orders o (length (calls_of o ds) + 1) =
+    fits_given orders o on.Destroy os (Some once.listener) before has.seat has.is (subst (Fits orders) once.seats fits) ∙ ap (λ (n : ℕ). orders o (n + 1)) number in
+    ap (λ (t : Bool). if t then [] else called o on.Destroy (orders o (length (calls_of o ds) + 1)) ∷ []) (and_false (is_muted o ds))
+    ∙ ap (λ (gs : List Order). called o on.Destroy gs ∷ []) (sym given)
+
+-- the seats after the last callback of an object, its listener still there
+pub gone_seated : (orders : ObjectId → ℕ → List Order) (journal : List (ℕ × QueueNote)) (ds : List Deed) (o : ObjectId) (before middle : List SeatData) (pb pa : List QueuePut)
+    → (once : CalledOnce o on.Destroy before middle pb pa) → is_some (listener_in o before) ≡ true → Stands journal ds before
+    → Seated (is_live ds) (ds ++ called o on.Destroy once.orders ∷ []) (born journal) middle
+gone_seated orders journal ds o before middle pb pa once here stands =
+    let has = seat_from o before here in
+    let f = found (is_live ds) ds (born journal) before o has.seat stands.seated has.is in
+    once_seated orders (is_live ds) (born journal) ds o on.Destroy before middle pb pa once (sym f.listener ∙ has.here)
+    (λ x. sym (begins_plain x o on.Destroy once.orders (is_live ds x) refl)) stands.seated
+
 -- a last callback at all seats, and then the listener out
 pub arm_gone : (orders : ObjectId → ℕ → List Order) (port : ℕ) (journal : List (ℕ × QueueNote)) (ds : List Deed) (slot : ℕ) (o : ObjectId) (before middle after : List SeatData) (pb pa : List QueuePut)
     → CalledOnce o on.Destroy before middle pb pa → after ≡ map (at o (with_listener None)) middle → is_some (listener_in o before) ≡ true
     → Fits orders middle → Stands journal ds before → ServedAt orders port journal ds (q.Gone slot o) after pb pa
 arm_gone orders port journal ds slot o before middle after pb pa once left here fits stands =
-    let has = seat_from o before here in
-    let f = found (is_live ds) ds (born journal) before o has.seat stands.seated has.is in
-    let alive : is_live ds o ≡ true = sym f.listener ∙ has.here in
     let os : List Order = once.orders in
     let d : Deed = called o on.Destroy os in
-    let number : length has.seat.calls ≡ length (calls_of o ds) = ap length f.calls ∙ length-map (calls_of o ds) noted in
-    let given : os ≡ orders o (length (calls_of o ds) + 1) =
-    fits_given orders o on.Destroy os (Some once.listener) before has.seat has.is (subst (Fits orders) once.seats fits) ∙ ap (λ (n : ℕ). orders o (n + 1)) number in
-    let one : served orders journal ds (q.Gone slot o) ≡ d ∷ [] =
-    ap (λ (t : Bool). if t then [] else called o on.Destroy (orders o (length (calls_of o ds) + 1)) ∷ []) (and_false (is_muted o ds))
-    ∙ ap (λ (gs : List Order). called o on.Destroy gs ∷ []) (sym given) in
+    let one : served orders journal ds (q.Gone slot o) ≡ d ∷ [] = gone_deed orders journal ds slot o before middle pb pa once here fits stands in
     let es : List Deed = ds ++ d ∷ [] in
     let begins : (x : ObjectId) → is_live ds x ≡ (is_live ds x || begins_in x d) = λ (x : ObjectId). sym (begins_plain x o on.Destroy os (is_live ds x) refl) in
     let lived : (x : ObjectId) → is_live es x ≡ (is_live ds x && not (same_object o x)) = λ (x : ObjectId).
@@ -236,7 +252,7 @@ arm_gone orders port journal ds slot o before middle after pb pa once left here 
     let ended : is_live es o ≡ false = lived o ∙ ap (λ (b : Bool). is_live ds o && not b) (same_object-refl o) ∙ and_false (is_live ds o) in
     let others : (x : ObjectId) → same_object o x ≡ false → is_live es x ≡ is_live ds x = λ (x : ObjectId) (other : same_object o x ≡ false).
     lived x ∙ ap (λ (b : Bool). is_live ds x && not b) other ∙ and_true (is_live ds x) in
-    let called_seats : Seated (is_live ds) es (born journal) middle = once_seated orders (is_live ds) (born journal) ds o on.Destroy before middle pb pa once alive begins stands.seated in
+    let called_seats : Seated (is_live ds) es (born journal) middle = gone_seated orders journal ds o before middle pb pa once here stands in
     let seated : Seated (is_live es) es (born journal) after =
     subst (Seated (is_live es) es (born journal)) (sym left) (seated_map (is_live ds) (is_live es) es es (at o (with_listener None)) (seat_emptied (is_live ds) (is_live es) es o ended others) (born journal) middle called_seats) in
     let there : is_born o journal ≡ true = seat_born journal ds before o stands.seated here in

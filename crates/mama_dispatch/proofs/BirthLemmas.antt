@@ -75,7 +75,7 @@ or_right_true : (b : Bool) → (b || true) ≡ true
 or_right_true true = refl
 or_right_true false = refl
 
-any_more : (p : Born → Bool) (bs : List Born) (b : Born) → list_any p (bs ++ b ∷ []) ≡ (list_any p bs || p b)
+pub any_more : (p : Born → Bool) (bs : List Born) (b : Born) → list_any p (bs ++ b ∷ []) ≡ (list_any p bs || p b)
 any_more p [] b = or_false (p b)
 any_more p (c ∷ bs) b =
     ap (λ (t : Bool). p c || t) (any_more p bs b)

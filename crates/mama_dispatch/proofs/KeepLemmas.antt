@@ -1,7 +1,8 @@
 -- What callbacks keep of the seats: no two of one object, the counts of the listeners, and the orders of their plans.
 use Rattle.std.specs.Prelude.{map, Option, Some, None, nat_lt, if◌then◌else◌}
 use Rattle.std.specs.Option.{option_and_then}
-use Rattle.std.proofs.Common.{◌≡◌, ℕ, suc, ◌+◌, ◌<◌, ◌≤◌, Bool, true, false, List, [], ◌∷◌, ◌++◌, length, refl, ap, sym, ◌∙◌, subst, length-append, arith}
+use Rattle.std.proofs.Common.{◌≡◌, ℕ, suc, ◌+◌, ◌<◌, ◌≤◌, Bool, true, false, List, [], ◌∷◌, ◌++◌, length, refl, ap, sym, ◌∙◌, subst, append-nil, append_assoc, length-append, arith}
+use Rattle.std.proofs.lemmas.List.{map-append}
 use Rattle.std.proofs.lemmas.Bool.{lt-ltb}
 use Rattle.mama_event.specs.declared.ids.ObjectId.{ObjectId}
 use Rattle.mama_event.specs.declared.callback.CallNote.{CallNote}
@@ -13,11 +14,12 @@ use Rattle.mama_event.specs.declared.order.PlanRow.{PlanRow}
 use Rattle.mama_event.specs.declared.to_queue.Make.{Make}
 use Rattle.mama_event.specs.Object.{same_object}
 use Rattle.mama_queue_rules.specs.Queue.{QueuePut, planned}
-use Rattle.mama_listener.specs.Listener.{ListenerData, most_calls, risen, reached, Heard, IsPlanned}
+use Rattle.mama_listener.specs.Listener.{ListenerData, most_calls, risen, reached, HeardNext, Heard, IsPlanned}
 use Rattle.mama_dispatch.specs.Seats.{SeatData, has_seat, AreApart, seat_of, listener_in, at, HeardIn, called_with, muted_by_all, with_room, stepped, with_listener, new_seat, AreOrders, Fits}
 use Rattle.mama_dispatch.specs.Seating.{CalledOnce}
 use Rattle.mama_dispatch.specs.Standing.{Created, Ended}
-use Rattle.mama_dispatch.specs.Keeping.{AllSeats, PlanGives, ListensAs, IsPlannedSeat, ArePlanned, IsFew, AreFew, HasCounted, IsCounted, AreCounted, Kept, KeptWith}
+use Rattle.mama_dispatch.specs.Keeping.{AllSeats, PlanGives, ListensAs, IsPlannedSeat, ArePlanned, IsFew, AreFew, Kept, KeptWith}
+use Rattle.mama_dispatch.specs.Hearing.{HeardOn, HasHeard, HeardSince, HaveHeard, ComesAs}
 use Rattle.mama_dispatch.proofs.DeedLemmas.{same_object-true}
 use Rattle.mama_dispatch.proofs.PlaceLemmas.{none_changed, apart_kept, at_object, apart_more}
 
@@ -46,6 +48,36 @@ all_more P (t ∷ ss) s all p = (all.0, all_more P ss s all.1 p)
 pub all_anyhow : (P : SeatData → Type 0) → ((s : SeatData) → P s) → (ss : List SeatData) → AllSeats P ss
 all_anyhow P each [] = tt
 all_anyhow P each (s ∷ ss) = (each s, all_anyhow P each ss)
+
+-- WHAT LISTENERS HAVE HEARD
+
+abbrev pub HeardAt : (ObjectId → ListenerData) → SeatData → Type 0
+HeardAt came s = HeardSince s.calls (came s.object) s.listener
+
+pub heard_all : (came : ObjectId → ListenerData) (ss : List SeatData) → HaveHeard came ss → AllSeats (HeardAt came) ss
+heard_all came [] heard = tt
+heard_all came (s ∷ ss) heard = (heard.0, heard_all came ss heard.1)
+
+pub all_heard : (came : ObjectId → ListenerData) (ss : List SeatData) → AllSeats (HeardAt came) ss → HaveHeard came ss
+all_heard came [] all = tt
+all_heard came (s ∷ ss) all = (all.0, all_heard came ss all.1)
+
+-- what the listener of an object's seat has heard
+pub heard_at : (came : ObjectId → ListenerData) (ss : List SeatData) (o : ObjectId) (s : SeatData) → HaveHeard came ss → seat_of o ss ≡ Some s → HeardSince s.calls (came s.object) s.listener
+heard_at came [] o s heard is = cc
+heard_at came (t ∷ ss) o s heard is =
+    elim (same_object o t.object) as (λ v. (if v then Some t else seat_of o ss) ≡ Some s → HeardSince s.calls (came s.object) s.listener) [
+      | true ↦ λ is. let this : t ≡ s = cc in subst (HeardAt came) this heard.0
+      | false ↦ λ is. heard_at came ss o s heard.1 is
+    ] is
+
+-- a listener that just came has heard nothing since
+pub heard_nothing : (came l : ListenerData) → came ≡ l → HasHeard [] came l
+heard_nothing came l is = subst (HasHeard [] came) is (record { tag = refl; plan = refl; count = refl; heard = none came.heard })
+  where
+    none : (h : Option (List Callback)) → HeardOn [] h h
+    none None = tt
+    none (Some cs) = sym (append-nil cs)
 
 -- ONE CALLBACK
 
@@ -90,12 +122,30 @@ given_as : (f : ℕ → List Order) (plan : Option (List PlanRow)) (call : ℕ) 
 given_as f None call os gives is = absurd gives
 given_as f (Some rows) call os gives is = is ∙ gives call
 
-counted_once : (c : Callback) (os : List Order) (l : ListenerData) (s : SeatData) (was : ListenerData) → s.listener ≡ Some was → Heard c was l os → IsCounted s → IsCounted (called_with c os (Some l) s)
-counted_once c os l s was is heard counted =
+-- a listener that has heard some callbacks, and then one more, has heard those
+pub heard_more : (cs : List Callback) (c : Callback) (os : List Order) (came was l : ListenerData) → HasHeard cs came was → Heard c was l os → HasHeard (cs ++ c ∷ []) came l
+heard_more cs c os came was l before heard =
+    let more : suc (length cs) ≡ length (cs ++ c ∷ []) = omega (arith, length-append cs (c ∷ [])) in
+    record {
+      tag = heard.tag ∙ before.tag;
+      plan = heard.plan ∙ before.plan;
+      count = heard.calls ∙ ap risen before.count ∙ ap (reached came.calls) more;
+      heard = heard_on came.heard was.heard l.heard before.heard heard.heard;
+    }
+  where
+    heard_on : (a b d : Option (List Callback)) → HeardOn cs a b → HeardNext c b d → HeardOn (cs ++ c ∷ []) a d
+    heard_on a b None first next = tt
+    heard_on a None (Some d) first next = absurd next
+    heard_on None (Some b) (Some d) first next = absurd first
+    heard_on (Some a) (Some b) (Some d) first next = next ∙ ap (λ (xs : List Callback). xs ++ c ∷ []) first ∙ append_assoc a cs (c ∷ [])
+
+heard_once : (came : ObjectId → ListenerData) (c : Callback) (os : List Order) (l : ListenerData) (s : SeatData) (was : ListenerData) → s.listener ≡ Some was → Heard c was l os
+    → HeardSince s.calls (came s.object) s.listener → HasHeard (map (λ (n : CallNote). n.call) (s.calls ++ record { call = c; orders = os } ∷ [])) (came s.object) l
+heard_once came c os l s was is heard since =
     let n : CallNote = record { call = c; orders = os } in
-    let before : was.calls ≡ reached s.came (length s.calls) = subst (HasCounted s.came (length s.calls)) is counted in
-    let more : suc (length s.calls) ≡ length (s.calls ++ n ∷ []) = omega (arith, length-append s.calls (n ∷ [])) in
-    heard.calls ∙ ap risen before ∙ ap (reached s.came) more
+    let before : HasHeard (map (λ (m : CallNote). m.call) s.calls) (came s.object) was = subst (HeardSince s.calls (came s.object)) is since in
+    subst (λ (cs : List Callback). HasHeard cs (came s.object) l) (sym (map-append (λ (m : CallNote). m.call) s.calls (n ∷ [])))
+    (heard_more (map (λ (m : CallNote). m.call) s.calls) c os (came s.object) was l before heard)
 
 planned_once : (f : ℕ → List Order) (c : Callback) (os : List Order) (l : ListenerData) (s : SeatData) (was : ListenerData) → s.listener ≡ Some was → Heard c was l os
     → IsFew (called_with c os (Some l) s) → IsPlannedSeat f s → IsPlannedSeat f (called_with c os (Some l) s)
@@ -113,13 +163,13 @@ planned_once f c os l s was is heard few planned =
 -- WHAT IS KEPT
 
 pub kept_same : (ss : List SeatData) → Kept ss ss
-kept_same ss = record { apart = λ apart. apart; few = λ few. few; counted = λ apart counted. counted; planned = λ orders apart few planned. planned }
+kept_same ss = record { apart = λ apart. apart; few = λ few. few; heard = λ came apart heard. heard; planned = λ orders apart few planned. planned }
 
 pub kept_then : (a b c : List SeatData) → Kept a b → Kept b c → Kept a c
 kept_then a b c first next = record {
   apart = λ apart. next.apart (first.apart apart);
   few = λ few. first.few (next.few few);
-  counted = λ apart counted. next.counted (first.apart apart) (first.counted apart counted);
+  heard = λ came apart heard. next.heard came (first.apart apart) (first.heard came apart heard);
   planned = λ orders apart few planned. next.planned orders (first.apart apart) few (first.planned orders apart (next.few few) planned);
 }
 
@@ -133,9 +183,10 @@ kept_once o c before after pb pa once =
       few = λ few.
           all_change_back IsFew o f (λ s q. omega (arith, length-append s.calls (record { call = c; orders = os } ∷ []), q)) before
           (all_back IsFew IsFew (muted_by_all os) (λ s q. q) (map (at o f) before) (subst AreFew once.seats few));
-      counted = λ apart counted.
-          subst AreCounted (sym once.seats)
-          (all_called IsCounted (λ s. Unit {0}) o c os l (λ s p. p) (λ s was is heard q p. counted_once c os l s was is heard p) before apart once.heard (all_anyhow (λ s. Unit {0}) (λ s. tt) (map (muted_by_all os) (map (at o f) before))) counted);
+      heard = λ came apart heard.
+          subst (HaveHeard came) (sym once.seats)
+          (all_heard came (map (muted_by_all os) (map (at o f) before))
+          (all_called (HeardAt came) (λ s. Unit {0}) o c os l (λ s p. p) (λ s was is heard q p. heard_once came c os l s was is heard p) before apart once.heard (all_anyhow (λ s. Unit {0}) (λ s. tt) (map (muted_by_all os) (map (at o f) before))) (heard_all came before heard)));
       planned = λ orders apart few planned.
           subst (ArePlanned orders) (sym once.seats)
           (all_called (λ s. IsPlannedSeat (orders s.object) s) IsFew o c os l
@@ -148,7 +199,7 @@ pub kept_room : (o : ObjectId) (n : ℕ) (ss : List SeatData) → Kept ss (map (
 kept_room o n ss = record {
   apart = apart_kept (at o (with_room n)) ss (at_object o (with_room n) (λ s. refl));
   few = all_change_back IsFew o (with_room n) (λ s q. q) ss;
-  counted = λ apart all. all_change IsCounted o (with_room n) (λ s p. p) ss all;
+  heard = λ came apart all. all_heard came (map (at o (with_room n)) ss) (all_change (HeardAt came) o (with_room n) (λ s p. p) ss (heard_all came ss all));
   planned = λ orders apart few all. all_change (λ s. IsPlannedSeat (orders s.object) s) o (with_room n) (λ s p. record { listener = p.listener; orders = p.orders }) ss all;
 }
 
@@ -156,7 +207,7 @@ pub kept_stepped : (o : ObjectId) (m : MarketMsg) (ss : List SeatData) → Kept 
 kept_stepped o m ss = record {
   apart = apart_kept (at o (stepped m)) ss (at_object o (stepped m) (λ s. refl));
   few = all_change_back IsFew o (stepped m) (λ s q. q) ss;
-  counted = λ apart all. all_change IsCounted o (stepped m) (λ s p. p) ss all;
+  heard = λ came apart all. all_heard came (map (at o (stepped m)) ss) (all_change (HeardAt came) o (stepped m) (λ s p. p) ss (heard_all came ss all));
   planned = λ orders apart few all. all_change (λ s. IsPlannedSeat (orders s.object) s) o (stepped m) (λ s p. record { listener = p.listener; orders = p.orders }) ss all;
 }
 
@@ -164,7 +215,7 @@ pub kept_emptied : (o : ObjectId) (ss : List SeatData) → Kept ss (map (at o (w
 kept_emptied o ss = record {
   apart = apart_kept (at o (with_listener None)) ss (at_object o (with_listener None) (λ s. refl));
   few = all_change_back IsFew o (with_listener None) (λ s q. q) ss;
-  counted = λ apart all. all_change IsCounted o (with_listener None) (λ s p. tt) ss all;
+  heard = λ came apart all. all_heard came (map (at o (with_listener None)) ss) (all_change (HeardAt came) o (with_listener None) (λ s p. tt) ss (heard_all came ss all));
   planned = λ orders apart few all. all_change (λ s. IsPlannedSeat (orders s.object) s) o (with_listener None) (λ s p. record { listener = tt; orders = p.orders }) ss all;
 }
 
@@ -185,7 +236,7 @@ kept_ended o l before after pb pa ended =
 -- WHAT AN EVENT KEEPS
 
 pub kept_with : (before after : List SeatData) → Kept before after → KeptWith None before after
-kept_with before after kept = record { counted = kept.counted; planned = λ orders apart few comes planned. kept.planned orders apart few planned }
+kept_with before after kept = record { heard = λ came apart comes heard. kept.heard came apart heard; planned = λ orders apart few comes planned. kept.planned orders apart few planned }
 
 pub kept_created : (o : ObjectId) (make : Make) (l : ListenerData) (before after : List SeatData) (pb pa : List QueuePut)
     → Created o make l before after pb pa → has_seat o before ≡ false → KeptWith (Some (o, l)) before after
@@ -193,7 +244,9 @@ kept_created o make l before after pb pa created none =
     let new : SeatData = new_seat o make l created.room in
     let kept = kept_once o on.Create (before ++ new ∷ []) after pb pa created.once in
     record {
-      counted = λ apart counted. kept.counted (apart_more before new apart none) (all_more IsCounted before new counted refl);
+      heard = λ came apart comes heard.
+          kept.heard came (apart_more before new apart none)
+          (all_heard came (before ++ new ∷ []) (all_more (HeardAt came) before new (heard_all came before heard) (heard_nothing (came o) l comes)));
       planned = λ orders apart few comes planned.
           kept.planned orders (apart_more before new apart none) few (all_more (λ s. IsPlannedSeat (orders s.object) s) before new planned (record { listener = comes; orders = tt }));
     }

@@ -8,6 +8,8 @@ pub mod ArmLemmas
 pub mod BirthLemmas
 pub mod ServeLemmas
 pub mod JournalLaws
+pub mod StreamLemmas
 pub mod KeepLemmas
 pub mod RowLemmas
+pub mod AnswerLemmas
 pub mod ServingLemmas

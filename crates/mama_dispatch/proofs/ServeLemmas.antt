@@ -138,6 +138,21 @@ serves_ended slot o l before after pb pa ended here =
           arm_gone orders port journal ds slot o roomy ended.middle after pb pa ended.once ended.seats (ap is_some (listener_room o ended.room before) ∙ here) (middle_fits orders fits) (stands_room journal ds o ended.room before stands);
     }
 
+-- the deeds of a message of a subscription that is not muted
+pub served_delivered : (orders : ObjectId → ℕ → List Order) (journal : List (ℕ × QueueNote)) (ds : List Deed) (slot : ℕ) (s : SubId) (m : MarketMsg) (before : List SeatData)
+    → is_some (listener_in (Sub s) before) ≡ true → is_muted_in (Sub s) before ≡ false → Stands journal ds before
+    → served orders journal ds (q.Deliver slot s m) ≡ handled s m ∷ made orders (Sub s) (ds ++ handled s m ∷ []) (callbacks_of (context_in (Sub s) before) m)
+served_delivered orders journal ds slot s m before here unmuted stands =
+    let has = seat_from (Sub s) before here in
+    let f = found (is_live ds) ds (born journal) before (Sub s) has.seat stands.seated has.is in
+    let es : List Deed = ds ++ handled s m ∷ [] in
+    let loud : is_muted (Sub s) ds ≡ false = sym f.muted ∙ sym (ap (λ (x : Option SeatData). option_map_or (λ (t : SeatData). t.muted) x false) has.is) ∙ unmuted in
+    let context : context_of (first_said (λ (e : ℕ × QueueNote). make_in (Sub s) e.1) journal) (messages_of s ds) ≡ context_in (Sub s) before =
+    ap (λ (k : Option Make). context_of k (messages_of s ds)) (first_make (Sub s) journal ∙ f.made)
+    ∙ sym f.context ∙ sym (ap (λ (x : Option SeatData). option_map_or (λ (t : SeatData). t.context) x (new_context Basic 0)) has.is) in
+    ap (λ (t : Bool). if t then [] else handled s m ∷ made orders (Sub s) es (callbacks_of (context_of (first_said (λ (e : ℕ × QueueNote). make_in (Sub s) e.1) journal) (messages_of s ds)) m)) loud
+    ∙ ap (λ (c : ContextData). handled s m ∷ made orders (Sub s) es (callbacks_of c m)) context
+
 -- a message of a subscription that is not muted
 pub serves_delivered : (slot : ℕ) (s : SubId) (m : MarketMsg) (before after : List SeatData) (pb pa : List QueuePut) (n : ℕ)
     → Delivered s m before after pb pa n → is_some (listener_in (Sub s) before) ≡ true → is_muted_in (Sub s) before ≡ false
@@ -145,17 +160,9 @@ pub serves_delivered : (slot : ℕ) (s : SubId) (m : MarketMsg) (before after : 
 serves_delivered slot s m before after pb pa n delivered here unmuted = record {
   fits = delivered.fits;
   serves = λ orders port journal ds fits stands.
-      let has = seat_from (Sub s) before here in
-      let f = found (is_live ds) ds (born journal) before (Sub s) has.seat stands.seated has.is in
       let es : List Deed = ds ++ handled s m ∷ [] in
       let cs : List Callback = callbacks_of (context_in (Sub s) before) m in
-      let loud : is_muted (Sub s) ds ≡ false = sym f.muted ∙ sym (ap (λ (x : Option SeatData). option_map_or (λ (t : SeatData). t.muted) x false) has.is) ∙ unmuted in
-      let context : context_of (first_said (λ (e : ℕ × QueueNote). make_in (Sub s) e.1) journal) (messages_of s ds) ≡ context_in (Sub s) before =
-      ap (λ (k : Option Make). context_of k (messages_of s ds)) (first_make (Sub s) journal ∙ f.made)
-      ∙ sym f.context ∙ sym (ap (λ (x : Option SeatData). option_map_or (λ (t : SeatData). t.context) x (new_context Basic 0)) has.is) in
-      let deeds : served orders journal ds (q.Deliver slot s m) ≡ handled s m ∷ made orders (Sub s) es cs =
-      ap (λ (t : Bool). if t then [] else handled s m ∷ made orders (Sub s) es (callbacks_of (context_of (first_said (λ (e : ℕ × QueueNote). make_in (Sub s) e.1) journal) (messages_of s ds)) m)) loud
-      ∙ ap (λ (c : ContextData). handled s m ∷ made orders (Sub s) es (callbacks_of c m)) context in
+      let deeds : served orders journal ds (q.Deliver slot s m) ≡ handled s m ∷ made orders (Sub s) es cs = served_delivered orders journal ds slot s m before here unmuted stands in
       arm_called orders port journal ds es (q.Deliver slot s m) (Sub s) cs before after pb pa n (middle_deliver slot s m) (leads_handled s ds m)
       (ap (λ (xs : List Deed). ds ++ xs) deeds ∙ sym (append_assoc ds (handled s m ∷ []) (made orders (Sub s) es cs)))
       (ap (flat_map puts_of) deeds) stands (seat_born journal ds before (Sub s) stands.seated here) (calls_plain (context_in (Sub s) before) m)
@@ -197,12 +204,15 @@ serves_nothing note ss puts middle silent = record {
       };
 }
 
--- the object of a muted seat is muted
-pub muted_says : (journal : List (ℕ × QueueNote)) (ds : List Deed) (ss : List SeatData) (o : ObjectId) → Stands journal ds ss → is_some (listener_in o ss) ≡ true → is_muted_in o ss ≡ true → is_muted o ds ≡ true
-muted_says journal ds ss o stands here muted =
+-- the object of a seat is muted where the seat is
+pub muted_is : (journal : List (ℕ × QueueNote)) (ds : List Deed) (ss : List SeatData) (o : ObjectId) → Stands journal ds ss → is_some (listener_in o ss) ≡ true → is_muted o ds ≡ is_muted_in o ss
+muted_is journal ds ss o stands here =
     let has = seat_from o ss here in
     let f = found (is_live ds) ds (born journal) ss o has.seat stands.seated has.is in
-    sym f.muted ∙ sym (ap (λ (x : Option SeatData). option_map_or (λ (t : SeatData). t.muted) x false) has.is) ∙ muted
+    sym f.muted ∙ sym (ap (λ (x : Option SeatData). option_map_or (λ (t : SeatData). t.muted) x false) has.is)
+
+pub muted_says : (journal : List (ℕ × QueueNote)) (ds : List Deed) (ss : List SeatData) (o : ObjectId) → Stands journal ds ss → is_some (listener_in o ss) ≡ true → is_muted_in o ss ≡ true → is_muted o ds ≡ true
+muted_says journal ds ss o stands here muted = muted_is journal ds ss o stands here ∙ muted
 
 -- a message, or what is told, of a muted object
 pub serves_undelivered : (slot : ℕ) (s : SubId) (m : MarketMsg) (ss : List SeatData) (puts : List QueuePut)

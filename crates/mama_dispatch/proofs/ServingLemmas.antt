@@ -22,11 +22,25 @@ use Rattle.mama_event.specs.Object.{same_object}
 use Rattle.mama_dq.specs.Context.{ContextData, new_context}
 use Rattle.mama_listener.specs.Listener.{ListenerData}
 use Rattle.mama_queue_rules.specs.Queue.{Deed, QueuePut, to_bridge, to_timers, make_in, context_of, messages_of, deeds, is_fin, bye_put, queue_puts_at}
-use Rattle.mama_dispatch.specs.Journals.{Born, born, is_born, is_live_here, may_come, messages_at, noted, notes_of, context_after}
+use Rattle.mama_dispatch.specs.Journals.{Born, born, is_born, is_live_here, may_come, messages_at, noted, notes_of, context_after, image_in}
 use Rattle.mama_dispatch.specs.Seats.{SeatData, has_seat, AreApart, seat_of, listener_in, context_in, with_room, AreOrders, Fits}
 use Rattle.mama_dispatch.specs.Seating.{is_live, SeatAt, Seated}
 use Rattle.mama_dispatch.specs.Standing.{Stands, Serves, MayServe}
-use Rattle.mama_dispatch.specs.Keeping.{IsPlannedSeat, ArePlanned, IsCounted, AreCounted, KeptWith}
+use Rattle.mama_dispatch.specs.Keeping.{IsPlannedSeat, ArePlanned, KeptWith}
+use Rattle.mama_dispatch.specs.Hearing.{HaveHeard}
+use Rattle.mama_dispatch.specs.declared.turn.Turn.{Turn}
+use Rattle.mama_dispatch.specs.Answering.{AnswersTo}
+use Rattle.std.specs.Prelude.{IfSome}
+use Rattle.std.specs.List.{AllByRecursion}
+use Rattle.mama_msg.specs.Field.{FieldData}
+use Rattle.mama_event.specs.Record.{IsGenuine}
+use Rattle.mama_event.specs.declared.market.ImageHead.{ImageHead}
+use Rattle.mama_event.specs.declared.to_queue.Make.TheVariants as make
+use Rattle.mama_dq.specs.declared.table.Phase.{Phase}
+use Rattle.mama_dq.specs.declared.table.Phase.TheVariants.{Await, LiveOk, LiveStale}
+use Rattle.mama_dq.specs.Image.{IsSendersRecord}
+use Rattle.mama_dq.proofs.ImageLaw.{image_law}
+use Rattle.mama_dispatch.specs.Images.{image_at, IsRecord}
 use Rattle.mama_dispatch.specs.Served.{told_seats, IsServed, calls_at}
 use Rattle.mama_dispatch.proofs.DeedLemmas.{same_object-true, same_object-refl}
 use Rattle.mama_dispatch.proofs.PlaceLemmas.{none_seated}
@@ -46,6 +60,14 @@ fits_told orders (s ∷ ss) fits = (fits.0, fits_told orders ss fits.1)
 pub fits_untold : (orders : ObjectId → ℕ → List Order) (ss : List SeatData) → Fits orders (told_seats ss) → Fits orders ss
 fits_untold orders [] fits = tt
 fits_untold orders (s ∷ ss) fits = (fits.0, fits_untold orders ss fits.1)
+
+pub heard_told : (came : ObjectId → ListenerData) (ss : List SeatData) → HaveHeard came ss → HaveHeard came (told_seats ss)
+heard_told came [] heard = tt
+heard_told came (s ∷ ss) heard = (heard.0, heard_told came ss heard.1)
+
+pub heard_untold : (came : ObjectId → ListenerData) (ss : List SeatData) → HaveHeard came (told_seats ss) → HaveHeard came ss
+heard_untold came [] heard = tt
+heard_untold came (s ∷ ss) heard = (heard.0, heard_untold came ss heard.1)
 
 pub planned_told : (orders : ObjectId → ℕ → List Order) (ss : List SeatData) → ArePlanned orders ss → ArePlanned orders (told_seats ss)
 planned_told orders ss planned =
@@ -74,7 +96,6 @@ served_told journal fins ss served = record {
   stands = λ orders fits.
       let stands = served.stands orders (fits_untold orders ss fits) in
       record { seated = seated_told (is_live (deeds orders journal)) (deeds orders journal) (born journal) ss stands.seated; live = stands.live; quiet = stands.quiet; silent = stands.silent };
-  counted = all_map IsCounted IsCounted (with_room 0) (λ s p. p) ss served.counted;
 }
 
 served_untold : (journal : List (ℕ × QueueNote)) (fins : ℕ) (ss : List SeatData) → IsServed journal fins (told_seats ss) → IsServed journal fins ss
@@ -83,7 +104,6 @@ served_untold journal fins ss served = record {
   stands = λ orders fits.
       let stands = served.stands orders (fits_told orders ss fits) in
       record { seated = seated_untold (is_live (deeds orders journal)) (deeds orders journal) (born journal) ss stands.seated; live = stands.live; quiet = stands.quiet; silent = stands.silent };
-  counted = all_back IsCounted IsCounted (with_room 0) (λ s p. p) ss served.counted;
 }
 
 -- only the room changed
@@ -233,7 +253,7 @@ count_more test (x ∷ es) e =
     ]
 
 pub no_journal : IsServed [] 0 []
-no_journal = record { fins = refl; stands = λ orders fits. stands_at_first; counted = tt }
+no_journal = record { fins = refl; stands = λ orders fits. stands_at_first }
 
 pub served_next : (journal : List (ℕ × QueueNote)) (fins : ℕ) (comes : Option (ObjectId × ListenerData)) (port : ℕ) (note : QueueNote) (before after : List SeatData) (pb pa : List QueuePut)
     → IsServed journal fins before → AreApart before → is_fin (port, note) ≡ false → Serves note before after pb pa → KeptWith comes before after
@@ -241,7 +261,6 @@ pub served_next : (journal : List (ℕ × QueueNote)) (fins : ℕ) (comes : Opti
 served_next journal fins comes port note before after pb pa served apart middle serves kept = record {
   fins = served.fins ∙ sym (count_more is_fin journal (port, note) ∙ ap (λ (b : Bool). if b then suc (count_of is_fin journal) else count_of is_fin journal) middle);
   stands = λ orders fits. (standing orders journal port note before after pb pa serves fits (served.stands orders (serves.fits orders fits))).stands;
-  counted = kept.counted apart served.counted;
 }
 
 pub served_as : (journal : List (ℕ × QueueNote)) (fins : ℕ) (comes : Option (ObjectId × ListenerData)) (port : ℕ) (note of : QueueNote) (before after : List SeatData) (pb pa : List QueuePut)
@@ -267,5 +286,70 @@ served_fin journal fins port ss served =
     record {
       fins = ap suc served.fins ∙ sym (count_more is_fin journal (port, q.Fin));
       stands = λ orders fits. (standing orders journal port q.Fin ss ss [] [] serves fits (served.stands orders fits)).stands;
-      counted = served.counted;
     }
+
+-- ANSWERS
+
+-- an answer says nothing of the room of seats
+pub answers_told : {L : Type 0} (view : L → ListenerData) (orders : ObjectId → ℕ → List Order) (ss : List SeatData) (journal : List (ℕ × QueueNote)) (ds : List Deed) (note : QueueNote) (answer : Turn L)
+    → AnswersTo view orders ss journal ds note answer → AnswersTo view orders (told_seats ss) journal ds note answer
+answers_told view orders ss journal ds (q.Create slot object make tag) answer is = is
+answers_told view orders ss journal ds (q.Deliver slot sub msg) answer is = is
+answers_told view orders ss journal ds (q.Reply slot inbox body) answer is = is
+answers_told view orders ss journal ds (q.Tick slot timer moment) answer is = is
+answers_told view orders ss journal ds (q.Gone slot object) answer is = record { listener = is.listener; is = is.is; heard = λ came heard. is.heard came (heard_untold came ss heard) }
+answers_told view orders ss journal ds q.Fin answer is = is
+
+-- the callbacks of seats whose room is not told
+pub calls_told : (o : ObjectId) (ss : List SeatData) → calls_at o (told_seats ss) ≡ calls_at o ss
+calls_told o [] = refl
+calls_told o (s ∷ ss) =
+    elim (same_object o s.object) as (λ t. option_map_or (λ (x : SeatData). x.calls) (if t then Some (with_room 0 s) else seat_of o (told_seats ss)) [] ≡ option_map_or (λ (x : SeatData). x.calls) (if t then Some s else seat_of o ss) []) [
+      | true ↦ refl
+      | false ↦ calls_told o ss
+    ]
+
+-- the callbacks of a queue's objects are those of its journal's deeds
+pub calls_served : (journal : List (ℕ × QueueNote)) (fins : ℕ) (ss : List SeatData) → IsServed journal fins ss
+    → (orders : ObjectId → ℕ → List Order) → Fits orders (told_seats ss) → (o : ObjectId) → calls_at o (told_seats ss) ≡ notes_of o (deeds orders journal)
+calls_served journal fins ss served orders fits o =
+    calls_told o ss ∙ calls_there journal (deeds orders journal) ss o (served.stands orders (fits_untold orders ss fits))
+
+-- IMAGES
+
+seat_image : (x : Option SeatData) → option_and_then image_at x ≡ (if is_some (option_and_then (λ (s : SeatData). s.listener) x) then image_in (option_map_or (λ (s : SeatData). s.context) x (new_context Basic 0)) else None)
+seat_image None = refl
+seat_image (Some s) = refl
+
+-- the image of a live subscription is that of its context after the journal
+pub row_there : (orders : ObjectId → ℕ → List Order) (journal : List (ℕ × QueueNote)) (ss : List SeatData) (o : SubId) → Stands journal (deeds orders journal) ss
+    → option_and_then image_at (seat_of (Sub o) ss) ≡ (if is_live_here (Sub o) journal then image_in (context_after orders journal o) else None)
+row_there orders journal ss o stands =
+    seat_image (seat_of (Sub o) ss)
+    ∙ ap (λ (t : Bool). if t then image_in (context_in (Sub o) ss) else None) (live_there journal (deeds orders journal) ss (Sub o) stands)
+    ∙ ap (λ (c : ContextData). if is_live_here (Sub o) journal then image_in c else None) (context_there orders journal ss o stands)
+
+-- an image that is ok is its sender's record, where its context is so
+record_of : (bases : ℕ → List FieldData) (updates : ℕ → List (List FieldData)) (c : ContextData) → (c.phase ≡ LiveOk → IsSendersRecord bases updates c)
+    → (live : Bool) → IfSome (if live then image_in c else None) (λ image. IsRecord bases updates image)
+record_of bases updates c law false = tt
+record_of bases updates c law true = go c.phase refl
+  where
+    go : (p : Phase) → c.phase ≡ p → IfSome (image_in c) (λ image. IsRecord bases updates image)
+    go Await is = subst (λ (x : Option (ImageHead × List FieldData)). IfSome x (λ image. IsRecord bases updates image)) (sym (ap (λ (p : Phase). image_in (record c { phase = p })) is)) tt
+    go LiveOk is = subst (λ (x : Option (ImageHead × List FieldData)). IfSome x (λ image. IsRecord bases updates image)) (sym (ap (λ (p : Phase). image_in (record c { phase = p })) is)) (λ ok. law is)
+    go LiveStale is = subst (λ (x : Option (ImageHead × List FieldData)). IfSome x (λ image. IsRecord bases updates image)) (sym (ap (λ (p : Phase). image_in (record c { phase = p })) is)) (λ ok. cc ok)
+
+context_law : (bases : ℕ → List FieldData) (updates : ℕ → List (List FieldData)) (made : Option Make) (ms : List MarketMsg) → AllByRecursion (IsGenuine bases updates) ms
+    → (context_of made ms).phase ≡ LiveOk → IsSendersRecord bases updates (context_of made ms)
+context_law bases updates (Some (make.Sub kind cache)) ms genuine = image_law bases updates kind cache ms genuine
+context_law bases updates (Some make.Timer) ms genuine = image_law bases updates Basic 0 ms genuine
+context_law bases updates (Some make.Inbox) ms genuine = image_law bases updates Basic 0 ms genuine
+context_law bases updates None ms genuine = image_law bases updates Basic 0 ms genuine
+
+pub row_record : (orders : ObjectId → ℕ → List Order) (journal : List (ℕ × QueueNote)) (o : SubId) (bases : ℕ → List FieldData) (updates : ℕ → List (List FieldData))
+    → AllByRecursion (IsGenuine bases updates) (messages_of o (deeds orders journal))
+    → IfSome (if is_live_here (Sub o) journal then image_in (context_after orders journal o) else None) (λ image. IsRecord bases updates image)
+row_record orders journal o bases updates genuine =
+    record_of bases updates (context_after orders journal o)
+    (context_law bases updates (first_said (λ (e : ℕ × QueueNote). make_in (Sub o) e.1) journal) (messages_of o (deeds orders journal)) genuine) (is_live_here (Sub o) journal)

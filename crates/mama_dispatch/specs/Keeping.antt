@@ -1,4 +1,4 @@
--- What callbacks keep of the seats: the counts of the listeners, and that the orders given are those of a plan.
+-- What callbacks keep of the seats: what the listeners have heard, and that the orders given are those of a plan.
 use Rattle.std.specs.Prelude.{◌≡◌, ℕ, ◌≤◌, List, [], ◌∷◌, length, Option, Some, None}
 use Rattle.mama_event.specs.declared.ids.ObjectId.{ObjectId}
 use Rattle.mama_event.specs.declared.order.Order.{Order}
@@ -6,8 +6,9 @@ use Rattle.mama_event.specs.declared.order.PlanRow.{PlanRow}
 use Rattle.mama_event.specs.declared.to_queue.ToQueue.{ToQueue}
 use Rattle.mama_event.specs.declared.to_queue.ToQueue.TheVariants as event
 use Rattle.mama_queue_rules.specs.Queue.{planned}
-use Rattle.mama_listener.specs.Listener.{ListenerData, most_calls, reached}
+use Rattle.mama_listener.specs.Listener.{ListenerData, most_calls}
 use Rattle.mama_dispatch.specs.Seats.{SeatData, AreApart, AreOrders}
+use Rattle.mama_dispatch.specs.Hearing.{HaveHeard, ComesAs}
 
 -- each seat has a property
 abbrev pub AllSeats : (SeatData → Type 0) → List SeatData → Type 0
@@ -40,23 +41,11 @@ IsFew s = length s.calls ≤ most_calls
 abbrev pub AreFew : List SeatData → Type 0
 AreFew ss = AllSeats IsFew ss
 
--- a listener has counted so many callbacks more than when it came
-abbrev pub HasCounted : ℕ → ℕ → Option ListenerData → Type 0
-HasCounted came more None = Unit {0}
-HasCounted came more (Some l) = l.calls ≡ reached came more
-
--- each listener has counted the callbacks of its object
-abbrev pub IsCounted : SeatData → Type 0
-IsCounted s = HasCounted s.came (length s.calls) s.listener
-
-abbrev pub AreCounted : List SeatData → Type 0
-AreCounted ss = AllSeats IsCounted ss
-
 -- what callbacks keep of the seats
 pub record Kept (before after : List SeatData) : Type 0 where
   pub apart : AreApart before → AreApart after
   pub few : AreFew after → AreFew before
-  pub counted : AreApart before → AreCounted before → AreCounted after
+  pub heard : (came : ObjectId → ListenerData) → AreApart before → HaveHeard came before → HaveHeard came after
   pub planned : (orders : ObjectId → ℕ → List Order) → AreApart before → AreFew after → ArePlanned orders before → ArePlanned orders after
 
 -- the listener that an event brings, with its object
@@ -75,5 +64,5 @@ ComesPlanned orders (Some b) = ListensAs (orders b.0) 0 (Some b.1)
 
 -- what an event that may bring a listener keeps of the seats
 pub record KeptWith (comes : Option (ObjectId × ListenerData)) (before after : List SeatData) : Type 0 where
-  pub counted : AreApart before → AreCounted before → AreCounted after
+  pub heard : (came : ObjectId → ListenerData) → AreApart before → ComesAs came comes → HaveHeard came before → HaveHeard came after
   pub planned : (orders : ObjectId → ℕ → List Order) → AreApart before → AreFew after → ComesPlanned orders comes → ArePlanned orders before → ArePlanned orders after

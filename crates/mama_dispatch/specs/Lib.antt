@@ -5,5 +5,9 @@ pub mod Turns
 pub mod Places
 pub mod Rows
 pub mod Standing
+pub mod Hearing
 pub mod Keeping
 pub mod Served
+pub mod Answering
+pub mod Streams
+pub mod Images

@@ -11,7 +11,6 @@ use Rattle.mama_dispatch.specs.Seats.{SeatData, AreApart}
 abbrev pub row_data : {L : Type 0} → (L → ListenerData) → Row L → SeatData
 row_data view r = record {
   object = r.object;
-  came = r.came;
   listener = option_map view r.listener;
   muted = r.muted;
   context = r.context;

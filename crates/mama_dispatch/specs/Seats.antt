@@ -15,11 +15,10 @@ use Rattle.mama_dq.specs.Context.{ContextData, new_context}
 use Rattle.mama_queue_rules.specs.Queue.{ends, context_of}
 use Rattle.mama_listener.specs.Listener.{ListenerData, Heard}
 
--- An object that was made on this queue: the count that its listener came with, its listener until that is handed
--- back, whether it is muted, its context, its callbacks, and for how many more there is room.
+-- An object that was made on this queue: its listener until that is handed back, whether it is muted, its context, its
+-- callbacks, and for how many more there is room.
 pub record SeatData : Type 0 where
   pub object : ObjectId
-  pub came : ℕ
   pub listener : Option ListenerData
   pub muted : Bool
   pub context : ContextData
@@ -89,7 +88,7 @@ with_room room s = record s { room = room }
 
 -- the seat of a new object
 abbrev pub new_seat : ObjectId → Make → ListenerData → ℕ → SeatData
-new_seat object make l room = record { object = object; came = l.calls; listener = Some l; muted = false; context = context_of (Some make) []; calls = []; room = room }
+new_seat object make l room = record { object = object; listener = Some l; muted = false; context = context_of (Some make) []; calls = []; room = room }
 
 -- a listener that is there got a callback
 abbrev pub HeardIn : Callback → Option ListenerData → Option ListenerData → List Order → Type 0

@@ -9,7 +9,6 @@ use Rattle.mama_event.specs.declared.to_queue.QueueNote.{QueueNote}
 use Rattle.mama_queue_rules.specs.Queue.{deeds, is_fin}
 use Rattle.mama_dispatch.specs.Seats.{SeatData, seat_of, with_room, Fits}
 use Rattle.mama_dispatch.specs.Standing.{Stands}
-use Rattle.mama_dispatch.specs.Keeping.{AreCounted}
 
 -- A queue: its number, what it took, and the seats of its objects. Of their room nothing is told.
 pub record Served : Type 0 where
@@ -21,12 +20,10 @@ pub record Served : Type 0 where
 abbrev pub told_seats : List SeatData → List SeatData
 told_seats ss = map (with_room 0) ss
 
--- Whatever the orders are that the callbacks fit, the seats are those that the journal says. Each listener has counted
--- the callbacks of its object.
+-- Whatever the orders are that the callbacks fit, the seats are those that the journal says.
 pub record IsServed (journal : List (ℕ × QueueNote)) (count : ℕ) (ss : List SeatData) : Type 0 where
   pub fins : count ≡ count_of is_fin journal
   pub stands : (orders : ObjectId → ℕ → List Order) → Fits orders ss → Stands journal (deeds orders journal) ss
-  pub counted : AreCounted ss
 
 -- the notes of an object's callbacks; none, where it has no seat
 abbrev pub calls_at : ObjectId → List SeatData → List CallNote

@@ -1,11 +1,11 @@
-ghost use Rattle.std.specs.Prelude.{◌≡◌, true, false, map, is_some, Some, None, OnOk, OnErr, IfOk, IfErr, if◌then◌else◌};
+ghost use Rattle.std.specs.Prelude.{◌≡◌, true, false, map, is_some, Some, None, OnOk, OnErr, IfOk, IfErr};
 ghost use Rattle.mama_event.specs.declared.ids.ObjectId.TheVariants.{Sub, Timer, Inbox};
 ghost use Rattle.mama_event.specs.declared.to_queue.ToQueue.TheVariants as event;
 ghost use Rattle.mama_event.specs.declared.to_queue.QueueNote.TheVariants as q;
-ghost use Rattle.mama_dispatch.specs.declared.turn.Turn.TheVariants as turn;
 ghost use Rattle.mama_dispatch.specs.Seats.{has_seat, listener_in, is_muted_in, with_room};
 ghost use Rattle.mama_event.specs.ToQueue.{note_of};
 ghost use Rattle.mama_dispatch.specs.Standing.{Serves, MayServe};
+ghost use Rattle.mama_dispatch.specs.Answering.{Answers};
 ghost use Rattle.mama_listener.specs.Listener.{told};
 ghost use Rattle.mama_dispatch.specs.Keeping.{brought, KeptWith};
 ghost use Rattle.mama_dispatch.specs.Turns.{put_note};
@@ -31,7 +31,7 @@ pub(crate) fn serve_create<L: Listener, M: Tagged>(
     requires { has_seat object seats.old ≡ false }
     ensures ok { OnOk result (Serves (q.Create slot object make (L.tagged listener)) seats.old seats.new (map (put_note M.tagged) out.old.items) (map (put_note M.tagged) out.new.items)) }
     ensures kept { OnOk result (KeptWith (Some (object, told L.tagged L.calls L.heard L.plan listener)) seats.old seats.new) }
-    ensures answer { IfOk result (λ answer. answer ≡ turn.Called 1) }
+    ensures answer { IfOk result (λ answer. Answers (told L.tagged L.calls L.heard L.plan) (q.Create slot object make (L.tagged listener)) seats.old seats.new answer) }
     ensures err { OnErr result (seats.new ≡ seats.old) }
     ensures puts_err { OnErr result (out.new.items ≡ out.old.items) }
     ensures back { IfErr result (λ given. given ≡ event.Create slot object make listener) }
@@ -60,6 +60,7 @@ pub(crate) fn serve_deliver<L: Listener, M: Tagged>(
     requires unmuted { is_muted_in (Sub sub) seats.old ≡ false }
     ensures ok { OnOk result (Serves (q.Deliver slot sub msg) seats.old seats.new (map (put_note M.tagged) out.old.items) (map (put_note M.tagged) out.new.items)) }
     ensures kept { OnOk result (KeptWith None seats.old seats.new) }
+    ensures answer { IfOk result (λ answer. Answers (told L.tagged L.calls L.heard L.plan) (q.Deliver slot sub msg) seats.old seats.new answer) }
     ensures err { OnErr result (map (with_room 0) seats.new ≡ map (with_room 0) seats.old) }
     ensures puts_err { OnErr result (out.new.items ≡ out.old.items) }
     ensures back { IfErr result (λ given. given ≡ event.Deliver slot sub msg) }
@@ -82,7 +83,7 @@ pub(crate) fn serve_tick<L: Listener, M: Tagged>(
     requires unmuted { is_muted_in (Timer timer) seats.old ≡ false }
     ensures ok { OnOk result (Serves (q.Tick slot timer moment) seats.old seats.new (map (put_note M.tagged) out.old.items) (map (put_note M.tagged) out.new.items)) }
     ensures kept { OnOk result (KeptWith None seats.old seats.new) }
-    ensures answer { IfOk result (λ answer. answer ≡ turn.Called 1) }
+    ensures answer { IfOk result (λ answer. Answers (told L.tagged L.calls L.heard L.plan) (q.Tick slot timer moment) seats.old seats.new answer) }
     ensures err { OnErr result (map (with_room 0) seats.new ≡ map (with_room 0) seats.old) }
     ensures puts_err { OnErr result (out.new.items ≡ out.old.items) }
     ensures back { IfErr result (λ given. given ≡ event.Tick slot timer moment) }
@@ -108,6 +109,7 @@ pub(crate) fn serve_gone<L: Listener, M: Tagged>(
     requires { is_some (listener_in object seats.old) ≡ true }
     ensures ok { OnOk result (Serves (q.Gone slot object) seats.old seats.new (map (put_note M.tagged) out.old.items) (map (put_note M.tagged) out.new.items)) }
     ensures kept { OnOk result (KeptWith None seats.old seats.new) }
+    ensures answer { IfOk result (λ answer. Answers (told L.tagged L.calls L.heard L.plan) (q.Gone slot object) seats.old seats.new answer) }
     ensures err { OnErr result (map (with_room 0) seats.new ≡ map (with_room 0) seats.old) }
     ensures puts_err { OnErr result (out.new.items ≡ out.old.items) }
     ensures back { IfErr result (λ given. given ≡ event.Gone slot object) }
@@ -130,7 +132,7 @@ pub(crate) fn serve_reply<L: Listener, M: Tagged>(
     requires unmuted { is_muted_in (Inbox inbox) seats.old ≡ false }
     ensures ok { OnOk result (Serves (q.Reply slot inbox body) seats.old seats.new (map (put_note M.tagged) out.old.items) (map (put_note M.tagged) out.new.items)) }
     ensures kept { OnOk result (KeptWith None seats.old seats.new) }
-    ensures answer { IfOk result (λ answer. answer ≡ turn.Called 1) }
+    ensures answer { IfOk result (λ answer. Answers (told L.tagged L.calls L.heard L.plan) (q.Reply slot inbox body) seats.old seats.new answer) }
     ensures err { OnErr result (map (with_room 0) seats.new ≡ map (with_room 0) seats.old) }
     ensures puts_err { OnErr result (out.new.items ≡ out.old.items) }
     ensures back { IfErr result (λ given. given ≡ event.Reply slot inbox body) }
@@ -156,6 +158,7 @@ impl<L: Listener> Seats<L> {
         requires { MayServe (note_of L.tagged event) self.old }
         ensures ok { OnOk result (Serves (note_of L.tagged event) self.old self.new (map (put_note M.tagged) out.old.items) (map (put_note M.tagged) out.new.items)) }
         ensures kept { OnOk result (KeptWith (brought (told L.tagged L.calls L.heard L.plan) event) self.old self.new) }
+        ensures answer { IfOk result (λ answer. Answers (told L.tagged L.calls L.heard L.plan) (note_of L.tagged event) self.old self.new answer) }
         ensures err { OnErr result (map (with_room 0) self.new ≡ map (with_room 0) self.old) }
         ensures puts_err { OnErr result (out.new.items ≡ out.old.items) }
         ensures back { IfErr result (λ given. given ≡ event) }
@@ -192,7 +195,7 @@ fn take_deliver<L: Listener, M: Tagged>(
     requires { is_some (listener_in (Sub sub) seats.old) ≡ true }
     ensures ok { OnOk result (Serves (q.Deliver slot sub msg) seats.old seats.new (map (put_note M.tagged) out.old.items) (map (put_note M.tagged) out.new.items)) }
     ensures kept { OnOk result (KeptWith None seats.old seats.new) }
-    ensures muted { is_muted_in (Sub sub) seats.old ≡ true → result ≡ Ok (turn.Muted (Sub sub)) }
+    ensures answer { IfOk result (λ answer. Answers (told L.tagged L.calls L.heard L.plan) (q.Deliver slot sub msg) seats.old seats.new answer) }
     ensures err { OnErr result (map (with_room 0) seats.new ≡ map (with_room 0) seats.old) }
     ensures puts_err { OnErr result (out.new.items ≡ out.old.items) }
     ensures back { IfErr result (λ given. given ≡ event.Deliver slot sub msg) }
@@ -215,7 +218,7 @@ fn take_reply<L: Listener, M: Tagged>(
     requires { is_some (listener_in (Inbox inbox) seats.old) ≡ true }
     ensures ok { OnOk result (Serves (q.Reply slot inbox body) seats.old seats.new (map (put_note M.tagged) out.old.items) (map (put_note M.tagged) out.new.items)) }
     ensures kept { OnOk result (KeptWith None seats.old seats.new) }
-    ensures muted { is_muted_in (Inbox inbox) seats.old ≡ true → result ≡ Ok (turn.Muted (Inbox inbox)) }
+    ensures answer { IfOk result (λ answer. Answers (told L.tagged L.calls L.heard L.plan) (q.Reply slot inbox body) seats.old seats.new answer) }
     ensures err { OnErr result (map (with_room 0) seats.new ≡ map (with_room 0) seats.old) }
     ensures puts_err { OnErr result (out.new.items ≡ out.old.items) }
     ensures back { IfErr result (λ given. given ≡ event.Reply slot inbox body) }
@@ -238,7 +241,7 @@ fn take_tick<L: Listener, M: Tagged>(
     requires { is_some (listener_in (Timer timer) seats.old) ≡ true }
     ensures ok { OnOk result (Serves (q.Tick slot timer moment) seats.old seats.new (map (put_note M.tagged) out.old.items) (map (put_note M.tagged) out.new.items)) }
     ensures kept { OnOk result (KeptWith None seats.old seats.new) }
-    ensures muted { is_muted_in (Timer timer) seats.old ≡ true → result ≡ Ok (turn.Muted (Timer timer)) }
+    ensures answer { IfOk result (λ answer. Answers (told L.tagged L.calls L.heard L.plan) (q.Tick slot timer moment) seats.old seats.new answer) }
     ensures err { OnErr result (map (with_room 0) seats.new ≡ map (with_room 0) seats.old) }
     ensures puts_err { OnErr result (out.new.items ≡ out.old.items) }
     ensures back { IfErr result (λ given. given ≡ event.Tick slot timer moment) }

@@ -1,4 +1,5 @@
 ghost use Rattle.mama_dispatch.specs.Standing.{StandsAtFirst, Standing};
+ghost use Rattle.mama_dispatch.specs.Streams.{CallbacksAreStreams, SlotsAreKept};
 
 /// A law: no seats are those of an empty journal.
 pub fn no_objects_at_first()
@@ -10,4 +11,16 @@ pub fn no_objects_at_first()
 /// in the callbacks fit.
 pub fn serving_an_entry()
     ensures { Standing }
+{}
+
+/// A law: for any listeners and any list of turns, the callbacks of each object are `on_create`, then others, then
+/// `on_destroy`, or a first part of these. Nothing follows `on_destroy`.
+pub fn callbacks_are_streams()
+    ensures { CallbacksAreStreams }
+{}
+
+/// A law: where each port puts what it may, what an event brings is of the object whose block its slot is in. What was
+/// meant for a slot's former object never reaches its next.
+pub fn slots_are_kept()
+    ensures { SlotsAreKept }
 {}

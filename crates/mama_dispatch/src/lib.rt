@@ -12,9 +12,10 @@ mod serve;
 mod serving;
 mod turn;
 
-pub use laws::{no_objects_at_first, serving_an_entry};
+pub use laws::{callbacks_are_streams, no_objects_at_first, serving_an_entry, slots_are_kept};
 pub use mama_event::{CallNote, Callback, ImageHead, ObjectId, Order, Orders, QueueNote, ToQueue};
 pub use mama_listener::Listener;
+pub use row::ImageRow;
 pub use seats::Seats;
 pub use serving::Serving;
 pub use turn::{QueueOut, Turn};

@@ -6,6 +6,7 @@ ghost use Rattle.mama_dispatch.specs.Seats.{HeardIn, called_with, muted_where_li
 ghost use Rattle.mama_queue_rules.specs.Queue.{context_of};
 ghost use Rattle.mama_event.specs.declared.market.MarketMsg.{MarketMsg};
 ghost use Rattle.mama_dispatch.specs.Rows.{row_data};
+ghost use Rattle.mama_dispatch.specs.Images.{lent, image_at};
 ghost use Rattle.mama_dispatch.specs.Journals.{image_in};
 
 use crate::calling::make;
@@ -16,12 +17,11 @@ use mama_memory::{Duplicate, OutOfMemory};
 use mama_msg::Msg;
 use std::alloc::Global;
 
-/// An object that was made on a queue: the count that its listener came with, its listener until that is handed
-/// back, whether it is muted, what it knows of its image, and its callbacks.
+/// An object that was made on a queue: its listener until that is handed back, whether it is muted, what it knows of
+/// its image, and its callbacks.
 #[derive(Drop)]
 pub(crate) struct Row<L> {
     pub(crate) object: ObjectId,
-    pub(crate) came: u64,
     pub(crate) listener: Option<L>,
     pub(crate) muted: bool,
     pub(crate) context: DqContext,
@@ -116,7 +116,6 @@ pub(crate) fn new_row<L: Listener>(
 {
     Row {
         object,
-        came: listener.count(),
         listener: Some(listener),
         muted: false,
         context: context_for(alloc, make),
@@ -149,4 +148,34 @@ pub(crate) fn image_of(context: &DqContext) -> Result<Option<(ImageHead, Msg)>, 
         quality: context.quality(),
     };
     Ok(Some((head, body)))
+}
+
+/// An image that is lent: whose record it is, up to which number, how good it is, and the record itself.
+#[derive(Debug, Drop)]
+pub struct ImageRow<'a> {
+    pub head: ImageHead,
+    pub body: &'a Msg,
+}
+
+/// The image of a context, lent, if it has one.
+fn lend(context: &DqContext) -> Option<ImageRow<'_>>
+    ensures { lent result ≡ image_in context.now }
+{
+    let body = context.image()?;
+    let head = ImageHead {
+        sender: context.sender(),
+        last: context.last(),
+        quality: context.quality(),
+    };
+    Some(ImageRow { head, body })
+}
+
+/// The image of a row whose object is live, lent, if it has one.
+pub(crate) fn live_image<L: Listener>(row: &Row<L>) -> Option<ImageRow<'_>>
+    ensures { lent result ≡ image_at (row_data (told L.tagged L.calls L.heard L.plan) row.now) }
+{
+    if row.listener.is_none() {
+        return None;
+    }
+    lend(&row.context)
 }

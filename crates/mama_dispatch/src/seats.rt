@@ -2,18 +2,20 @@ ghost use Rattle.std.specs.Prelude.{◌≡◌, ◌<◌, ◌≤◌, true, false, 
 ghost use Rattle.std.specs.List.{list_any};
 ghost use Rattle.mama_event.specs.Object.{same_object};
 ghost use Rattle.mama_event.specs.declared.market.MarketMsg.{MarketMsg};
-ghost use Rattle.std.specs.Option.{option_map};
+ghost use Rattle.std.specs.Option.{option_map, option_and_then};
 ghost use Rattle.mama_event.specs.declared.ids.ObjectId.TheVariants.{Sub};
 ghost use Rattle.mama_dq.specs.Strategy.{callbacks_of};
 ghost use Rattle.mama_listener.specs.Listener.{told};
-ghost use Rattle.mama_dispatch.specs.Seats.{has_seat, AreApart, listener_in, is_muted_in, context_in, room_in, at, muted_by, muted_by_all, muted_where_live, called_with, with_listener, stepped, with_room, HeardIn};
+ghost use Rattle.mama_dispatch.specs.Seats.{has_seat, AreApart, seat_of, listener_in, is_muted_in, context_in, room_in, at, muted_by, muted_by_all, muted_where_live, called_with, with_listener, stepped, with_room, HeardIn};
 ghost use Rattle.mama_dispatch.specs.Places.{IsPlace, IsEnded, IsOpened};
 ghost use Rattle.mama_dispatch.specs.Journals.{image_in};
 ghost use Rattle.mama_dispatch.specs.Keeping.{AreFew};
 ghost use Rattle.mama_dispatch.specs.Served.{calls_at};
+ghost use Rattle.mama_dispatch.specs.Images.{lent, image_at};
 
 use crate::row::{
-    Row, image_of, make_at, most_calls, mute_at, new_row, reserve_at, step_at, take_at,
+    ImageRow, Row, image_of, live_image, make_at, most_calls, mute_at, new_row, reserve_at,
+    step_at, take_at,
 };
 use indexmap::IndexSet;
 use mama_dq::{Calls, DqContext};
@@ -131,6 +133,16 @@ impl<L: Listener> Seats<L> {
         match self.place(object) {
             Some(place) => image_of(&self.rows[place].context),
             None => Ok(None),
+        }
+    }
+
+    /// The image of a live subscription, lent, if it has one.
+    pub(crate) fn row(&self, object: &ObjectId) -> Option<ImageRow<'_>>
+        ensures { lent result ≡ option_and_then image_at (seat_of object.now self.now) }
+    {
+        match self.place(object) {
+            Some(place) => live_image(&self.rows[place]),
+            None => None,
         }
     }
 

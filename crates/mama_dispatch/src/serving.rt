@@ -1,4 +1,4 @@
-ghost use Rattle.std.specs.Prelude.{◌≡◌, ℕ, ◌==◌, ◌≤◌, Bool, true, false, List, [], ◌∷◌, ◌++◌, map, OnOk, OnErr, IfOk, IfErr, if◌then◌else◌};
+ghost use Rattle.std.specs.Prelude.{◌≡◌, ℕ, ◌==◌, ◌≤◌, Bool, true, false, List, [], ◌∷◌, ◌++◌, map, None, OnOk, OnErr, IfOk, IfErr, IfSome, if◌then◌else◌};
 ghost use Rattle.mama_event.specs.declared.ids.ObjectId.{ObjectId};
 ghost use Rattle.mama_event.specs.declared.order.Order.{Order};
 ghost use Rattle.mama_event.specs.declared.to_bridge.BridgeNote.TheVariants as bridge_note;
@@ -7,12 +7,24 @@ ghost use Rattle.mama_event.specs.declared.to_queue.ToQueue.TheVariants as event
 ghost use Rattle.mama_event.specs.declared.to_queue.QueueNote.TheVariants as note;
 ghost use Rattle.mama_event.specs.ToQueue.{note_of};
 ghost use Rattle.mama_listener.specs.Listener.{told};
-ghost use Rattle.mama_queue_rules.specs.Queue.{deeds, is_fin, to_bridge, to_timers, queue_puts_at};
-ghost use Rattle.mama_dispatch.specs.Journals.{may_come, notes_of, context_after, image_in};
+ghost use Rattle.mama_queue_rules.specs.Queue.{deeds, is_fin, messages_of, to_bridge, to_timers, queue_puts_at};
+ghost use Rattle.mama_dispatch.specs.Journals.{is_live_here, may_come, notes_of, context_after, image_in};
 ghost use Rattle.mama_dispatch.specs.Seats.{Fits};
 ghost use Rattle.mama_dispatch.specs.Keeping.{brought, ComesPlanned, ArePlanned};
 ghost use Rattle.mama_dispatch.specs.Turns.{put_note};
+ghost use Rattle.mama_journal.specs.Journal.{count_of};
+ghost use Rattle.mama_listener.specs.Listener.{ListenerData};
+ghost use Rattle.mama_dispatch.specs.declared.turn.Turn.TheVariants as turn;
+ghost use Rattle.mama_dispatch.specs.Served.{calls_at};
+ghost use Rattle.mama_dispatch.specs.Hearing.{HaveHeard, ComesAs};
+ghost use Rattle.mama_dispatch.specs.Answering.{AnswersTo};
+ghost use Rattle.std.specs.List.{AllByRecursion};
+ghost use Rattle.mama_msg.specs.Field.{FieldData};
+ghost use Rattle.mama_event.specs.declared.ids.ObjectId.TheVariants.{Sub};
+ghost use Rattle.mama_event.specs.Record.{IsGenuine};
+ghost use Rattle.mama_dispatch.specs.Images.{lent, IsRecord};
 
+use crate::row::ImageRow;
 use crate::seats::Seats;
 use crate::turn::{QueueOut, Turn};
 use mama_event::{
@@ -103,6 +115,10 @@ impl<L: Listener> Serving<L> {
     /// Takes the next event of a port: makes its callbacks one by one, and puts what follows from them at the end of
     /// `out`. The second Fin says Bye to the bridge and to the timer service.
     ///
+    /// The answer is how many callbacks were made of the event's object, or that it was muted before. A Gone hands the
+    /// object's listener back, which has heard all callbacks of its object. A Fin is answered with Running, and the
+    /// second with Finished.
+    ///
     /// All memory is taken before the first callback. Where none is found the event is given back, no callback was
     /// made, and all is as before.
     pub fn turn<M: Tagged>(
@@ -116,6 +132,9 @@ impl<L: Listener> Serving<L> {
         ensures queue { self.new.queue ≡ self.old.queue }
         ensures puts { OnOk result ((orders : ObjectId → ℕ → List Order) → Fits orders self.new.seats → map (put_note M.tagged) out.new.items ≡ map (put_note M.tagged) out.old.items ++ queue_puts_at orders self.old.journal (port, note_of L.tagged event)) }
         ensures fits { OnOk result ((orders : ObjectId → ℕ → List Order) → Fits orders self.new.seats → Fits orders self.old.seats) }
+        ensures answer { IfOk result (λ answer. (orders : ObjectId → ℕ → List Order) → Fits orders self.new.seats → AnswersTo (told L.tagged L.calls L.heard L.plan) orders self.old.seats self.old.journal (deeds orders self.old.journal) (note_of L.tagged event) answer) }
+        ensures calls { OnOk result ((orders : ObjectId → ℕ → List Order) → Fits orders self.new.seats → (o : ObjectId) → calls_at o self.new.seats ≡ notes_of o (deeds orders self.new.journal)) }
+        ensures heard { OnOk result ((came : ObjectId → ListenerData) → ComesAs came (brought (told L.tagged L.calls L.heard L.plan) event) → HaveHeard came self.old.seats → HaveHeard came self.new.seats) }
         ensures planned { OnOk result ((orders : ObjectId → ℕ → List Order) → ComesPlanned orders (brought (told L.tagged L.calls L.heard L.plan) event) → ArePlanned orders self.old.seats → ArePlanned orders self.new.seats) }
         ensures err { OnErr result (self.new ≡ self.old) }
         ensures puts_err { OnErr result (out.new.items ≡ out.old.items) }
@@ -145,6 +164,9 @@ impl<L: Listener> Serving<L> {
         ensures queue { self.new.queue ≡ self.old.queue }
         ensures puts { OnOk result ((orders : ObjectId → ℕ → List Order) → Fits orders self.new.seats → map (put_note M.tagged) out.new.items ≡ map (put_note M.tagged) out.old.items ++ queue_puts_at orders self.old.journal (port, note_of L.tagged event)) }
         ensures fits { OnOk result ((orders : ObjectId → ℕ → List Order) → Fits orders self.new.seats → Fits orders self.old.seats) }
+        ensures answer { IfOk result (λ answer. (orders : ObjectId → ℕ → List Order) → Fits orders self.new.seats → AnswersTo (told L.tagged L.calls L.heard L.plan) orders self.old.seats self.old.journal (deeds orders self.old.journal) (note_of L.tagged event) answer) }
+        ensures calls { OnOk result ((orders : ObjectId → ℕ → List Order) → Fits orders self.new.seats → (o : ObjectId) → calls_at o self.new.seats ≡ notes_of o (deeds orders self.new.journal)) }
+        ensures heard { OnOk result ((came : ObjectId → ListenerData) → ComesAs came (brought (told L.tagged L.calls L.heard L.plan) event) → HaveHeard came self.old.seats → HaveHeard came self.new.seats) }
         ensures planned { OnOk result ((orders : ObjectId → ℕ → List Order) → ComesPlanned orders (brought (told L.tagged L.calls L.heard L.plan) event) → ArePlanned orders self.old.seats → ArePlanned orders self.new.seats) }
         ensures err { OnErr result (self.new ≡ self.old) }
         ensures puts_err { OnErr result (out.new.items ≡ out.old.items) }
@@ -173,6 +195,8 @@ impl<L: Listener> Serving<L> {
         ensures journal { OnOk result (self.new.journal ≡ self.old.journal ++ (port, note.Fin) ∷ []) }
         ensures queue { self.new.queue ≡ self.old.queue }
         ensures seats { self.new.seats ≡ self.old.seats }
+        ensures answer { IfOk result (λ answer. answer ≡ (if count_of is_fin self.old.journal == 1 then turn.Finished else turn.Running)) }
+        ensures calls { OnOk result ((orders : ObjectId → ℕ → List Order) → Fits orders self.new.seats → (o : ObjectId) → calls_at o self.new.seats ≡ notes_of o (deeds orders self.new.journal)) }
         ensures puts { OnOk result ((orders : ObjectId → ℕ → List Order) → map (put_note M.tagged) out.new.items ≡ map (put_note M.tagged) out.old.items ++ queue_puts_at orders self.old.journal (port, note.Fin)) }
         ensures err { OnErr result (self.new ≡ self.old) }
         ensures puts_err { OnErr result (out.new.items ≡ out.old.items) }
@@ -206,6 +230,18 @@ impl<L: Listener> Serving<L> {
         self.seats.image(&ObjectId::Sub(sub))
     }
 
+    /// The image of a live subscription, lent. None where the subscription is not live here or has no image. It takes
+    /// no memory.
+    ///
+    /// An image that is ok is its sender's record at its number, if all messages that the subscription handled are
+    /// genuine.
+    pub fn row(&self, sub: SubId) -> Option<ImageRow<'_>>
+        ensures row { (orders : ObjectId → ℕ → List Order) → Fits orders self.now.seats → lent result ≡ (if is_live_here (Sub sub) self.now.journal then image_in (context_after orders self.now.journal sub) else None) }
+        ensures record { (orders : ObjectId → ℕ → List Order) (bases : ℕ → List FieldData) (updates : ℕ → List (List FieldData)) → Fits orders self.now.seats → AllByRecursion (IsGenuine bases updates) (messages_of sub (deeds orders self.now.journal)) → IfSome (lent result) (λ image. IsRecord bases updates image) }
+    {
+        self.seats.row(&ObjectId::Sub(sub))
+    }
+
     /// What it took, each event with its port.
     pub fn into_journal(self) -> Vec<(u32, QueueNote)>
         ensures { result.items ≡ self.journal }
@@ -233,7 +269,9 @@ fn put_byes<M: Tagged>(is_time: bool, out: &mut Outbox<QueueOut<M>>)
 }
 
 /// What a turn with a Fin was.
-fn ended<L>(is_second: bool) -> Turn<L> {
+fn ended<L>(is_second: bool) -> Turn<L>
+    ensures { result ≡ (if is_second then turn.Finished else turn.Running) }
+{
     if is_second {
         Turn::Finished
     } else {

@@ -1,8 +1,10 @@
+use Rattle.mama_listener.specs.Listener.{told}
 use Rattle.std.proofs.Common.{refl}
 use Rattle.mama_event.specs.declared.ids.ObjectId.TheVariants.{Inbox}
 use Rattle.mama_event.specs.declared.callback.Callback.TheVariants as on
 use Rattle.mama_event.specs.declared.to_queue.QueueNote.TheVariants as q
 use Rattle.mama_dispatch.proofs.ServeLemmas.{serves_told}
+use Rattle.mama_dispatch.proofs.AnswerLemmas.{answers_replied}
 use Rattle.mama_dispatch.proofs.KeepLemmas.{kept_with}
 use Rattle.mama_dispatch.proofs.entries.serve_reply.Goals as goal
 
@@ -12,3 +14,6 @@ returns-in-Ok-clause-ok g c = serves_told (q.Reply c.args.slot c.args.inbox c.ar
 
 pub returns-in-Ok-clause-kept : goal.returns-in-Ok-clause-kept
 returns-in-Ok-clause-kept g c = kept_with c.args.seats.now c.tell.new.self c.in-Ok.ensures.kept
+
+pub returns-in-Ok-clause-answer : goal.returns-in-Ok-clause-answer
+returns-in-Ok-clause-answer g c = answers_replied (told g.L.Tagged.tagged g.L.Listener.calls g.L.Listener.heard g.L.Listener.plan) c.args.slot c.args.inbox c.args.body c.args.seats.now c.tell.new.self c.requires.here c.requires.unmuted

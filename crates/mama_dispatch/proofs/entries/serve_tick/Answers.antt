@@ -1,9 +1,11 @@
+use Rattle.mama_listener.specs.Listener.{told}
 use Rattle.std.proofs.Common.{refl, sym, ◌∙◌}
 use Rattle.mama_dispatch.proofs.PlaceLemmas.{on_ok}
 use Rattle.mama_event.specs.declared.ids.ObjectId.TheVariants.{Timer}
 use Rattle.mama_event.specs.declared.callback.Callback.TheVariants as on
 use Rattle.mama_event.specs.declared.to_queue.QueueNote.TheVariants as q
 use Rattle.mama_dispatch.proofs.ServeLemmas.{serves_told}
+use Rattle.mama_dispatch.proofs.AnswerLemmas.{answers_ticked}
 use Rattle.mama_dispatch.proofs.KeepLemmas.{kept_with}
 use Rattle.mama_dispatch.proofs.entries.serve_tick.Goals as goal
 
@@ -15,3 +17,6 @@ returns-then-is_ok-clause-ok g c =
 
 pub returns-then-is_ok-clause-kept : goal.returns-then-is_ok-clause-kept
 returns-then-is_ok-clause-kept g c = kept_with c.args.seats.now c.tell-told.new.self (on_ok c.tell-told.result (sym c.is_ok.ensures.value ∙ c.if-is_ok.true) c.tell-told.ensures.kept)
+
+pub returns-then-is_ok-clause-answer : goal.returns-then-is_ok-clause-answer
+returns-then-is_ok-clause-answer g c = answers_ticked (told g.L.Tagged.tagged g.L.Listener.calls g.L.Listener.heard g.L.Listener.plan) c.args.slot c.args.timer c.args.moment c.args.seats.now c.tell-told.new.self c.requires.here c.requires.unmuted

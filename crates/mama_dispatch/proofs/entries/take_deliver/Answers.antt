@@ -1,8 +1,10 @@
+use Rattle.mama_listener.specs.Listener.{told}
 use Rattle.std.proofs.Common.{refl, sym, ◌∙◌}
 use Rattle.mama_event.specs.declared.ids.ObjectId.TheVariants.{Timer, Inbox}
 use Rattle.mama_event.specs.declared.callback.Callback.TheVariants as on
 use Rattle.mama_event.specs.declared.to_queue.QueueNote.TheVariants as q
 use Rattle.mama_dispatch.proofs.ServeLemmas.{serves_undelivered, serves_untold}
+use Rattle.mama_dispatch.proofs.AnswerLemmas.{mutes_delivered}
 use Rattle.mama_dispatch.proofs.KeepLemmas.{kept_with, kept_same}
 use Rattle.mama_dispatch.proofs.entries.take_deliver.Goals as goal
 
@@ -11,3 +13,6 @@ returns-then-is_muted-clause-ok g c = serves_undelivered c.args.slot c.args.sub 
 
 pub returns-then-is_muted-clause-kept : goal.returns-then-is_muted-clause-kept
 returns-then-is_muted-clause-kept g c = kept_with c.args.seats.now c.args.seats.now (kept_same c.args.seats.now)
+
+pub returns-then-is_muted-clause-answer : goal.returns-then-is_muted-clause-answer
+returns-then-is_muted-clause-answer g c = mutes_delivered (told g.L.Tagged.tagged g.L.Listener.calls g.L.Listener.heard g.L.Listener.plan) c.args.slot c.args.sub c.args.msg c.args.seats.now c.requires (sym c.is_muted.ensures ∙ c.if-is_muted.true)

@@ -14,7 +14,7 @@ use Rattle.mama_dispatch.specs.Standing.{Serves}
 use Rattle.mama_dispatch.specs.Keeping.{brought, ComesPlanned, ArePlanned, KeptWith}
 use Rattle.mama_dispatch.specs.Served.{Served, told_seats, IsServed}
 use Rattle.mama_dispatch.specs.Turns.{put_note}
-use Rattle.mama_dispatch.proofs.ServingLemmas.{fits_told, fits_untold, planned_told, planned_untold, served_roomy, served_next, served_fin, puts_next, may_serve, born_there, here_there, served_as, no_journal, calls_there, context_there}
+use Rattle.mama_dispatch.proofs.ServingLemmas.{calls_served, fits_told, fits_untold, planned_told, planned_untold, served_roomy, served_next, served_fin, puts_next, may_serve, born_there, here_there, served_as, no_journal, calls_there, context_there}
 use Rattle.mama_dispatch.proofs.serving.Serving.finish.Goals as goal
 
 pub invariant_of-self-2 : goal.invariant_of-self-2
@@ -26,3 +26,6 @@ invariant_of-self-2 g c =
     subst (λ (j : List (ℕ × QueueNote)). IsServed j c.in-Some.fins c.self.inside.seats) (sym grown)
     (subst (λ (n : ℕ). IsServed (items ++ (c.args.port, note.Fin) ∷ []) n c.self.inside.seats) (sym count)
     (served_fin items c.self.inside.fins c.args.port c.self.inside.seats c.self.invariant))
+
+pub returns-clause-calls : goal.returns-clause-calls
+returns-clause-calls g c = calls_served c.push_reserved.new.self.items c.in-Some.fins c.self.inside.seats (invariant_of-self-2 g c)

@@ -12,9 +12,11 @@ use Rattle.mama_dispatch.specs.Journals.{is_born, is_live_here, may_come, notes_
 use Rattle.mama_dispatch.specs.Seats.{SeatData, Fits}
 use Rattle.mama_dispatch.specs.Standing.{Serves}
 use Rattle.mama_dispatch.specs.Keeping.{brought, ComesPlanned, ArePlanned, KeptWith}
-use Rattle.mama_dispatch.specs.Served.{Served, told_seats, IsServed}
+use Rattle.mama_dispatch.specs.Answering.{AnswersTo}
+use Rattle.mama_dispatch.specs.Hearing.{HaveHeard}
+use Rattle.mama_dispatch.specs.Served.{calls_at, Served, told_seats, IsServed}
 use Rattle.mama_dispatch.specs.Turns.{put_note}
-use Rattle.mama_dispatch.proofs.ServingLemmas.{fits_told, fits_untold, planned_told, planned_untold, served_roomy, served_next, served_fin, puts_next, may_serve, born_there, here_there, served_as, no_journal, calls_there, context_there}
+use Rattle.mama_dispatch.proofs.ServingLemmas.{answers_told, calls_served, heard_told, heard_untold, fits_told, fits_untold, planned_told, planned_untold, served_roomy, served_next, served_fin, puts_next, may_serve, born_there, here_there, served_as, no_journal, calls_there, context_there}
 use Rattle.mama_dispatch.proofs.serving.Serving.serve.Goals as goal
 
 pub serve-requires : goal.serve-requires
@@ -62,3 +64,22 @@ returns-in-Ok-clause-planned g c = λ orders comes planned.
     planned_told orders c.serve.new.self
     (c.in-Ok.ensures.kept.planned orders c.apart.ensures c.few.ensures comes
     (planned_untold orders c.self.inside.seats (subst (λ (s : Served). ArePlanned orders s.seats) (sym c.self.view_is) planned)))
+
+pub returns-in-Ok-clause-answer : goal.returns-in-Ok-clause-answer
+returns-in-Ok-clause-answer g c = λ orders fits.
+    let of : QueueNote = note_of g.L.Tagged.tagged c.args.event in
+    subst (λ (s : Served). AnswersTo (told g.L.Tagged.tagged g.L.Listener.calls g.L.Listener.heard g.L.Listener.plan) orders s.seats s.journal (deeds orders s.journal) of c.in-Ok.turn) c.self.view_is
+    (answers_told (told g.L.Tagged.tagged g.L.Listener.calls g.L.Listener.heard g.L.Listener.plan) orders c.self.inside.seats c.self.inside.journal.items (deeds orders c.self.inside.journal.items) of c.in-Ok.turn
+    (c.in-Ok.ensures.answer orders c.self.inside.journal.items (deeds orders c.self.inside.journal.items)
+    (ap (λ (n : QueueNote). is_fin (0, n)) (sym c.requires.noted) ∙ c.requires.middle) c.apart.ensures
+    (fits_untold orders c.serve.new.self fits)
+    (c.self.invariant.stands orders (c.in-Ok.ensures.ok.fits orders (fits_untold orders c.serve.new.self fits)))))
+
+pub returns-in-Ok-clause-heard : goal.returns-in-Ok-clause-heard
+returns-in-Ok-clause-heard g c = λ came comes heard.
+    heard_told came c.serve.new.self
+    (c.in-Ok.ensures.kept.heard came c.apart.ensures comes
+    (heard_untold came c.self.inside.seats (subst (λ (s : Served). HaveHeard came s.seats) (sym c.self.view_is) heard)))
+
+pub returns-in-Ok-clause-calls : goal.returns-in-Ok-clause-calls
+returns-in-Ok-clause-calls g c = calls_served c.push_reserved.new.self.items c.self.inside.fins c.serve.new.self (invariant_of-self-in-Ok g c)
