@@ -1,3 +1,5 @@
 pub mod ListLemmas
 pub mod StandLemmas
+pub mod ReadingLemmas
+pub mod MomentRows
 pub mod SenderLemmas

@@ -1,10 +1,11 @@
 -- A client's seat: where the client stands in its lines, and the moments that it has read.
-use Rattle.std.specs.Prelude.{◌≡◌, ℕ, ◌+◌, Bool, true, false, List, [], ◌∷◌, ◌++◌, length, drop, replicate}
+use Rattle.std.specs.Prelude.{◌≡◌, ℕ, ◌+◌, Bool, true, false, List, [], ◌∷◌, ◌++◌, length, drop, replicate, Option}
 use Rattle.mama_script.specs.declared.client.ClientLine.{ClientLine}
 use Rattle.mama_queue_rules.specs.Queue.{QueuePut}
 use Rattle.mama_rounds.specs.Client.{Standing, steps_from, clock_lines}
 use Rattle.mama_seats.specs.declared.names.Names.{Names}
 use Rattle.mama_seats.specs.Names.{standing_of}
+use Rattle.mama_seats.specs.Moments.{Answered, client_reads}
 use Rattle.mama_seats.specs.Sender.{first_step, later_steps}
 
 -- the client's number, how many queues there are, whether it is done, how many steps it still pauses, what it has
@@ -22,7 +23,7 @@ pub record Stand : Type 0 where
 abbrev pub standing_in : List ℕ → Stand → Standing
 standing_in moments s = standing_of s.names (drop (length s.read) moments)
 
-abbrev pub left_after : Bool → ℕ → List (List QueuePut) → List (List QueuePut)
+abbrev pub left_after : {E : Type 0} → Bool → ℕ → List (List E) → List (List E)
 left_after true pause steps = []
 left_after false pause steps = replicate pause [] ++ steps
 
@@ -38,6 +39,10 @@ BeginsWith front whole = (rest : List ℕ) × (front ++ rest ≡ whole)
 abbrev pub reading : Stand → ℕ
 reading s = length s.read + clock_lines s.lines
 
+-- what it has still to read, step by step, if these are all the moments that it will have read in the end
+abbrev pub still_read : List ℕ → Stand → List (List ℕ)
+still_read moments s = left_after s.over s.pause (client_reads (drop (length s.read) moments) s.lines)
+
 -- one that is done has no lines left
 abbrev pub Ends : Stand → Type 0
 Ends s = s.over ≡ true → s.lines ≡ []
@@ -52,3 +57,11 @@ pub record IsStep (old new : Stand) (puts : List QueuePut) : Type 0 where
   pub left : (moments : List ℕ) → BeginsWith new.read moments → client_left moments new ≡ later_steps (client_left moments old)
   pub told : reading new ≡ reading old
   pub ends : Ends old → Ends new
+
+-- A client made its next step, whatever its clock will tell later: the clock answered what the step reads, which is one
+-- moment where the step does a line that reads the clock, and else was not called.
+pub record IsReading (told left : Option (List ℕ)) (old new : Stand) : Type 0 where
+  pub heard : List ℕ
+  pub answered : Answered told left heard
+  pub step : (moments : List ℕ) → BeginsWith new.read moments → heard ≡ first_step (still_read moments old)
+  pub later : (moments : List ℕ) → BeginsWith new.read moments → still_read moments new ≡ later_steps (still_read moments old)

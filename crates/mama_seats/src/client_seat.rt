@@ -1,8 +1,8 @@
-ghost use Rattle.std.specs.Prelude.{◌≡◌, ◌+◌, ◌-◌, ◌^◌, ◌<◌, List, ℕ, Bool, true, false, ◌||◌, nat_le, [], ◌∷◌, ◌++◌, map, IfOk, OnOk};
+ghost use Rattle.std.specs.Prelude.{◌≡◌, ◌+◌, ◌-◌, ◌^◌, ◌<◌, List, ℕ, Bool, true, false, ◌||◌, nat_le, [], ◌∷◌, ◌++◌, map, None, Some, if◌then◌else◌, IfOk, OnOk};
 ghost use Rattle.mama_event.specs.declared.to_bridge.BridgeNote.TheVariants as bridge;
 ghost use Rattle.mama_event.specs.declared.to_timers.TimersNote.TheVariants as timers;
 ghost use Rattle.mama_queue_rules.specs.Queue.{to_bridge, to_timers};
-ghost use Rattle.mama_seats.specs.Stand.{IsStep};
+ghost use Rattle.mama_seats.specs.Stand.{IsStep, IsReading};
 ghost use Rattle.mama_queue_seat.specs.Put.{note_of, notes_of};
 
 use crate::names::Names;
@@ -64,7 +64,9 @@ impl<'a> ClientSeat<'a> {
     }
 
     /// How many steps it still pauses; none where it is over.
-    pub fn pause(&self) -> Option<u32> {
+    pub fn pause(&self) -> Option<u32>
+        ensures { result ≡ if self.now.over then None else Some self.now.pause }
+    {
         if self.over { None } else { Some(self.pause) }
     }
 
@@ -89,10 +91,12 @@ impl<'a> ClientSeat<'a> {
         self.moments
     }
 
-    /// Makes the next step, and gives what it puts: nothing during a pause and after the last step. The error is want
-    /// of memory, or a number that no accepted script reaches.
+    /// Makes the next step, and gives what it puts: nothing during a pause and after the last step. A line that reads
+    /// the clock calls it once, and no other step calls it. The error is want of memory, or a number that no accepted
+    /// script reaches.
     pub fn step<C: Clock>(&mut self, clock: &mut C) -> Result<Outbox<Put>, OutOfMemory>
-        ensures { IfOk result (λ out. IsStep self.old self.new (notes_of out.items)) }
+        ensures step { IfOk result (λ out. IsStep self.old self.new (notes_of out.items)) }
+        ensures clock { OnOk result (IsReading (C.left clock.old) (C.left clock.new) self.old self.new) }
     {
         if self.over {
             return Ok(Outbox::new(self.alloc));

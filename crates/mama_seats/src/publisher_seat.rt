@@ -1,4 +1,4 @@
-ghost use Rattle.std.specs.Prelude.{◌≡◌, ◌+◌, ◌-◌, ◌^◌, ◌<◌, List, [], ◌∷◌, ◌++◌, map, false, ◌||◌, nat_le, IfOk, OnOk, vec_len};
+ghost use Rattle.std.specs.Prelude.{◌≡◌, ◌+◌, ◌-◌, ◌^◌, ◌<◌, List, [], ◌∷◌, ◌++◌, map, false, ◌||◌, nat_le, None, Some, if◌then◌else◌, IfOk, OnOk, vec_len};
 ghost use Rattle.std.specs.Vec.{vec_capacity};
 ghost use Rattle.mama_event.specs.declared.publisher_entry.PublisherEntry.{PublisherEntry};
 ghost use Rattle.mama_event.specs.ToBridge.{note_of};
@@ -119,7 +119,9 @@ impl<'a> PublisherSeat<'a> {
     }
 
     /// How many steps it still pauses; none where it is over.
-    pub fn pause(&self) -> Option<u32> {
+    pub fn pause(&self) -> Option<u32>
+        ensures { result ≡ if self.now.over then None else Some self.now.pause }
+    {
         if self.over { None } else { Some(self.pause) }
     }
 
