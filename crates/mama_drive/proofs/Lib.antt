@@ -8,3 +8,4 @@ pub mod StartLemmas
 pub mod RecordLemmas
 pub mod RecordingLemmas
 pub mod RestLemmas
+pub mod ClockLemmas

@@ -20,7 +20,7 @@ use Rattle.mama_drive.specs.Record.{read_in, recorded, calls_by, images_by}
 use Rattle.mama_drive.proofs.LaneLemmas.{append_nil}
 
 -- what the clients have read begins what they have read
-own_reads : (cs : List Stand) → AreMoments (map read_in cs) cs
+pub own_reads : (cs : List Stand) → AreMoments (map read_in cs) cs
 own_reads [] = tt
 own_reads (c ∷ cs) = (([], append_nil c.read), own_reads cs)
 

@@ -122,7 +122,7 @@ drop_none : {E : Type 0} → (xs : List (List (List E))) → map (drop 0) xs ≡
 drop_none [] = refl
 drop_none (x ∷ xs) = ap (λ l. x ∷ l) (drop_none xs)
 
-drop-nil : {A : Type 0} → (n : ℕ) → let none : List A = [] in drop n none ≡ none
+pub drop-nil : {A : Type 0} → (n : ℕ) → let none : List A = [] in drop n none ≡ none
 drop-nil zero = refl
 drop-nil (suc n) = refl
 
@@ -153,17 +153,17 @@ rounds_rest setting s (suc n) quiet clients publishers idle still =
 
 -- PAUSES
 
-drop_pause : {E : Type 0} → (k p : ℕ) (steps : List (List E)) → k ≤ p → drop k (replicate p [] ++ steps) ≡ replicate (p - k) [] ++ steps
+pub drop_pause : {E : Type 0} → (k p : ℕ) (steps : List (List E)) → k ≤ p → drop k (replicate p [] ++ steps) ≡ replicate (p - k) [] ++ steps
 drop_pause zero p steps h = ap (λ n. replicate n [] ++ steps) (let e : p ≡ p - 0 = omega arith in e)
 drop_pause (suc k) zero steps h = absurd (omega arith)
 drop_pause (suc k) (suc p) steps h = drop_pause k p steps (omega arith) ∙ ap (λ n. replicate n [] ++ steps) (let e : p - k ≡ suc p - suc k = omega arith in e)
 
-first_pause : {E : Type 0} → (j p : ℕ) (steps : List (List E)) → j < p → first_step (drop j (replicate p [] ++ steps)) ≡ []
+pub first_pause : {E : Type 0} → (j p : ℕ) (steps : List (List E)) → j < p → first_step (drop j (replicate p [] ++ steps)) ≡ []
 first_pause j zero steps h = absurd (omega arith)
 first_pause zero (suc p) steps h = refl
 first_pause (suc j) (suc p) steps h = first_pause j p steps (omega arith)
 
-within_pause : (k p : ℕ) → nat_le k p ≡ true → k ≤ p
+pub within_pause : (k p : ℕ) → nat_le k p ≡ true → k ≤ p
 within_pause k p h = grind (arith, common_steps)
 
 -- a client
@@ -201,11 +201,11 @@ sender_idle k p j h below = by_test p.over h
         let fits : k ≤ p.pause = within_pause k p.pause e in
         first_pause j p.pause (publisher_steps p.lines) (omega arith)
 
-first_of_both : (a b : Bool) → (a && b) ≡ true → a ≡ true
+pub first_of_both : (a b : Bool) → (a && b) ≡ true → a ≡ true
 first_of_both true b h = refl
 first_of_both false b h = h
 
-second_of_both : (a b : Bool) → (a && b) ≡ true → b ≡ true
+pub second_of_both : (a b : Bool) → (a && b) ≡ true → b ≡ true
 second_of_both true b h = h
 second_of_both false b h = cc
 

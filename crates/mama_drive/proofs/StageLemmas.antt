@@ -31,7 +31,7 @@ moments_at (m ∷ ms) (x ∷ cs) zero d h within = h.0
 moments_at (m ∷ ms) (x ∷ cs) (suc c) d h within = moments_at ms cs c d h.1 (omega arith)
 
 -- what begins with what a client has read later begins with what it had read
-moments_before : (ms : List (List ℕ)) (cs : List Stand) (c : ℕ) (d new : Stand) → AreMoments ms (set cs c new) → BeginsWith (get_or cs c d).read new.read → AreMoments ms cs
+pub moments_before : (ms : List (List ℕ)) (cs : List Stand) (c : ℕ) (d new : Stand) → AreMoments ms (set cs c new) → BeginsWith (get_or cs c d).read new.read → AreMoments ms cs
 moments_before [] [] c d new h grows = tt
 moments_before [] (x ∷ cs) zero d new h grows = absurd h
 moments_before [] (x ∷ cs) (suc c) d new h grows = absurd h
@@ -70,7 +70,7 @@ ends_set [] c d new keeps h = tt
 ends_set (x ∷ cs) zero d new keeps h = (keeps h.0, h.1)
 ends_set (x ∷ cs) (suc c) d new keeps h = (h.0, ends_set cs c d new keeps h.1)
 
-own_moments : (ms : List (List ℕ)) (cs : List Stand) (c : ℕ) (new : Stand) → c < length cs → AreMoments ms (set cs c new) → BeginsWith new.read (get_or ms c [])
+pub own_moments : (ms : List (List ℕ)) (cs : List Stand) (c : ℕ) (new : Stand) → c < length cs → AreMoments ms (set cs c new) → BeginsWith new.read (get_or ms c [])
 own_moments [] [] c new within h = absurd (omega arith)
 own_moments [] (x ∷ cs) zero new within h = absurd h
 own_moments [] (x ∷ cs) (suc c) new within h = absurd h

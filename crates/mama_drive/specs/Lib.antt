@@ -1,4 +1,5 @@
 pub mod Entry
 pub mod Scene
+pub mod Heard
 pub mod Start
 pub mod Record

@@ -2,6 +2,7 @@ ghost use Rattle.std.specs.Prelude.{◌≡◌, ◌<◌, ◌||◌, nat_le, length
 ghost use Rattle.std.specs.List.{list_all};
 ghost use Rattle.mama_event.specs.Ports.{clients_of, publishers_of};
 ghost use Rattle.mama_rounds.specs.Stage as stage;
+ghost use Rattle.mama_drive.specs.Heard.{Hears, StepRead, StepsRead, RoundsRead, HearsRounds};
 ghost use Rattle.mama_drive.specs.Scene.{Advances, SteppedOut, SteppedAll, Drains, Rounds, Plays, CanRest, rested_stand, rested_sender, IsPlayed};
 
 use crate::system::{System, append_to_bridge, count_of, port_from};
@@ -26,7 +27,8 @@ impl<'a> System<'a> {
     /// A client makes its next step, if it has one, and everything is drained.
     fn client_step<C: Clock>(&mut self, number: u32, clock: &mut C) -> Result<(), OutOfMemory>
         requires { number < length self.old.clients }
-        ensures { OnOk result (Advances (SteppedOut stage.client_step number) self.old self.new) }
+        ensures step { OnOk result (Advances (SteppedOut stage.client_step number) self.old self.new) }
+        ensures clock { OnOk result (Hears (StepRead number) (C.left clock.old) (C.left clock.new) self.old.clients self.new.clients) }
     {
         let seat = &mut self.clients[number as usize];
         let puts = seat.step(clock)?;
@@ -36,7 +38,8 @@ impl<'a> System<'a> {
 
     /// Each client makes its next step, and everything is drained after each.
     fn client_steps<C: Clock>(&mut self, clock: &mut C) -> Result<(), OutOfMemory>
-        ensures { OnOk result (Advances (SteppedAll stage.client_step (clients_of self.old.shape)) self.old self.new) }
+        ensures steps { OnOk result (Advances (SteppedAll stage.client_step (clients_of self.old.shape)) self.old self.new) }
+        ensures clock { OnOk result (Hears (StepsRead (length self.old.clients)) (C.left clock.old) (C.left clock.new) self.old.clients self.new.clients) }
     {
         let count = count_of(self.clients.len())?;
         for number in 0..count {
@@ -48,7 +51,8 @@ impl<'a> System<'a> {
     /// A publisher makes its next step, if it has one, and everything is drained.
     fn publisher_step(&mut self, number: u32) -> Result<(), OutOfMemory>
         requires { number < length self.old.senders }
-        ensures { OnOk result (Advances (SteppedOut stage.publisher_step number) self.old self.new) }
+        ensures step { OnOk result (Advances (SteppedOut stage.publisher_step number) self.old self.new) }
+        ensures clients { OnOk result (self.new.clients ≡ self.old.clients) }
     {
         let port = port_from(self.shape.clients, number)?;
         // A step leaves the lane as it is, and so the mark, but nothing is known of it where no memory is found.
@@ -63,7 +67,8 @@ impl<'a> System<'a> {
 
     /// Each publisher makes its next step, and everything is drained after each.
     fn publisher_steps(&mut self) -> Result<(), OutOfMemory>
-        ensures { OnOk result (Advances (SteppedAll stage.publisher_step (publishers_of self.old.shape)) self.old self.new) }
+        ensures steps { OnOk result (Advances (SteppedAll stage.publisher_step (publishers_of self.old.shape)) self.old self.new) }
+        ensures clients { OnOk result (self.new.clients ≡ self.old.clients) }
     {
         let count = count_of(self.publishers.len())?;
         for number in 0..count {
@@ -74,7 +79,8 @@ impl<'a> System<'a> {
 
     /// One round: each client makes a step, and then each publisher, and everything is drained after each step.
     fn round<C: Clock>(&mut self, clock: &mut C) -> Result<(), OutOfMemory>
-        ensures { OnOk result (Advances stage.IsOneRound self.old self.new) }
+        ensures round { OnOk result (Advances stage.IsOneRound self.old self.new) }
+        ensures clock { OnOk result (Hears (RoundsRead 1) (C.left clock.old) (C.left clock.new) self.old.clients self.new.clients) }
     {
         self.client_steps(clock)?;
         self.publisher_steps()
@@ -119,7 +125,8 @@ impl<'a> System<'a> {
     /// Makes as many rounds, in which nothing happens.
     fn rest(&mut self, rounds: u32)
         requires { CanRest rounds self.old }
-        ensures { Advances (Rounds rounds) self.old self.new }
+        ensures rounds { Advances (Rounds rounds) self.old self.new }
+        ensures clients { self.new.clients ≡ map (rested_stand rounds) self.old.clients }
     {
         rest_clients(&mut self.clients, rounds);
         rest_publishers(&mut self.publishers, rounds);
@@ -127,7 +134,8 @@ impl<'a> System<'a> {
 
     /// Makes the next round, or at once all those in which every client and every publisher pauses.
     fn advance<C: Clock>(&mut self, clock: &mut C) -> Result<(), OutOfMemory>
-        ensures { OnOk result (Plays self.old self.new) }
+        ensures rounds { OnOk result (Plays self.old self.new) }
+        ensures clock { OnOk result (HearsRounds (C.left clock.old) (C.left clock.new) self.old.clients self.new.clients) }
     {
         let rounds = self.pause();
         if rounds > 0 && self.can_rest(rounds) {
@@ -140,6 +148,7 @@ impl<'a> System<'a> {
     /// Rounds, until every client and every publisher has made all its steps.
     pub fn play<C: Clock>(&mut self, clock: &mut C) -> Result<(), OutOfMemory>
         ensures rounds { OnOk result (Plays self.old self.new) }
+        ensures clock { OnOk result (HearsRounds (C.left clock.old) (C.left clock.new) self.old.clients self.new.clients) }
         ensures played { OnOk result (IsPlayed self.new) }
     {
         for _ in 0..u64::MAX {

@@ -1,6 +1,10 @@
+use Rattle.std.proofs.Common.{◌≡◌}
 use Rattle.mama_rounds.specs.Stage.{publisher_step}
 use Rattle.mama_drive.specs.Scene.{Advances, SteppedAll}
 use Rattle.mama_drive.proofs.system.System.publisher_steps.Given as goal
 
 abbrev pub invariant-loop-number : goal.invariant-loop-number
-invariant-loop-number l = Advances (SteppedAll publisher_step l.number) l.initial.self l.self
+invariant-loop-number l = record {
+  steps : Advances (SteppedAll publisher_step l.number) l.initial.self l.self;
+  clients : l.self.clients ≡ l.initial.self.clients;
+}
