@@ -8,6 +8,7 @@ use Rattle.mama_record.specs.RunData.{RunData}
 use Rattle.mama_record.specs.LogText.{log_text}
 use Rattle.std.specs.List.{AllZip}
 use Rattle.mama_rounds.specs.Round.{IsRound, publishers_from, setting_of}
+use Rattle.mama_seats.specs.Moments.{AreHeard}
 use Rattle.mama_legal.specs.Legal.{IsLegal}
 use Rattle.mama_callbacks.specs.Told.{AreTold}
 use Rattle.mama_genuine.specs.Sent.{AreSent, AreGivenSent}
@@ -48,13 +49,16 @@ pub record IsRun (script : ScriptData) (run : RunData) : Type 0 where
   pub calm : AreLinksCalm script run
   pub updates : AreAllGiven script run
 
--- the text spells an accepted script, and the other is the log of a run of it, its ports named by the script's shape
-pub record IsLogOf (text log : List ℕ) : Type 0 where
+-- The text spells an accepted script, and the log is that of a run of it, its ports named by the script's shape. The clock
+-- was called once for each line that reads it, in the order in which the rounds come to those lines, and the moments in
+-- the record are its answers, where these moments were left to it before and are left to it after the run.
+pub record IsLogOf (before after : Option (List ℕ)) (text log : List ℕ) : Type 0 where
   pub script : ScriptData
   pub accepted : IsScript script
   pub spelled : text ≡ script_text script
   pub record_of : RunData
   pub run : IsRun script record_of
+  pub heard : AreHeard before after script.clients record_of.clients
   pub told : log ≡ log_text script.shape record_of
 
 -- why there is no log of a text: its first line with a fault, its first line past a limit, or want of memory

@@ -3,6 +3,7 @@ ghost use Rattle.mama_edge.specs.Count.{Rose};
 ghost use Rattle.mama_edge.specs.Told.{Appended, Lost};
 ghost use Rattle.mama_script.specs.Reading.{script_in};
 ghost use Rattle.mama_script.specs.declared.fault.ScriptFault.TheVariants as script;
+ghost use Rattle.mama_seats.specs.Moments.{AreHeard};
 ghost use Rattle.mama_run.specs.Command.{is_serial};
 ghost use Rattle.mama_run.specs.Answers.{GaveAll, IsRun, IsLogOf, IsCause, IfWriteFault, IfBadScript, IfOverLimit, OnSilent};
 
@@ -36,8 +37,9 @@ pub enum NoLog {
 /// its log to the sink. It always returns.
 ///
 /// At `Ok` the log is that of the record that the script has where its clients read the moments of that record: `IsRun`
-/// says what is promised of it. No clause ties want of memory to its cause. A line `now clock` reads the clock, which
-/// is tested: no clause says that the moments are the clock's.
+/// says what is promised of it. Each line `now clock` calls the clock once, and where the clock tells its moments, what
+/// the record has is what those calls answered, in the order of the rounds: `AreHeard`. No clause ties want of memory to
+/// its cause.
 pub fn run_plain<S: Source, K: Sink, C: Clock>(
     alloc: Global,
     words: &[String],
@@ -65,9 +67,9 @@ pub fn run_plain<S: Source, K: Sink, C: Clock>(
 
     // At Ok the source gave the text of an accepted script and no more, and the log of a run of it was written whole. At
     // a write fault a part of one was written, which is not the whole.
-    ensures ok { result ≡ Status.Ok → (text log : List ℕ) × GaveAll (S.left source.old) (S.left source.new) text × IsLogOf text log
+    ensures ok { result ≡ Status.Ok → (text log : List ℕ) × GaveAll (S.left source.old) (S.left source.new) text × IsLogOf (C.left clock.old) (C.left clock.new) text log
         × Appended (K.written sink.old) (K.written sink.new) log }
-    ensures part { IfWriteFault result (λ written. (text log : List ℕ) × GaveAll (S.left source.old) (S.left source.new) text × IsLogOf text log
+    ensures part { IfWriteFault result (λ written. (text log : List ℕ) × GaveAll (S.left source.old) (S.left source.new) text × IsLogOf (C.left clock.old) (C.left clock.new) text log
         × (written < length log) × Appended (K.written sink.old) (K.written sink.new) (take written log)) }
 
     // At every other answer nothing was written.
@@ -106,7 +108,7 @@ fn is_command(words: &[String]) -> bool
 
 /// The log of the script that the text spells, or why there is none.
 fn log_of<C: Clock>(alloc: Global, text: &[u8], clock: &mut C) -> Result<Vec<u8>, NoLog>
-    ensures log { IfOk result (λ log. IsLogOf text.now log.items) }
+    ensures log { IfOk result (λ log. IsLogOf (C.left clock.old) (C.left clock.new) text.now log.items) }
     ensures cause { IfErr result (λ cause. IsCause text.now cause) }
 {
     let script = match parse(alloc, text) {
@@ -125,7 +127,8 @@ fn log_of<C: Clock>(alloc: Global, text: &[u8], clock: &mut C) -> Result<Vec<u8>
 
 /// Plays the script on one thread, with what is promised of the record.
 fn play<C: Clock>(alloc: Global, script: &Script, clock: &mut C) -> Result<RunRecord, OutOfMemory>
-    ensures { IfOk result (λ run. IsRun script.now run) }
+    ensures run { IfOk result (λ run. IsRun script.now run) }
+    ensures clock { IfOk result (λ run. AreHeard (C.left clock.old) (C.left clock.new) script.now.clients run.clients) }
 {
     let _shape = script.shape();
     round_is_legal();
