@@ -37,9 +37,8 @@ pub enum NoLog {
 /// its log to the sink. It always returns.
 ///
 /// At `Ok` the log is that of the record that the script has where its clients read the moments of that record: `IsRun`
-/// says what is promised of it. Each line `now clock` calls the clock once, and where the clock tells its moments, what
-/// the record has is what those calls answered, in the order of the rounds: `AreHeard`. No clause ties want of memory to
-/// its cause.
+/// says what is promised of it. Where the clock tells its moments, those of the record are its answers to one call for
+/// each line `now clock`, in the order of the rounds: `AreHeard`. No clause ties want of memory to its cause.
 pub fn run_plain<S: Source, K: Sink, C: Clock>(
     alloc: Global,
     words: &[String],

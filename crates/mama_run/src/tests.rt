@@ -168,6 +168,23 @@ const WORKED: &[Worked] = &[
         moments: &[10, 20, 30],
         part: "client 0\nclock 10\nclock 30\nclient 1\nclock 20\nbridge\n",
     },
+    // A clock gives its last moment again, and 0 where it has none.
+    Worked {
+        lines: "client\nnow clock\nnow clock\nnow clock\n",
+        moments: &[10, 20],
+        part: "client 0\nclock 10\nclock 20\nclock 20\nbridge\n",
+    },
+    Worked {
+        lines: "client\nnow clock\n",
+        moments: &[],
+        part: "client 0\nclock 0\nbridge\n",
+    },
+    // Timers that are due at one moment tick in the order of their numbers, and the earlier due first.
+    Worked {
+        lines: "client\ntimer 0 10\ntimer 0 10\ntimer 0 5\nnow 10\n",
+        moments: &[],
+        part: "t create 2 t0.2\nt tick 2 t0.2 10\nt tick 0 t0.0 10\nt tick 1 t0.1 10\n",
+    },
     // Questions to inboxes: one that is closed in the same callback, and one whose reply comes twice.
     Worked {
         lines: "topic \"EQ.ABC\"\npublisher 0 22:bid:u32:100\nclient\ninbox 0\nat 1 ask i0.0 0 22\nat 1 close i0.0\ninbox 0\nfault dup 1\nask i0.1 0 22\n",
