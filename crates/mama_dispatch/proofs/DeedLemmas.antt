@@ -64,7 +64,7 @@ same_object-true (Inbox a) (Sub b) h = cc
 same_object-true (Inbox a) (Timer b) h = cc
 same_object-true (Inbox a) (Inbox b) h = ap Inbox (same_inbox-true a b h)
 
-eq_sym : (a b : ℕ) → (a == b) ≡ (b == a)
+pub eq_sym : (a b : ℕ) → (a == b) ≡ (b == a)
 eq_sym a b = grind (arith, nat_tests)
 
 both_sym : (a b c d : ℕ) → (a == b && c == d) ≡ (b == a && d == c)

@@ -9,6 +9,7 @@ pub mod BirthLemmas
 pub mod ServeLemmas
 pub mod JournalLaws
 pub mod StreamLemmas
+pub mod SlotLemmas
 pub mod KeepLemmas
 pub mod RowLemmas
 pub mod AnswerLemmas

@@ -282,7 +282,7 @@ made_pass P orders o each ds (c ∷ cs) =
       | false ↦ and_from (P d) (list_all P (made orders o (ds ++ d ∷ []) cs)) (each c os) (made_pass P orders o each (ds ++ d ∷ []) cs)
     ]
 
-open_more_blocks : (notes : List QueueNote) (note : QueueNote) (bs : List Block) → fold blocks_after bs (notes ++ note ∷ []) ≡ blocks_after (fold blocks_after bs notes) note
+pub open_more_blocks : (notes : List QueueNote) (note : QueueNote) (bs : List Block) → fold blocks_after bs (notes ++ note ∷ []) ≡ blocks_after (fold blocks_after bs notes) note
 open_more_blocks [] note bs = refl
 open_more_blocks (n ∷ notes) note bs = open_more_blocks notes note (blocks_after bs n)
 

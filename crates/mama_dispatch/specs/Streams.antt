@@ -57,3 +57,8 @@ abbrev pub SlotsAreKept : Type 0
 SlotsAreKept = (orders : ObjectId → ℕ → List Order) (journal before after : List (ℕ × QueueNote)) (e : ℕ × QueueNote)
     → ((port : ℕ) → IsLawful is_last (fits port) (by_port port journal)) → journal ≡ before ++ e ∷ after
     → list_all (is_of_block e.1 (by_port e.0 before)) (deeds_at orders before e) ≡ true
+
+-- A law: in a lawful list a slot is of one object at a time.
+abbrev pub SlotsAreOfOne : Type 0
+SlotsAreOfOne = (port : ℕ) (notes : List QueueNote) (slot : ℕ) (a b : ObjectId)
+    → IsLawful is_last (fits port) notes → is_live_in slot a notes ≡ true → is_live_in slot b notes ≡ true → a ≡ b

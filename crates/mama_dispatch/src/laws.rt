@@ -1,5 +1,5 @@
 ghost use Rattle.mama_dispatch.specs.Standing.{StandsAtFirst, Standing};
-ghost use Rattle.mama_dispatch.specs.Streams.{CallbacksAreStreams, SlotsAreKept};
+ghost use Rattle.mama_dispatch.specs.Streams.{CallbacksAreStreams, SlotsAreKept, SlotsAreOfOne};
 
 /// A law: no seats are those of an empty journal.
 pub fn no_objects_at_first()
@@ -23,4 +23,9 @@ pub fn callbacks_are_streams()
 /// meant for a slot's former object never reaches its next.
 pub fn slots_are_kept()
     ensures { SlotsAreKept }
+{}
+
+/// A law: where a port puts what it may, a slot is of one object at a time.
+pub fn slots_are_of_one()
+    ensures { SlotsAreOfOne }
 {}

@@ -10,9 +10,15 @@ mod row;
 mod seats;
 mod serve;
 mod serving;
+#[cfg(test)]
+mod test_listener;
+#[cfg(test)]
+mod tests;
 mod turn;
 
-pub use laws::{callbacks_are_streams, no_objects_at_first, serving_an_entry, slots_are_kept};
+pub use laws::{
+    callbacks_are_streams, no_objects_at_first, serving_an_entry, slots_are_kept, slots_are_of_one,
+};
 pub use mama_event::{CallNote, Callback, ImageHead, ObjectId, Order, Orders, QueueNote, ToQueue};
 pub use mama_listener::Listener;
 pub use row::ImageRow;
