@@ -215,6 +215,14 @@ impl<L: Listener> Serving<L> {
         Ok(ended(is_second))
     }
 
+    /// A fact about any queue: the orders that were noted with its callbacks are those of some function, as clauses that
+    /// speak of orders ask, also where no listener tells its plan.
+    pub fn orders_were_given(&self)
+        ensures { (orders : ObjectId → ℕ → List Order) × Fits orders self.now.seats }
+    {
+        self.seats.apart();
+    }
+
     /// The callbacks that were made of an object, with the orders that its listener gave in them; none for an object
     /// that never came.
     pub fn calls_of(&self, object: &ObjectId) -> Result<Vec<CallNote>, OutOfMemory>
