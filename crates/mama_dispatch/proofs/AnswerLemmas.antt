@@ -1,6 +1,5 @@
 -- What the entries that are served answer.
 use Rattle.std.specs.Prelude.{not, map, Option, Some, None, is_some, if◌then◌else◌}
-use Rattle.std.specs.List.{flat_map}
 use Rattle.std.specs.Option.{option_and_then}
 use Rattle.std.proofs.Common.{◌≡◌, ℕ, suc, ◌+◌, Bool, true, false, ◌&&◌, List, [], ◌∷◌, ◌++◌, length, refl, ap, sym, ◌∙◌, subst}
 use Rattle.mama_event.specs.declared.ids.SubId.{SubId}
@@ -14,21 +13,18 @@ use Rattle.mama_event.specs.declared.callback.Callback.{Callback}
 use Rattle.mama_event.specs.declared.callback.Callback.TheVariants as on
 use Rattle.mama_event.specs.declared.order.Order.{Order}
 use Rattle.mama_event.specs.declared.to_queue.Make.{Make}
-use Rattle.mama_event.specs.declared.to_queue.QueueNote.{QueueNote}
 use Rattle.mama_event.specs.declared.to_queue.QueueNote.TheVariants as q
-use Rattle.mama_event.specs.Object.{same_object}
 use Rattle.mama_msg.specs.Field.{FieldData}
 use Rattle.mama_dq.specs.Strategy.{callbacks_of}
 use Rattle.mama_listener.specs.Listener.{ListenerData}
 use Rattle.mama_queue_rules.specs.Queue.{Deed, QueuePut, handled, called, is_destroy, calls_of, is_muted, made, served}
-use Rattle.mama_dispatch.specs.declared.turn.Turn.{Turn}
 use Rattle.mama_dispatch.specs.declared.turn.Turn.TheVariants as turn
-use Rattle.mama_dispatch.specs.Journals.{born, is_born, noted, notes_of}
+use Rattle.mama_dispatch.specs.Journals.{born, is_born, noted}
 use Rattle.mama_dispatch.specs.Seats.{SeatData, has_seat, listener_in, is_muted_in, context_in, at, with_room, with_listener, Fits}
-use Rattle.mama_dispatch.specs.Seating.{is_live, Seated}
+use Rattle.mama_dispatch.specs.Seating.{is_live}
 use Rattle.mama_dispatch.specs.Standing.{Stands, Ended, Delivered}
 use Rattle.mama_dispatch.specs.Hearing.{HasHeard, HeardSince, HaveHeard}
-use Rattle.mama_dispatch.specs.Answering.{told_or_muted, IsHandedBack, Answers}
+use Rattle.mama_dispatch.specs.Answering.{told_or_muted, Answers}
 use Rattle.mama_dispatch.proofs.DeedLemmas.{same_object-refl}
 use Rattle.mama_dispatch.proofs.SeatLemmas.{found}
 use Rattle.mama_dispatch.proofs.PlaceLemmas.{apart_kept, at_object}

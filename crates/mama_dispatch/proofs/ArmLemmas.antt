@@ -1,10 +1,10 @@
 -- What each kind of entry does to the seats.
-use Rattle.std.specs.Prelude.{not, map, fold, Option, Some, None, is_some, if◌then◌else◌}
+use Rattle.std.specs.Prelude.{not, map, fold, Some, None, is_some, if◌then◌else◌}
 use Rattle.std.specs.List.{list_any, list_all, flat_map}
-use Rattle.std.specs.Option.{option_map_or, option_or}
-use Rattle.std.proofs.Common.{◌≡◌, ℕ, ◌+◌, Bool, true, false, ◌&&◌, ◌||◌, List, [], ◌∷◌, ◌++◌, length, refl, ap, sym, ◌∙◌, subst, append-nil, append_assoc, arith}
-use Rattle.std.proofs.lemmas.Bool.{true≢false, false≢true, and_parts, or_parts, or_right, not-true}
-use Rattle.std.proofs.lemmas.List.{map-append, length-map}
+use Rattle.std.specs.Option.{option_or}
+use Rattle.std.proofs.Common.{◌≡◌, ℕ, ◌+◌, Bool, true, false, ◌&&◌, ◌||◌, List, [], ◌∷◌, ◌++◌, length, refl, ap, sym, ◌∙◌, subst, append-nil, append_assoc}
+use Rattle.std.proofs.lemmas.Bool.{true≢false, and_parts, not-true}
+use Rattle.std.proofs.lemmas.List.{length-map}
 use Rattle.std.proofs.lemmas.List.Concat.{flat_map-append}
 use Rattle.mama_journal.specs.Journal.{first_said}
 use Rattle.mama_event.specs.declared.ids.SubId.{SubId}
@@ -18,15 +18,13 @@ use Rattle.mama_event.specs.declared.to_queue.Make.{Make}
 use Rattle.mama_event.specs.declared.to_queue.QueueNote.{QueueNote}
 use Rattle.mama_event.specs.declared.to_queue.QueueNote.TheVariants as q
 use Rattle.mama_event.specs.Object.{same_object}
-use Rattle.mama_dq.specs.Strategy.{callbacks_of}
-use Rattle.mama_listener.specs.Listener.{ListenerData}
-use Rattle.mama_queue_rules.specs.Queue.{Deed, QueuePut, handled, called, is_create, is_destroy, calls_in, calls_of, begins_in, stops_in, orders_end_of, is_muted_after, is_muted, make_in, context_of, made, served, puts_of, wish_put, order_put}
-use Rattle.mama_dispatch.specs.Journals.{Born, born_in, born, is_born, lives, is_live_here, messages_at, notes_of, noted}
-use Rattle.mama_dispatch.specs.Seats.{SeatData, seat_of, has_seat, listener_in, is_muted_in, at, muted_by_all, called_with, with_listener, new_seat, Fits}
-use Rattle.mama_dispatch.specs.Seating.{is_live_after, is_live, is_plain, SeatAt, Seated, CalledOnce, CallsMade}
+use Rattle.mama_queue_rules.specs.Queue.{Deed, QueuePut, handled, called, is_create, is_destroy, calls_of, begins_in, is_muted, make_in, made, served, puts_of, wish_put, order_put}
+use Rattle.mama_dispatch.specs.Journals.{Born, born_in, born, is_born, lives, is_live_here, messages_at, noted}
+use Rattle.mama_dispatch.specs.Seats.{SeatData, listener_in, at, muted_by_all, called_with, with_listener, Fits}
+use Rattle.mama_dispatch.specs.Seating.{is_live, is_plain, Seated, CalledOnce, CallsMade}
 use Rattle.mama_dispatch.specs.Standing.{Stands, ServedAt}
-use Rattle.mama_dispatch.proofs.DeedLemmas.{same_object-true, same_object-sym, same_object-refl, live_more, muted_more, begins_plain, live_plain, live_handled, and_false, and_true, calls_more, messages_called, messages_other}
-use Rattle.mama_dispatch.proofs.SeatLemmas.{seated_map, seated_here, seat_called, seat_emptied, make_among, Found, found, fits_given, HasSeat}
+use Rattle.mama_dispatch.proofs.DeedLemmas.{same_object-true, same_object-sym, same_object-refl, live_more, begins_plain, live_plain, live_handled, and_false, and_true, calls_more, messages_called, messages_other}
+use Rattle.mama_dispatch.proofs.SeatLemmas.{seated_map, seat_called, seat_emptied, make_among, found, fits_given}
 use Rattle.mama_dispatch.proofs.CallLemmas.{seat_from}
 
 -- JOURNALS

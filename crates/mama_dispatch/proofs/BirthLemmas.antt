@@ -1,21 +1,19 @@
 -- The first callback of an object.
-use Rattle.std.specs.Prelude.{not, map, Option, Some, None, is_some, if◌then◌else◌}
+use Rattle.std.specs.Prelude.{not, map, Some, None, if◌then◌else◌}
 use Rattle.std.specs.List.{list_any, flat_map}
 use Rattle.std.proofs.Common.{◌≡◌, ℕ, ◌+◌, Bool, true, false, ◌&&◌, ◌||◌, List, [], ◌∷◌, ◌++◌, length, refl, ap, sym, ◌∙◌, subst, append-nil, append_assoc}
 use Rattle.std.proofs.lemmas.Bool.{or_parts}
 use Rattle.mama_event.specs.declared.ids.ObjectId.{ObjectId}
-use Rattle.mama_event.specs.declared.callback.CallNote.{CallNote}
 use Rattle.mama_event.specs.declared.callback.Callback.{Callback}
 use Rattle.mama_event.specs.declared.callback.Callback.TheVariants as on
 use Rattle.mama_event.specs.declared.order.Order.{Order}
 use Rattle.mama_event.specs.declared.to_queue.Make.{Make}
 use Rattle.mama_event.specs.declared.to_queue.QueueNote.{QueueNote}
 use Rattle.mama_event.specs.declared.to_queue.QueueNote.TheVariants as q
-use Rattle.mama_event.specs.declared.market.MarketMsg.{MarketMsg}
 use Rattle.mama_event.specs.Object.{same_object}
 use Rattle.mama_listener.specs.Listener.{ListenerData}
 use Rattle.mama_queue_rules.specs.Queue.{Deed, QueuePut, handled, called, is_create, is_destroy, calls_of, begins_in, is_muted_after, is_muted, context_of, served, puts_of, wish_put, order_put, ends}
-use Rattle.mama_dispatch.specs.Journals.{Born, born, is_born, is_live_here, messages_at, notes_of, noted}
+use Rattle.mama_dispatch.specs.Journals.{Born, born, is_born, noted}
 use Rattle.mama_dispatch.specs.Seats.{SeatData, seat_of, has_seat, new_seat, Fits}
 use Rattle.mama_dispatch.specs.Seating.{is_live_after, is_live, SeatAt, Seated, CalledOnce}
 use Rattle.mama_dispatch.specs.Standing.{Stands, ServedAt}

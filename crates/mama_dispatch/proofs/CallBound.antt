@@ -1,6 +1,6 @@
 -- How many callbacks a message can make.
-use Rattle.std.specs.Prelude.{filter, nat_le, if◌then◌else◌}
-use Rattle.std.proofs.Common.{◌≡◌, ℕ, suc, ◌+◌, ◌*◌, ◌≤◌, ◌<◌, Bool, true, false, cond, ◌==◌, nat_lt, List, [], ◌∷◌, ◌++◌, length, refl, ap, sym, ◌∙◌, length-append, arith}
+use Rattle.std.specs.Prelude.{nat_le, if◌then◌else◌}
+use Rattle.std.proofs.Common.{◌≡◌, ℕ, suc, ◌+◌, ◌*◌, ◌≤◌, Bool, true, false, cond, ◌==◌, nat_lt, List, [], ◌∷◌, ◌++◌, length, refl, length-append, arith}
 use Rattle.std.specs.List.{list_all}
 use Rattle.std.proofs.lemmas.Bool.{and_parts, and_from}
 use Rattle.mama_msg.specs.Field.{FieldData}
@@ -18,7 +18,7 @@ use Rattle.mama_dq.specs.Table.{is_update, decided, relation_of}
 use Rattle.mama_dq.specs.Cache.{Reached, reached, above}
 use Rattle.mama_dq.specs.Context.{ContextData}
 use Rattle.mama_dispatch.specs.Seating.{is_plain}
-use Rattle.mama_dq.specs.Strategy.{Step, updated, update_acted, acted, as_message, handled, cached_above, healed, reached_last, stopped_short, gap_calls, switch_calls, adopt_calls, with_image_of, turned_to, snapshot_acted, step_by, callbacks_of}
+use Rattle.mama_dq.specs.Strategy.{updated, update_acted, acted, as_message, handled, cached_above, healed, reached_last, stopped_short, gap_calls, switch_calls, adopt_calls, with_image_of, turned_to, snapshot_acted, step_by, callbacks_of}
 
 gap_few : (p : Phase) (sender last : ℕ) (m : MarketMsg) → length (gap_calls p sender last m) ≤ 4
 gap_few Await sender last m = omega arith

@@ -1,7 +1,6 @@
 -- What one deed more changes.
-use Rattle.std.specs.Prelude.{not, map, Option, Some, None, if◌then◌else◌}
-use Rattle.std.specs.List.{list_any, flat_map}
-use Rattle.std.proofs.Common.{◌≡◌, ℕ, suc, ◌+◌, Bool, true, false, cond, ◌&&◌, ◌||◌, ◌==◌, List, [], ◌∷◌, ◌++◌, length, refl, ap, sym, ◌∙◌, append-nil, append_assoc, arith}
+use Rattle.std.specs.Prelude.{not, map, Some, if◌then◌else◌}
+use Rattle.std.proofs.Common.{◌≡◌, ℕ, ◌+◌, Bool, true, false, ◌&&◌, ◌||◌, ◌==◌, List, [], ◌∷◌, ◌++◌, length, refl, ap, sym, ◌∙◌, append-nil, append_assoc, arith}
 use Rattle.std.proofs.lemmas.Bool.{eqb-true, eq-eqb, and_parts, and_from}
 use Rattle.std.proofs.lemmas.Bool.Decides.{nat_tests}
 use Rattle.std.proofs.lemmas.List.{map-append}
@@ -12,7 +11,6 @@ use Rattle.mama_event.specs.declared.ids.InboxId.{InboxId}
 use Rattle.mama_event.specs.declared.ids.ObjectId.{ObjectId}
 use Rattle.mama_event.specs.declared.ids.ObjectId.TheVariants.{Sub, Timer, Inbox}
 use Rattle.mama_event.specs.declared.market.MarketMsg.{MarketMsg}
-use Rattle.mama_event.specs.declared.callback.CallNote.{CallNote}
 use Rattle.mama_event.specs.declared.callback.Callback.{Callback}
 use Rattle.mama_event.specs.declared.order.Order.{Order}
 use Rattle.mama_event.specs.declared.to_queue.Make.{Make}
@@ -20,7 +18,7 @@ use Rattle.mama_event.specs.declared.to_queue.Make.TheVariants as make
 use Rattle.mama_event.specs.Object.{same_sub, same_object}
 use Rattle.mama_dq.specs.Context.{ContextData}
 use Rattle.mama_dq.specs.Strategy.{after, after_all}
-use Rattle.mama_queue_rules.specs.Queue.{Deed, handled, called, is_create, is_destroy, calls_in, calls_of, messages_in, messages_of, begins_in, stops_in, orders_end_of, is_muted_after, is_muted, made, context_of, ends}
+use Rattle.mama_queue_rules.specs.Queue.{Deed, handled, called, is_create, is_destroy, calls_in, calls_of, messages_in, messages_of, begins_in, stops_in, orders_end_of, is_muted_after, is_muted, made, context_of}
 use Rattle.mama_dispatch.specs.Journals.{messages_at, noted, notes_of}
 use Rattle.mama_dispatch.specs.Seating.{is_live_after, is_live}
 

@@ -1,16 +1,14 @@
 -- Serving entry by entry makes the deeds of the journal.
-use Rattle.std.specs.Prelude.{map}
 use Rattle.std.specs.List.{flat_map}
 use Rattle.std.proofs.Common.{◌≡◌, ℕ, List, [], ◌∷◌, ◌++◌, refl, ap, sym, ◌∙◌, subst, append-nil, append_assoc}
 use Rattle.mama_journal.specs.Journal.{puts_so_far}
 use Rattle.mama_event.specs.declared.ids.ObjectId.{ObjectId}
 use Rattle.mama_event.specs.declared.order.Order.{Order}
 use Rattle.mama_event.specs.declared.to_queue.QueueNote.{QueueNote}
-use Rattle.mama_queue_rules.specs.Queue.{Deed, QueuePut, served, deeds, puts_of, bye_put, queue_puts_at}
+use Rattle.mama_queue_rules.specs.Queue.{Deed, QueuePut, served, deeds, puts_of, bye_put}
 use Rattle.mama_event.specs.declared.ids.ObjectId.TheVariants.{Sub, Timer, Inbox}
 use Rattle.mama_dispatch.specs.Journals.{messages_at}
-use Rattle.mama_dispatch.specs.Seats.{SeatData, Fits}
-use Rattle.mama_dispatch.specs.Standing.{Stands, Serves, StandsAtFirst, StandsNext, Standing}
+use Rattle.mama_dispatch.specs.Standing.{Stands, StandsAtFirst, Standing}
 
 -- reactions that look at what was put so far, with one entry more
 so_far_more : {E P : Type 0} (at : List E → List P → E → List P) (es before : List E) (sofar : List P) (e : E)

@@ -1,7 +1,7 @@
 -- What callbacks keep of the seats: no two of one object, the counts of the listeners, and the orders of their plans.
-use Rattle.std.specs.Prelude.{map, Option, Some, None, nat_lt, if◌then◌else◌}
+use Rattle.std.specs.Prelude.{map, Option, Some, None, if◌then◌else◌}
 use Rattle.std.specs.Option.{option_and_then}
-use Rattle.std.proofs.Common.{◌≡◌, ℕ, suc, ◌+◌, ◌<◌, ◌≤◌, Bool, true, false, List, [], ◌∷◌, ◌++◌, length, refl, ap, sym, ◌∙◌, subst, append-nil, append_assoc, length-append, arith}
+use Rattle.std.proofs.Common.{◌≡◌, ℕ, suc, ◌+◌, ◌<◌, Bool, true, false, List, [], ◌∷◌, ◌++◌, length, refl, ap, sym, ◌∙◌, subst, append-nil, append_assoc, length-append, arith}
 use Rattle.std.proofs.lemmas.List.{map-append}
 use Rattle.std.proofs.lemmas.Bool.{lt-ltb}
 use Rattle.mama_event.specs.declared.ids.ObjectId.{ObjectId}
@@ -19,7 +19,7 @@ use Rattle.mama_dispatch.specs.Seats.{SeatData, has_seat, AreApart, seat_of, lis
 use Rattle.mama_dispatch.specs.Seating.{CalledOnce}
 use Rattle.mama_dispatch.specs.Standing.{Created, Ended}
 use Rattle.mama_dispatch.specs.Keeping.{AllSeats, PlanGives, ListensAs, IsPlannedSeat, ArePlanned, IsFew, AreFew, Kept, KeptWith}
-use Rattle.mama_dispatch.specs.Hearing.{HeardOn, HasHeard, HeardSince, HaveHeard, ComesAs}
+use Rattle.mama_dispatch.specs.Hearing.{HeardOn, HasHeard, HeardSince, HaveHeard}
 use Rattle.mama_dispatch.proofs.DeedLemmas.{same_object-true}
 use Rattle.mama_dispatch.proofs.PlaceLemmas.{none_changed, apart_kept, at_object, apart_more}
 

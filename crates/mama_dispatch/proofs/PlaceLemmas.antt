@@ -1,20 +1,20 @@
 -- The seat at an object's place, and what a change there is of all seats.
 use Rattle.std.specs.Prelude.{map, Result, Ok, Err, is_ok, OnOk, Option, Some, None, IfSome, IfNone, is_some, nat_lt, not, position, if◌then◌else◌}
 use Rattle.std.specs.List.{list_any, prefix_len}
-use Rattle.std.specs.Option.{option_and_then, option_map_or, option_map}
+use Rattle.std.specs.Option.{option_and_then}
 use Rattle.std.proofs.Common.{◌≡◌, ℕ, zero, suc, ◌+◌, ◌<◌, Bool, true, false, cond, ◌||◌, ◌&&◌, List, [], ◌∷◌, ◌++◌, length, get_or, refl, ap, sym, ◌∙◌, subst, arith}
 use Rattle.std.proofs.Math.ListN.{set}
-use Rattle.std.proofs.lemmas.Bool.{or_parts, or_from, true≢false, false≢true, cases_Bool}
-use Rattle.std.proofs.lemmas.List.{length-map, get_or-map, map-set, map-append, get_or_default}
+use Rattle.std.proofs.lemmas.Bool.{or_parts, or_from, false≢true}
+use Rattle.std.proofs.lemmas.List.{length-map, get_or-map, map-set, map-append}
 use Rattle.std.proofs.lemmas.List.Quantifiers.{position-Some}
 use Rattle.mama_event.specs.declared.ids.ObjectId.{ObjectId}
 use Rattle.mama_event.specs.declared.callback.Callback.{Callback}
 use Rattle.mama_event.specs.declared.order.Order.{Order}
 use Rattle.mama_event.specs.Object.{same_object}
 use Rattle.mama_listener.specs.Listener.{ListenerData}
-use Rattle.mama_dispatch.specs.Seats.{SeatData, has_seat, AreApart, seat_of, listener_in, room_in, HeardIn, at, muted_by, muted_by_all, muted_where_live, called_with}
+use Rattle.mama_dispatch.specs.Seats.{SeatData, has_seat, AreApart, seat_of, listener_in, HeardIn, at, muted_by, muted_by_all, muted_where_live}
 use Rattle.mama_queue_rules.specs.Queue.{ends}
-use Rattle.mama_dispatch.specs.Places.{IsPlace, is_ended, IsEnded}
+use Rattle.mama_dispatch.specs.Places.{IsPlace, IsEnded}
 use Rattle.mama_dispatch.specs.Rows.{AreKept}
 use Rattle.mama_dispatch.proofs.DeedLemmas.{same_object-true, same_object-sym}
 

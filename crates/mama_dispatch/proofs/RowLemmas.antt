@@ -1,11 +1,11 @@
 -- What rows are of the seats that they stand for.
 use Rattle.std.specs.Prelude.{map, Option, Some, None, is_some, IfSome, IfNone}
 use Rattle.std.specs.Option.{option_map}
-use Rattle.std.proofs.Common.{◌≡◌, ℕ, Bool, true, false, List, [], ◌∷◌, refl, ap, sym, ◌∙◌, arith}
+use Rattle.std.proofs.Common.{◌≡◌, ℕ, true, false, List, [], ◌∷◌, refl, sym, arith}
 use Rattle.mama_event.specs.declared.ids.ObjectId.{ObjectId}
 use Rattle.mama_listener.specs.Listener.{ListenerData}
 use Rattle.mama_dispatch.specs.declared.row.Row.{Row}
-use Rattle.mama_dispatch.specs.Seats.{SeatData, seat_of, has_seat}
+use Rattle.mama_dispatch.specs.Seats.{SeatData, has_seat}
 use Rattle.mama_dispatch.specs.Places.{IsPlace}
 use Rattle.mama_dispatch.specs.Rows.{row_data}
 use Rattle.mama_dispatch.specs.Keeping.{AreFew}

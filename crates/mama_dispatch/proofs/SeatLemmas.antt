@@ -1,9 +1,8 @@
 -- What one deed more changes of the seats.
 use Rattle.std.specs.Prelude.{not, map, Option, Some, None, is_some, if◌then◌else◌}
 use Rattle.std.specs.List.{list_any, flat_map}
-use Rattle.std.specs.Option.{option_and_then, option_map_or}
-use Rattle.std.proofs.Common.{◌≡◌, ℕ, zero, suc, ◌+◌, Bool, true, false, cond, ◌&&◌, ◌||◌, List, [], ◌∷◌, ◌++◌, length, refl, ap, sym, ◌∙◌, subst, append-nil, append_assoc, length-append, arith}
-use Rattle.std.proofs.lemmas.Bool.{true≢false, false≢true}
+use Rattle.std.specs.Option.{option_map_or}
+use Rattle.std.proofs.Common.{◌≡◌, ℕ, ◌+◌, Bool, true, false, ◌&&◌, ◌||◌, List, [], ◌∷◌, ◌++◌, length, refl, ap, sym, ◌∙◌, subst, append-nil, append_assoc, arith}
 use Rattle.std.proofs.lemmas.List.{length-map}
 use Rattle.mama_event.specs.declared.ids.SubId.{SubId}
 use Rattle.mama_event.specs.declared.ids.ObjectId.{ObjectId}
@@ -15,13 +14,13 @@ use Rattle.mama_event.specs.declared.order.Order.{Order}
 use Rattle.mama_event.specs.declared.to_queue.Make.{Make}
 use Rattle.mama_event.specs.Object.{same_object}
 use Rattle.mama_dq.specs.Context.{ContextData}
-use Rattle.mama_dq.specs.Strategy.{after, callbacks_of}
+use Rattle.mama_dq.specs.Strategy.{after}
 use Rattle.mama_listener.specs.Listener.{ListenerData}
 use Rattle.mama_queue_rules.specs.Queue.{Deed, QueuePut, handled, called, is_create, is_destroy, calls_of, begins_in, is_muted, made, context_of, ends, puts_of, wish_put, order_put}
 use Rattle.mama_dispatch.specs.Journals.{Born, messages_at, noted, notes_of}
-use Rattle.mama_dispatch.specs.Seats.{SeatData, has_seat, AreApart, seat_of, listener_in, is_muted_in, context_in, at, muted_by_all, called_with, with_listener, stepped, AreOrders, Fits}
+use Rattle.mama_dispatch.specs.Seats.{SeatData, seat_of, is_muted_in, at, muted_by_all, called_with, with_listener, stepped, AreOrders, Fits}
 use Rattle.mama_dispatch.specs.Seating.{is_live, SeatAt, Seated, CallsMade}
-use Rattle.mama_dispatch.proofs.DeedLemmas.{same_object-true, same_object-refl, live_more, muted_more, begins_plain, live_plain, live_handled, muted_handled, notes_called, notes_other, notes_handled, messages_called, messages_handled, messages_other, context_more, made_more}
+use Rattle.mama_dispatch.proofs.DeedLemmas.{same_object-true, muted_more, begins_plain, live_plain, muted_handled, notes_called, notes_other, notes_handled, messages_called, messages_handled, messages_other, context_more}
 
 -- a change of each seat that keeps it what the deeds say
 pub seated_map : (h k : ObjectId → Bool) (ds es : List Deed) (f : SeatData → SeatData)

@@ -1,8 +1,8 @@
 -- What the calls on seats are of the entries that they serve.
 use Rattle.std.specs.Prelude.{not, map, Option, Some, None, is_some, Result, Ok, Err, OnErr, if◌then◌else◌}
-use Rattle.std.specs.List.{list_any, list_all, flat_map}
+use Rattle.std.specs.List.{flat_map}
 use Rattle.std.specs.Option.{option_map_or, option_and_then}
-use Rattle.std.proofs.Common.{◌≡◌, ℕ, ◌+◌, Bool, true, false, ◌&&◌, ◌||◌, List, [], ◌∷◌, ◌++◌, length, refl, ap, sym, ◌∙◌, subst, append-nil, append_assoc}
+use Rattle.std.proofs.Common.{◌≡◌, ℕ, ◌+◌, Bool, true, false, ◌&&◌, List, [], ◌∷◌, ◌++◌, length, refl, ap, sym, ◌∙◌, subst, append-nil, append_assoc}
 use Rattle.std.proofs.lemmas.Bool.{and_from, and_parts}
 use Rattle.mama_journal.specs.Journal.{first_said}
 use Rattle.mama_event.specs.declared.ids.SubId.{SubId}
@@ -22,14 +22,14 @@ use Rattle.mama_dq.specs.Strategy.{callbacks_of}
 use Rattle.mama_event.specs.declared.market.SubKind.TheVariants.{Basic}
 use Rattle.mama_listener.specs.Listener.{ListenerData}
 use Rattle.mama_queue_rules.specs.Queue.{Deed, QueuePut, handled, called, is_create, is_destroy, calls_of, is_muted, make_in, context_of, messages_of, made, served, puts_of}
-use Rattle.mama_dispatch.specs.Journals.{Born, born, is_born, messages_at}
+use Rattle.mama_dispatch.specs.Journals.{Born, born}
 use Rattle.mama_dispatch.specs.Seats.{SeatData, seat_of, has_seat, listener_in, is_muted_in, context_in, room_in, stepped, at, with_room, with_listener, new_seat, AreOrders, Fits}
-use Rattle.mama_dispatch.specs.Seating.{is_live, is_plain, SeatAt, Seated, CalledOnce, CallsMade}
-use Rattle.mama_dispatch.specs.Standing.{Stands, ServedAt, Serves, Created, Ended, Delivered}
-use Rattle.mama_dispatch.proofs.SeatLemmas.{seated_map, seated_here, seat_stepped, make_among, found}
+use Rattle.mama_dispatch.specs.Seating.{is_live, is_plain, SeatAt, Seated, CallsMade}
+use Rattle.mama_dispatch.specs.Standing.{Stands, Serves, Created, Ended, Delivered}
+use Rattle.mama_dispatch.proofs.SeatLemmas.{seated_map, seated_here, seat_stepped, found}
 use Rattle.mama_dispatch.proofs.CallLemmas.{seat_from, once_fits}
 use Rattle.mama_dispatch.proofs.CallBound.{calls_plain}
-use Rattle.mama_dispatch.proofs.ArmLemmas.{IsMiddle, Leads, leads_none, leads_handled, middle_deliver, stands_middle, seat_born, arm_called, arm_gone, first_make}
+use Rattle.mama_dispatch.proofs.ArmLemmas.{IsMiddle, leads_none, leads_handled, middle_deliver, stands_middle, seat_born, arm_called, arm_gone, first_make}
 use Rattle.mama_dispatch.proofs.BirthLemmas.{seated_has, seat_last, arm_created}
 use Rattle.mama_dispatch.proofs.DeedLemmas.{same_object-refl, live_handled}
 

@@ -1,9 +1,9 @@
 -- What the seats say of a journal, and what serving an entry makes of both.
-use Rattle.std.specs.Prelude.{not, map, Option, Some, None, is_some, if◌then◌else◌, slice_index_or, ◌-◌, ◌==◌}
+use Rattle.std.specs.Prelude.{not, map, Option, Some, None, is_some, if◌then◌else◌, ◌-◌, ◌==◌}
 use Rattle.std.specs.List.{list_any}
 use Rattle.std.specs.Option.{option_and_then, option_map_or}
-use Rattle.std.proofs.Common.{◌≡◌, ℕ, zero, suc, ◌+◌, ◌<◌, get_or, Bool, true, false, ◌&&◌, ◌||◌, List, [], ◌∷◌, ◌++◌, length, refl, ap, sym, ◌∙◌, subst, append-nil, append_assoc, arith}
-use Rattle.std.proofs.lemmas.Bool.{true≢false, false≢true, or_from, or_parts}
+use Rattle.std.proofs.Common.{◌≡◌, ℕ, suc, ◌+◌, ◌<◌, get_or, Bool, true, false, ◌&&◌, ◌||◌, List, [], ◌∷◌, ◌++◌, length, refl, ap, sym, ◌∙◌, subst, append-nil, arith}
+use Rattle.std.proofs.lemmas.Bool.{or_parts}
 use Rattle.mama_journal.specs.Journal.{first_said, count_of}
 use Rattle.mama_event.specs.declared.ids.SubId.{SubId}
 use Rattle.mama_event.specs.declared.ids.ObjectId.{ObjectId}
@@ -22,9 +22,9 @@ use Rattle.mama_event.specs.Object.{same_object}
 use Rattle.mama_dq.specs.Context.{ContextData, new_context}
 use Rattle.mama_listener.specs.Listener.{ListenerData}
 use Rattle.mama_queue_rules.specs.Queue.{Deed, QueuePut, to_bridge, to_timers, make_in, context_of, messages_of, deeds, is_fin, bye_put, queue_puts_at}
-use Rattle.mama_dispatch.specs.Journals.{Born, born, is_born, is_live_here, may_come, messages_at, noted, notes_of, context_after, image_in}
+use Rattle.mama_dispatch.specs.Journals.{Born, born, is_born, is_live_here, may_come, noted, notes_of, context_after, image_in}
 use Rattle.mama_dispatch.specs.Seats.{SeatData, has_seat, AreApart, seat_of, listener_in, context_in, with_room, AreOrders, Fits}
-use Rattle.mama_dispatch.specs.Seating.{is_live, SeatAt, Seated}
+use Rattle.mama_dispatch.specs.Seating.{is_live, Seated}
 use Rattle.mama_dispatch.specs.Standing.{Stands, Serves, MayServe}
 use Rattle.mama_dispatch.specs.Keeping.{IsPlannedSeat, ArePlanned, KeptWith}
 use Rattle.mama_dispatch.specs.Hearing.{HaveHeard}

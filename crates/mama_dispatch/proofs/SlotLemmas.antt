@@ -1,16 +1,16 @@
 -- A slot is of one object at a time.
-use Rattle.std.specs.Prelude.{not, filter, fold, if◌then◌else◌, ◌==◌}
+use Rattle.std.specs.Prelude.{not, filter, if◌then◌else◌, ◌==◌}
 use Rattle.std.specs.List.{list_any}
 use Rattle.std.proofs.Common.{◌≡◌, ℕ, Bool, true, false, ◌&&◌, ◌||◌, List, [], ◌∷◌, ◌++◌, refl, ap, sym, ◌∙◌, subst, append-nil, append_assoc}
-use Rattle.std.proofs.lemmas.Bool.{true≢false, false≢true, and_parts, or_parts, or_from, not-true, eqb-true, eq-eqb}
-use Rattle.mama_event.specs.Lawful.{each_fits, may_follow, IsLawful}
+use Rattle.std.proofs.lemmas.Bool.{false≢true, and_parts, or_parts, not-true, eqb-true}
+use Rattle.mama_event.specs.Lawful.{each_fits, may_follow}
 use Rattle.mama_event.specs.Object.{same_object}
-use Rattle.mama_event.specs.ToQueue.{is_last, fits, Block, blocks_after, open_blocks, is_live_in, is_taken, creates, is_for_port, is_made_as}
+use Rattle.mama_event.specs.ToQueue.{is_last, fits, Block, blocks_after, open_blocks, is_taken, creates, is_for_port, is_made_as}
 use Rattle.mama_event.specs.declared.ids.ObjectId.{ObjectId}
 use Rattle.mama_event.specs.declared.to_queue.QueueNote.{QueueNote}
 use Rattle.mama_event.specs.declared.to_queue.QueueNote.TheVariants as q
 use Rattle.mama_dispatch.specs.Streams.{SlotsAreOfOne}
-use Rattle.mama_dispatch.proofs.DeedLemmas.{same_object-true, same_object-sym, eq_sym, or_false}
+use Rattle.mama_dispatch.proofs.DeedLemmas.{same_object-true, eq_sym}
 use Rattle.mama_dispatch.proofs.StreamLemmas.{open_more_blocks}
 
 -- no two blocks have one slot

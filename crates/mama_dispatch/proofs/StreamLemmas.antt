@@ -1,14 +1,14 @@
 -- The callbacks of each object are a stream, and come by its own slot.
 use Rattle.std.specs.Prelude.{not, map, fold, if◌then◌else◌, ◌==◌}
 use Rattle.std.specs.List.{list_any, list_all}
-use Rattle.std.proofs.Common.{◌≡◌, ℕ, suc, ◌+◌, Bool, true, false, ◌&&◌, ◌||◌, List, [], ◌∷◌, ◌++◌, length, refl, ap, sym, ◌∙◌, subst, append-nil, append_assoc}
+use Rattle.std.proofs.Common.{◌≡◌, ℕ, ◌+◌, Bool, true, false, ◌&&◌, ◌||◌, List, [], ◌∷◌, ◌++◌, length, refl, ap, sym, ◌∙◌, subst, append-nil, append_assoc}
 use Rattle.std.proofs.lemmas.Bool.{true≢false, false≢true, and_from, and_parts, or_parts, eq-eqb, not-true}
 use Rattle.std.proofs.lemmas.List.{map-append}
 use Rattle.mama_journal.specs.Lane.{by_port}
-use Rattle.mama_event.specs.Lawful.{each_fits, may_follow, IsLawful}
-use Rattle.mama_event.specs.LawfulLaws.{each_fits-front, each_fits-back, IsLawful-at}
+use Rattle.mama_event.specs.Lawful.{each_fits, IsLawful}
+use Rattle.mama_event.specs.LawfulLaws.{IsLawful-at}
 use Rattle.mama_event.specs.Object.{same_object}
-use Rattle.mama_event.specs.ToQueue.{is_last, fits, Block, blocks_after, open_blocks, is_live_in, is_taken, creates, is_for_port, is_made_as}
+use Rattle.mama_event.specs.ToQueue.{is_last, fits, Block, blocks_after, open_blocks, is_live_in}
 use Rattle.mama_event.specs.declared.ids.SubId.{SubId}
 use Rattle.mama_event.specs.declared.ids.ObjectId.{ObjectId}
 use Rattle.mama_event.specs.declared.ids.ObjectId.TheVariants.{Sub, Timer, Inbox}
@@ -19,12 +19,12 @@ use Rattle.mama_event.specs.declared.order.Order.{Order}
 use Rattle.mama_event.specs.declared.to_queue.Make.{Make}
 use Rattle.mama_event.specs.declared.to_queue.QueueNote.{QueueNote}
 use Rattle.mama_event.specs.declared.to_queue.QueueNote.TheVariants as q
-use Rattle.mama_queue_rules.specs.Queue.{Deed, handled, called, is_create, is_destroy, calls_of, is_muted, make_in, context_of, messages_of, made, served, deeds, deeds_at}
+use Rattle.mama_queue_rules.specs.Queue.{Deed, handled, called, is_create, is_destroy, calls_of, is_muted, make_in, context_of, messages_of, made, served, deeds}
 use Rattle.mama_journal.specs.Journal.{first_said}
 use Rattle.mama_dq.specs.Strategy.{callbacks_of}
 use Rattle.mama_dispatch.specs.Journals.{Born, born_in, born, is_born, lives, is_live_here, may_come}
 use Rattle.mama_dispatch.specs.Seating.{is_plain}
-use Rattle.mama_dispatch.specs.Streams.{is_none, goes_on, is_stream, AreTurns, CallbacksAreStreams, has_block, is_of_block, SlotsAreKept}
+use Rattle.mama_dispatch.specs.Streams.{is_none, goes_on, is_stream, CallbacksAreStreams, is_of_block, SlotsAreKept}
 use Rattle.mama_dispatch.proofs.DeedLemmas.{same_object-refl, same_object-sym, same_object-true, calls_more, or_false, and_true, and_false}
 use Rattle.mama_dispatch.proofs.CallBound.{calls_plain}
 use Rattle.mama_dispatch.proofs.ArmLemmas.{born_more, lives_more, other_calls, made_calls}

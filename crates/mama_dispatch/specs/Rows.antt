@@ -1,10 +1,8 @@
 -- A row of the table in which a queue keeps its objects, as contracts see it.
-use Rattle.std.specs.Prelude.{◌≡◌, ℕ, ◌-◌, List, map, Option, vec_len, vec_capacity}
+use Rattle.std.specs.Prelude.{◌≡◌, ◌-◌, List, map, vec_len, vec_capacity}
 use Rattle.std.specs.Option.{option_map}
 use Rattle.mama_event.specs.declared.ids.ObjectId.{ObjectId}
-use Rattle.mama_event.specs.declared.callback.Callback.{Callback}
-use Rattle.mama_event.specs.declared.order.PlanRow.{PlanRow}
-use Rattle.mama_listener.specs.Listener.{ListenerData, told}
+use Rattle.mama_listener.specs.Listener.{ListenerData}
 use Rattle.mama_dispatch.specs.declared.row.Row.{Row}
 use Rattle.mama_dispatch.specs.Seats.{SeatData, AreApart}
 

@@ -1,5 +1,5 @@
 -- When the objects that a queue keeps are those that its deeds say.
-use Rattle.std.specs.Prelude.{◌≡◌, ℕ, Bool, true, false, not, ◌&&◌, ◌||◌, List, [], ◌∷◌, ◌++◌, length, map, Some, is_some}
+use Rattle.std.specs.Prelude.{◌≡◌, ℕ, Bool, false, not, ◌&&◌, ◌||◌, List, [], ◌∷◌, ◌++◌, length, map, Some, is_some}
 use Rattle.std.specs.List.{flat_map}
 use Rattle.mama_event.specs.declared.ids.ObjectId.{ObjectId}
 use Rattle.mama_event.specs.declared.callback.Callback.{Callback}
@@ -7,7 +7,7 @@ use Rattle.mama_event.specs.declared.order.Order.{Order}
 use Rattle.mama_queue_rules.specs.Queue.{Deed, QueuePut, is_muted, begins_in, stops_in, is_create, is_destroy, context_of, made, puts_of, wish_put, order_put}
 use Rattle.mama_listener.specs.Listener.{ListenerData}
 use Rattle.mama_dispatch.specs.Journals.{Born, messages_at, notes_of}
-use Rattle.mama_dispatch.specs.Seats.{SeatData, Fits, HeardIn, listener_in, at, called_with, muted_by_all}
+use Rattle.mama_dispatch.specs.Seats.{SeatData, HeardIn, listener_in, at, called_with, muted_by_all}
 
 -- whether an object is live after some deeds, if it was live before them or not
 abbrev pub is_live_after : ObjectId → Bool → List Deed → Bool

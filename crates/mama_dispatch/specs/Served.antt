@@ -1,5 +1,5 @@
 -- A queue that is served: its journal, and the seats of its objects.
-use Rattle.std.specs.Prelude.{◌≡◌, ℕ, List, [], ◌∷◌, ◌++◌, map, Option}
+use Rattle.std.specs.Prelude.{◌≡◌, ℕ, List, [], map}
 use Rattle.std.specs.Option.{option_map_or}
 use Rattle.mama_journal.specs.Journal.{count_of}
 use Rattle.mama_event.specs.declared.ids.ObjectId.{ObjectId}

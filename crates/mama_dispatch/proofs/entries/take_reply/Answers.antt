@@ -1,9 +1,9 @@
 use Rattle.mama_listener.specs.Listener.{told}
 use Rattle.std.proofs.Common.{refl, sym, ◌∙◌}
-use Rattle.mama_event.specs.declared.ids.ObjectId.TheVariants.{Timer, Inbox}
+use Rattle.mama_event.specs.declared.ids.ObjectId.TheVariants.{Inbox}
 use Rattle.mama_event.specs.declared.callback.Callback.TheVariants as on
 use Rattle.mama_event.specs.declared.to_queue.QueueNote.TheVariants as q
-use Rattle.mama_dispatch.proofs.ServeLemmas.{serves_undelivered, serves_untold}
+use Rattle.mama_dispatch.proofs.ServeLemmas.{serves_untold}
 use Rattle.mama_dispatch.proofs.AnswerLemmas.{mutes_replied}
 use Rattle.mama_dispatch.proofs.KeepLemmas.{kept_with, kept_same}
 use Rattle.mama_dispatch.proofs.entries.take_reply.Goals as goal

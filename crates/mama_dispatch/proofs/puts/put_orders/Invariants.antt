@@ -1,4 +1,4 @@
-use Rattle.std.proofs.Common.{◌≡◌, ◌+◌, ◌++◌, map, length, take}
+use Rattle.std.proofs.Common.{◌≡◌, ◌+◌, ◌++◌, map, take}
 use Rattle.mama_queue_rules.specs.Queue.{order_put}
 use Rattle.mama_dispatch.specs.Turns.{put_note}
 use Rattle.mama_dispatch.proofs.puts.put_orders.Given as goal

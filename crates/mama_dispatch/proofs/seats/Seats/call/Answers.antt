@@ -1,8 +1,8 @@
 use Rattle.std.specs.Prelude.{map}
-use Rattle.std.proofs.Common.{◌≡◌, ℕ, ◌+◌, ◌<◌, List, [], ◌∷◌, ◌++◌, length, take, refl, ap, sym, ◌∙◌, arith}
+use Rattle.std.proofs.Common.{◌≡◌, ℕ, ◌<◌, List, [], ◌∷◌, ◌++◌, length, take, refl, ap, sym, ◌∙◌, arith}
 use Rattle.std.proofs.lemmas.List.{take_more, take_all}
 use Rattle.mama_event.specs.declared.order.Order.{Order}
-use Rattle.mama_dispatch.specs.Seats.{SeatData, listener_in, at, called_with, muted_by, muted_by_all}
+use Rattle.mama_dispatch.specs.Seats.{listener_in, at, called_with, muted_by, muted_by_all}
 use Rattle.mama_listener.specs.Listener.{ListenerData}
 use Rattle.std.specs.Prelude.{Option}
 use Rattle.mama_dispatch.proofs.PlaceLemmas.{muted_none, muted_more, listener_muted, heard_same}

@@ -1,15 +1,10 @@
-use Rattle.std.specs.Prelude.{map, Option, Some, None, is_some, IfOk}
-use Rattle.std.specs.Option.{option_and_then, option_map_or, option_map}
-use Rattle.std.proofs.Common.{◌≡◌, ℕ, Bool, true, false, List, [], ◌∷◌, refl, ap, sym, ◌∙◌, subst, arith}
-use Rattle.mama_event.specs.declared.callback.CallNote.{CallNote}
-use Rattle.mama_event.specs.declared.market.SubKind.TheVariants.{Basic}
-use Rattle.mama_dq.specs.Context.{ContextData, new_context}
-use Rattle.mama_listener.specs.Listener.{told, ListenerData}
-use Rattle.mama_dispatch.specs.Seats.{SeatData, AreApart, seat_of, has_seat, listener_in, context_in}
-use Rattle.mama_dispatch.specs.Keeping.{AreFew}
+use Rattle.std.specs.Prelude.{Option}
+use Rattle.std.specs.Option.{option_map_or}
+use Rattle.std.proofs.Common.{[], ap, sym, ◌∙◌}
+use Rattle.mama_listener.specs.Listener.{told}
+use Rattle.mama_dispatch.specs.Seats.{SeatData}
 use Rattle.mama_dispatch.specs.Rows.{row_data}
 use Rattle.mama_dispatch.proofs.PlaceLemmas.{row_there, none_seated}
-use Rattle.mama_dispatch.proofs.RowLemmas.{rows_few, some_map, has_at}
 use Rattle.mama_dispatch.proofs.seats.Seats.calls.Goals as goal
 
 pub returns-in-Some : goal.returns-in-Some

@@ -1,11 +1,10 @@
-use Rattle.std.specs.Prelude.{map, Option, Some, None, is_some}
-use Rattle.std.specs.Option.{option_and_then, option_map_or, option_map}
-use Rattle.std.proofs.Common.{◌≡◌, ℕ, ◌+◌, ◌<◌, true, false, refl, ap, sym, ◌∙◌, subst, arith}
-use Rattle.std.proofs.lemmas.Bool.{false≢true}
-use Rattle.mama_listener.specs.Listener.{told, ListenerData}
-use Rattle.mama_dispatch.specs.Seats.{SeatData, seat_of, listener_in, room_in, at, called_with, with_listener, muted_where_live, HeardIn}
+use Rattle.std.specs.Prelude.{Option}
+use Rattle.std.specs.Option.{option_map_or}
+use Rattle.std.proofs.Common.{false, ap, sym}
+use Rattle.mama_listener.specs.Listener.{told}
+use Rattle.mama_dispatch.specs.Seats.{SeatData}
 use Rattle.mama_dispatch.specs.Rows.{row_data}
-use Rattle.mama_dispatch.proofs.PlaceLemmas.{changed, row_there, none_changed, none_seated}
+use Rattle.mama_dispatch.proofs.PlaceLemmas.{row_there, none_seated}
 use Rattle.mama_dispatch.proofs.seats.Seats.is_muted.Goals as goal
 
 pub returns-in-Some : goal.returns-in-Some

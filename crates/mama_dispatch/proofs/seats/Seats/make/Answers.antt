@@ -1,11 +1,11 @@
 use Rattle.std.specs.Prelude.{map, Option, Some, None, is_some}
 use Rattle.std.specs.Option.{option_and_then, option_map_or, option_map}
-use Rattle.std.proofs.Common.{◌≡◌, ℕ, ◌+◌, ◌<◌, true, false, refl, ap, sym, ◌∙◌, subst, arith}
+use Rattle.std.proofs.Common.{◌≡◌, true, refl, ap, sym, ◌∙◌, arith}
 use Rattle.std.proofs.lemmas.Bool.{false≢true}
 use Rattle.mama_listener.specs.Listener.{told, ListenerData}
-use Rattle.mama_dispatch.specs.Seats.{SeatData, seat_of, listener_in, room_in, at, called_with, with_listener, muted_where_live, HeardIn}
+use Rattle.mama_dispatch.specs.Seats.{SeatData, at, called_with}
 use Rattle.mama_dispatch.specs.Rows.{row_data}
-use Rattle.mama_dispatch.proofs.PlaceLemmas.{changed, row_there, none_changed, none_seated, heard_same}
+use Rattle.mama_dispatch.proofs.PlaceLemmas.{changed, row_there, none_seated, heard_same}
 use Rattle.mama_dispatch.proofs.seats.Seats.make.Goals as goal
 
 pub make_at-requires-clause-here : goal.make_at-requires-clause-here

@@ -1,4 +1,4 @@
-use Rattle.std.proofs.Common.{◌≡◌, sym, ◌∙◌}
+use Rattle.std.proofs.Common.{◌∙◌}
 use Rattle.mama_dispatch.proofs.PlaceLemmas.{muted_there, muted_nowhere}
 use Rattle.mama_dispatch.proofs.seats.Seats.mute.Goals as goal
 

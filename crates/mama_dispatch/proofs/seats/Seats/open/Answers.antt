@@ -1,6 +1,6 @@
 use Rattle.std.specs.Prelude.{map, not}
 use Rattle.std.specs.List.{list_any}
-use Rattle.std.proofs.Common.{◌≡◌, List, [], ◌∷◌, ◌++◌, false, subst, ap, sym, ◌∙◌}
+use Rattle.std.proofs.Common.{[], ◌∷◌, ◌++◌, subst, ap, sym, ◌∙◌}
 use Rattle.mama_event.specs.Object.{same_object}
 use Rattle.mama_dispatch.specs.Seats.{SeatData, has_seat}
 use Rattle.mama_dispatch.proofs.PlaceLemmas.{list_any_map, kept_more, on_ok}

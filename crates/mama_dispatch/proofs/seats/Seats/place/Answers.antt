@@ -1,5 +1,5 @@
 use Rattle.std.specs.List.{position, list_any}
-use Rattle.std.proofs.Common.{rules, ◌≡◌, Bool, List, refl, ap, sym, ◌∙◌, map}
+use Rattle.std.proofs.Common.{◌≡◌, List, refl, ap, ◌∙◌, map}
 use Rattle.mama_event.specs.contracts.ids.ObjectIdPartialEq.TheImpl.{eq-value}
 use Rattle.mama_event.specs.declared.ids.ObjectId.{ObjectId}
 use Rattle.mama_event.specs.declared.ids.ObjectId.TheVariants.{Sub, Timer, Inbox}

@@ -1,18 +1,13 @@
-use Rattle.std.specs.Prelude.{map, length, Option, Some, None, is_some, IfSome}
-use Rattle.std.specs.Option.{option_and_then, option_map_or, option_map}
-use Rattle.std.proofs.Common.{◌≡◌, ℕ, ◌+◌, ◌-◌, ◌<◌, ◌≤◌, List, ◌++◌, true, false, refl, ap, sym, ◌∙◌, subst, arith}
+use Rattle.std.specs.Prelude.{map, Option, is_some}
+use Rattle.std.specs.Option.{option_and_then, option_map_or}
+use Rattle.std.proofs.Common.{ℕ, ◌-◌, ◌≤◌, refl, ap, sym, ◌∙◌, subst}
 use Rattle.std.proofs.lemmas.Bool.{false≢true}
 use Rattle.std.proofs.lemmas.Result.{on_ok_weaker}
 use Rattle.std.specs.Vec.{vec_len, vec_capacity}
-use Rattle.mama_dq.specs.Context.{ContextData, new_context}
-use Rattle.mama_event.specs.declared.market.SubKind.TheVariants.{Basic}
-use Rattle.mama_dq.specs.Strategy.{callbacks_of}
-use Rattle.mama_event.specs.declared.market.MarketMsg.{MarketMsg}
-use Rattle.mama_event.specs.declared.callback.Callback.{Callback}
-use Rattle.mama_listener.specs.Listener.{told, ListenerData}
-use Rattle.mama_dispatch.specs.Seats.{SeatData, seat_of, listener_in, room_in, context_in, at, stepped, with_room, with_context}
+use Rattle.mama_listener.specs.Listener.{told}
+use Rattle.mama_dispatch.specs.Seats.{SeatData, at, with_room}
 use Rattle.mama_dispatch.specs.Rows.{row_data}
-use Rattle.mama_dispatch.proofs.PlaceLemmas.{changed, row_there, none_changed, none_seated, unchanged}
+use Rattle.mama_dispatch.proofs.PlaceLemmas.{changed, none_seated}
 use Rattle.mama_dispatch.proofs.seats.Seats.reserve.Goals as goal
 
 pub invariant_of-self : goal.invariant_of-self

@@ -1,21 +1,11 @@
-use Rattle.std.specs.Prelude.{map, length, Option, Some, None, is_some}
-use Rattle.std.specs.List.{list_all}
-use Rattle.std.specs.Option.{option_map_or, option_and_then}
-use Rattle.std.proofs.Common.{◌≡◌, ℕ, ◌+◌, ◌*◌, ◌<◌, ◌≤◌, true, false, List, [], ◌∷◌, ◌++◌, refl, ap, sym, ◌∙◌, subst, arith}
+use Rattle.std.specs.Prelude.{map, is_some}
+use Rattle.std.proofs.Common.{[], ◌∷◌, refl, ap, sym, ◌∙◌, subst}
 use Rattle.mama_event.specs.declared.ids.ObjectId.{ObjectId}
-use Rattle.mama_event.specs.declared.ids.ObjectId.TheVariants.{Sub}
-use Rattle.mama_event.specs.declared.callback.Callback.{Callback}
-use Rattle.mama_event.specs.declared.callback.Callback.TheVariants as on
-use Rattle.mama_dq.specs.Context.{ContextData}
-use Rattle.mama_dq.specs.Strategy.{callbacks_of}
-use Rattle.mama_queue_rules.specs.Queue.{handled}
-use Rattle.mama_dispatch.specs.Seats.{SeatData, listener_in, room_in, context_in, at, stepped, is_muted_in, with_room, Fits}
-use Rattle.mama_dispatch.specs.Seating.{is_live, is_plain, Seated}
-use Rattle.mama_dispatch.proofs.CallBound.{calls_plain}
-use Rattle.mama_dispatch.proofs.CallLemmas.{once_fits, once_made, calls_same, calls_after}
+use Rattle.mama_dispatch.specs.Seats.{listener_in, is_muted_in, with_room, Fits}
+use Rattle.mama_dispatch.specs.Seating.{is_live, Seated}
+use Rattle.mama_dispatch.proofs.CallLemmas.{once_fits, once_made, calls_after}
 use Rattle.mama_dispatch.specs.Turns.{put_note}
-use Rattle.mama_dispatch.proofs.PlaceLemmas.{on_ok}
-use Rattle.mama_dispatch.proofs.ServeLemmas.{fits_change, seated_room, seated_stepped, listener_room, muted_room, context_room, listener_stepped, room_stepped, same_room, on_err, seat_new}
+use Rattle.mama_dispatch.proofs.ServeLemmas.{fits_change, seated_room, listener_room, muted_room, same_room}
 use Rattle.mama_dispatch.proofs.KeepLemmas.{kept_then, kept_to, kept_room, kept_once}
 use Rattle.mama_dispatch.proofs.seats.Seats.tell.Goals as goal
 

@@ -1,6 +1,4 @@
-use Rattle.std.proofs.Common.{◌≡◌, ℕ, List, sym, subst}
-use Rattle.mama_event.specs.declared.ids.ObjectId.{ObjectId}
-use Rattle.mama_event.specs.declared.order.Order.{Order}
+use Rattle.std.proofs.Common.{List, subst}
 use Rattle.mama_dispatch.specs.Seats.{SeatData, Fits}
 use Rattle.mama_dispatch.specs.Served.{Served}
 use Rattle.mama_dispatch.proofs.ServingLemmas.{given_at, given_fits, fits_told}

@@ -1,13 +1,12 @@
 use Rattle.std.specs.Prelude.{Option, None, IfSome, if◌then◌else◌}
-use Rattle.std.proofs.Common.{◌≡◌, ℕ, List, ap, sym, ◌∙◌, subst}
+use Rattle.std.proofs.Common.{List, ap, sym, ◌∙◌, subst}
 use Rattle.mama_msg.specs.Field.{FieldData}
 use Rattle.mama_event.specs.declared.ids.ObjectId.TheVariants.{Sub}
 use Rattle.mama_event.specs.declared.market.ImageHead.{ImageHead}
-use Rattle.mama_event.specs.declared.to_queue.QueueNote.{QueueNote}
 use Rattle.mama_dispatch.specs.Journals.{is_live_here, context_after, image_in}
-use Rattle.mama_dispatch.specs.Seats.{SeatData, Fits}
+use Rattle.mama_dispatch.specs.Seats.{Fits}
 use Rattle.mama_dispatch.specs.Served.{Served}
-use Rattle.mama_dispatch.specs.Images.{lent, IsRecord}
+use Rattle.mama_dispatch.specs.Images.{IsRecord}
 use Rattle.mama_dispatch.proofs.ServingLemmas.{fits_untold, row_there, row_record}
 use Rattle.mama_dispatch.proofs.serving.Serving.row.Goals as goal
 
