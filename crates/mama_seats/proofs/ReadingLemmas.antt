@@ -1,5 +1,5 @@
 -- How a client's seat reads its clock in a step.
-use Rattle.std.proofs.Common.{◌≡◌, ℕ, zero, suc, ◌+◌, ◌-◌, ◌<◌, ◌≤◌, Bool, true, false, List, [], ◌∷◌, ◌++◌, length, drop, refl, sym, ◌∙◌, ap, append_assoc, arith, subst, get_or}
+use Rattle.std.proofs.Common.{◌≡◌, ℕ, zero, suc, ◌+◌, ◌-◌, ◌<◌, ◌≤◌, true, false, List, [], ◌∷◌, ◌++◌, length, drop, refl, sym, ◌∙◌, ap, append_assoc, arith, subst, get_or}
 use Rattle.std.specs.Prelude.{Option, Some, None, IfSome, slice_index}
 use Rattle.std.proofs.Math.Seq.{drop-append_seam}
 use Rattle.mama_edge.specs.Told.{after_first}

@@ -1,5 +1,5 @@
 -- How a publisher's seat makes a step.
-use Rattle.std.proofs.Common.{◌≡◌, ℕ, zero, suc, ◌+◌, ◌<◌, true, false, cond, List, [], ◌∷◌, ◌++◌, length, drop, refl, sym, ◌∙◌, ap, append_assoc, arith, Some, subst, get_or, ◌≤◌}
+use Rattle.std.proofs.Common.{◌≡◌, ℕ, zero, suc, ◌+◌, ◌<◌, true, false, List, [], ◌∷◌, ◌++◌, length, drop, refl, sym, ◌∙◌, ap, append_assoc, arith, Some, subst, get_or, ◌≤◌}
 use Rattle.std.specs.Prelude.{replicate, slice_get}
 use Rattle.std.specs.List.{flat_map}
 use Rattle.mama_journal.specs.Journal.{count_of, puts_after}
@@ -17,8 +17,8 @@ use Rattle.mama_publisher.specs.Laws.{StandsAt, SendingUpdates, SendingRecaps, T
 use Rattle.mama_event.specs.ToPublisher.{note_of}
 use Rattle.mama_event.specs.declared.to_publisher.ToPublisher.{ToPublisher}
 use Rattle.mama_publisher.specs.Standing.{Standing, advanced}
-use Rattle.mama_rounds.specs.Round.{sends_in, publisher_steps, publisher_line_steps}
-use Rattle.mama_seats.specs.Sender.{Sender, first_step, later_steps, steps_after, steps_in, IsSenderStep, IsSeated, script_of}
+use Rattle.mama_rounds.specs.Round.{sends_in, publisher_line_steps}
+use Rattle.mama_seats.specs.Sender.{Sender, first_step, later_steps, steps_after, IsSenderStep, IsSeated, script_of}
 use Rattle.mama_event.specs.declared.market.MarketMsg.{MarketMsg}
 use Rattle.mama_seats.proofs.ListLemmas.{append_nil}
 use Rattle.mama_seats.proofs.StandLemmas.{next_line}

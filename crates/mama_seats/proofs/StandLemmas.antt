@@ -1,18 +1,17 @@
 -- How a client's seat makes a step.
-use Rattle.std.proofs.Common.{◌≡◌, ℕ, zero, suc, ◌+◌, ◌-◌, ◌<◌, ◌≤◌, Bool, true, false, List, [], ◌∷◌, ◌++◌, length, drop, refl, sym, ◌∙◌, ap, append_assoc, arith, subst, add-one, get_or}
+use Rattle.std.proofs.Common.{◌≡◌, ℕ, suc, ◌+◌, ◌<◌, ◌≤◌, Bool, true, false, List, [], ◌∷◌, ◌++◌, length, drop, refl, sym, ◌∙◌, ap, append_assoc, arith, subst, add-one, get_or}
 use Rattle.std.proofs.lemmas.List.{length-append}
 use Rattle.std.proofs.Math.Seq.{drop-append_seam, drop-cons}
-use Rattle.std.specs.Prelude.{replicate}
 use Rattle.mama_script.specs.declared.client.ClientLine.{ClientLine}
 use Rattle.mama_script.specs.declared.client.ClientLine.TheVariants as line
 use Rattle.mama_event.specs.declared.to_bridge.BridgeNote.TheVariants as b
 use Rattle.mama_event.specs.declared.to_timers.TimersNote.TheVariants as t
 use Rattle.mama_queue_rules.specs.Queue.{QueuePut, to_bridge, to_timers}
-use Rattle.mama_rounds.specs.Client.{Standing, steps_from, line_steps, after_line, first_moment, later_moments}
+use Rattle.mama_rounds.specs.Client.{steps_from}
 use Rattle.mama_seats.specs.declared.names.Names.{Names}
-use Rattle.mama_seats.specs.Names.{standing_of, DoesLine}
+use Rattle.mama_seats.specs.Names.{DoesLine}
 use Rattle.mama_seats.specs.Sender.{first_step, later_steps}
-use Rattle.mama_seats.specs.Stand.{Stand, standing_in, left_after, client_left, BeginsWith, IsStep}
+use Rattle.mama_seats.specs.Stand.{Stand, standing_in, left_after, BeginsWith, IsStep}
 use Rattle.mama_seats.proofs.ListLemmas.{append_nil}
 
 apart : {b : Bool} → b ≡ false → b ≡ true → ⊥

@@ -1,5 +1,5 @@
 -- A client's seat: where the client stands in its lines, and the moments that it has read.
-use Rattle.std.specs.Prelude.{◌≡◌, ℕ, ◌+◌, Bool, true, false, List, [], ◌∷◌, ◌++◌, length, drop, replicate, Option}
+use Rattle.std.specs.Prelude.{◌≡◌, ℕ, ◌+◌, Bool, true, false, List, [], ◌++◌, length, drop, replicate, Option}
 use Rattle.mama_script.specs.declared.client.ClientLine.{ClientLine}
 use Rattle.mama_queue_rules.specs.Queue.{QueuePut}
 use Rattle.mama_rounds.specs.Client.{Standing, steps_from, clock_lines}

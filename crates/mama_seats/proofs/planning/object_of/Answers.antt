@@ -1,4 +1,3 @@
-use Rattle.std.proofs.Common.{refl}
 use Rattle.mama_seats.proofs.planning.object_of.Goals as goal
 
 pub returns-in_ok-sub-in-Sub : goal.returns-in_ok-sub-in-Sub

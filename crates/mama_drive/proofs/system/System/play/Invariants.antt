@@ -1,4 +1,4 @@
-use Rattle.mama_drive.specs.Scene.{Plays, AreMoments}
+use Rattle.mama_drive.specs.Scene.{Plays}
 use Rattle.mama_drive.specs.Heard.{HearsRounds}
 use Rattle.mama_drive.proofs.system.System.play.Given as goal
 

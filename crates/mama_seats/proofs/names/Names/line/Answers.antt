@@ -1,4 +1,3 @@
-use Rattle.std.proofs.Common.{refl}
 use Rattle.mama_seats.proofs.names.Names.line.Goals as goal
 
 pub returns-in_ok-join-in-Sub : goal.returns-in_ok-join-in-Sub

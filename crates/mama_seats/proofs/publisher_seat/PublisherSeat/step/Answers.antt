@@ -1,4 +1,4 @@
-use Rattle.std.proofs.Common.{◌≡◌, arith, refl, ◌∙◌, ap, ◌++◌, ◌∷◌, []}
+use Rattle.std.proofs.Common.{arith, refl, ◌∙◌, ap, ◌++◌, ◌∷◌, []}
 use Rattle.mama_event.specs.declared.publisher_entry.PublisherEntry.TheVariants as entry
 use Rattle.mama_seats.proofs.SenderLemmas.{seated_still, update_seats, update_steps, recap_seats, recap_steps, sender_pause_moves}
 use Rattle.mama_seats.proofs.publisher_seat.PublisherSeat.step.Goals as goal
