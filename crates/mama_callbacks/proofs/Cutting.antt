@@ -5,7 +5,7 @@ use Rattle.std.specs.Option.{option_or}
 use Rattle.std.proofs.Common.{◌≡◌, ◌⊎◌, inl, inr, ⊎_elim, ℕ, ◌+◌, Bool, true, false, List, [], ◌∷◌, ◌++◌, length, map, refl, sym, ◌∙◌, ap, subst, append_assoc, append-nil}
 use Rattle.std.proofs.lemmas.List.{map-append}
 use Rattle.std.proofs.lemmas.List.Concat.{flat_map-append}
-use Rattle.std.proofs.lemmas.Bool.{and_from}
+use Rattle.std.proofs.lemmas.Bool.{and_from, both_ways}
 use Rattle.mama_journal.specs.Journal.{puts_so_far, first_said}
 use Rattle.mama_event.specs.Object.{same_object}
 use Rattle.mama_event.specs.declared.ids.ObjectId.{ObjectId}
@@ -23,7 +23,7 @@ use Rattle.mama_dispatch.proofs.BirthLemmas.{unbegun}
 use Rattle.mama_dispatch.proofs.DeedLemmas.{same_object-refl}
 use Rattle.mama_legal.specs.Streams.{is_of, events_of}
 use Rattle.mama_genuine.proofs.Handled.{muted_stays}
-use Rattle.mama_callbacks.specs.Told.{call_in, told_in, IsMutedWith, IsTold}
+use Rattle.mama_callbacks.specs.Told.{call_in, told_in, IsMutedWith, IsNotMuted, IsTold}
 
 -- ---- what was said first stays said
 
@@ -86,6 +86,74 @@ module _ (orders : ObjectId → ℕ → List Order) (o : ObjectId) where
   other_make (q.Gone slot object) other = refl
   other_make q.Fin other = refl
 
+  -- ---- where an object is muted
+
+  -- the deed among some that mutes it
+  record Turns (sofar new : List Deed) : Type 0 where
+    pub front : List Deed
+    pub by : Deed
+    pub back : List Deed
+    pub cut : new ≡ front ++ by ∷ back
+    pub free : is_muted o (sofar ++ front) ≡ false
+    pub muted : is_muted o ((sofar ++ front) ++ by ∷ []) ≡ true
+
+  later_turn : (sofar : List Deed) (d : Deed) (new : List Deed) → Turns (sofar ++ d ∷ []) new → Turns sofar (d ∷ new)
+  later_turn sofar d new turn = record {
+    front = d ∷ turn.front;
+    by = turn.by;
+    back = turn.back;
+    cut = ap (λ (ds : List Deed). d ∷ ds) turn.cut;
+    free = ap (is_muted o) (sym (append_assoc sofar (d ∷ []) turn.front)) ∙ turn.free;
+    muted = ap (λ (ds : List Deed). is_muted o (ds ++ turn.by ∷ [])) (sym (append_assoc sofar (d ∷ []) turn.front)) ∙ turn.muted;
+  }
+
+  first_turn : (sofar : List Deed) (d : Deed) (new : List Deed) → is_muted o sofar ≡ false → is_muted o (sofar ++ d ∷ []) ≡ true → Turns sofar (d ∷ new)
+  first_turn sofar d new free muted = record {
+    front = [];
+    by = d;
+    back = new;
+    cut = refl;
+    free = ap (is_muted o) (append-nil sofar) ∙ free;
+    muted = ap (λ (ds : List Deed). is_muted o (ds ++ d ∷ [])) (append-nil sofar) ∙ muted;
+  }
+
+  turns : (sofar new : List Deed) → is_muted o sofar ≡ false → is_muted o (sofar ++ new) ≡ true → Turns sofar new
+  turns sofar [] free muted = absurd (both_ways (is_muted o sofar) free (ap (is_muted o) (sym (append-nil sofar)) ∙ muted))
+  turns sofar (d ∷ new) free muted =
+      (elim (is_muted o (sofar ++ d ∷ [])) as (λ (m : Bool). is_muted o (sofar ++ d ∷ []) ≡ m → Turns sofar (d ∷ new)) [
+        | true ↦ λ now. first_turn sofar d new free now
+        | false ↦ λ still. later_turn sofar d new (turns (sofar ++ d ∷ []) new still (ap (is_muted o) (append_assoc sofar (d ∷ []) new) ∙ muted))
+      ]) refl
+
+  turned : (sofar new : List Deed) → Turns sofar new → is_muted o (sofar ++ new) ≡ true
+  turned sofar new turn =
+      ap (λ (ds : List Deed). is_muted o (sofar ++ ds)) turn.cut
+      ∙ ap (is_muted o) (sym (append_assoc sofar turn.front (turn.by ∷ turn.back)) ∙ sym (append_assoc (sofar ++ turn.front) (turn.by ∷ []) turn.back))
+      ∙ muted_stays o false ((sofar ++ turn.front) ++ turn.by ∷ []) turn.back turn.muted
+
+  -- where the callbacks up to it are all that it was told
+  muted_by_turn : (told more : List Callback) (sofar new : List Deed) → (turn : Turns sofar new) → told_in o sofar ≡ on.Create ∷ told → told_in o (turn.front ++ turn.by ∷ []) ≡ more
+      → IsMutedWith o (told ++ more) (sofar ++ new)
+  muted_by_turn told more sofar new turn calls own = record {
+    before = sofar ++ turn.front;
+    by = turn.by;
+    after = turn.back;
+    cut = ap (λ (ds : List Deed). sofar ++ ds) turn.cut ∙ sym (append_assoc sofar turn.front (turn.by ∷ turn.back));
+    free = turn.free;
+    muted = turn.muted;
+    calls = ap (told_in o) (append_assoc sofar turn.front (turn.by ∷ [])) ∙ told_append sofar (turn.front ++ turn.by ∷ [])
+        ∙ ap (λ (cs : List Callback). cs ++ told_in o (turn.front ++ turn.by ∷ [])) calls ∙ ap (λ (cs : List Callback). on.Create ∷ (told ++ cs)) own;
+  }
+
+  nothing_front : (xs ys : List Callback) → xs ++ ys ≡ [] → xs ≡ []
+  nothing_front [] ys h = refl
+  nothing_front (x ∷ xs) ys h = absurd cc
+
+  silent_front : (sofar new : List Deed) → (turn : Turns sofar new) → told_in o new ≡ [] → told_in o (turn.front ++ turn.by ∷ []) ≡ []
+  silent_front sofar new turn silent =
+      nothing_front (told_in o (turn.front ++ turn.by ∷ [])) (told_in o turn.back)
+      (sym (told_append (turn.front ++ turn.by ∷ []) turn.back) ∙ ap (told_in o) (append_assoc turn.front (turn.by ∷ []) turn.back) ∙ ap (told_in o) (sym turn.cut) ∙ silent)
+
   -- ---- callbacks made one by one
 
   -- some callbacks were made, up to where the subscription was muted
@@ -94,7 +162,7 @@ module _ (orders : ObjectId → ℕ → List Order) (o : ObjectId) where
     pub left : List Callback
     pub whole : candidates ≡ told ++ left
     pub calls : told_in o new ≡ told
-    pub ended : ((left ≡ []) × (is_muted o (sofar ++ new) ≡ false)) ⊎ (is_muted o (sofar ++ new) ≡ true)
+    pub ended : ((left ≡ []) × (is_muted o (sofar ++ new) ≡ false)) ⊎ ((turn : Turns sofar new) × (told_in o (turn.front ++ turn.by ∷ []) ≡ told))
 
   plain_first : (c : Callback) → is_plain c ≡ true → is_destroy c ≡ false
   plain_first on.Create plain = refl
@@ -128,19 +196,21 @@ module _ (orders : ObjectId → ℕ → List Order) (o : ObjectId) where
       ap (λ (m : Bool). if m && not (is_destroy c) then made orders o sofar cs else (deed ∷ made orders o (sofar ++ deed ∷ []) cs)) live
 
   -- the callback that mutes it is the last
-  cut_here : (sofar : List Deed) (c : Callback) (os : List Order) (cs : List Callback) → list_all is_plain cs ≡ true → is_muted o (sofar ++ called o c os ∷ []) ≡ true
+  cut_here : (sofar : List Deed) (c : Callback) (os : List Order) (cs : List Callback) → list_all is_plain cs ≡ true → is_muted o sofar ≡ false → is_muted o (sofar ++ called o c os ∷ []) ≡ true
       → Cut sofar (c ∷ cs) (called o c os ∷ made orders o (sofar ++ called o c os ∷ []) cs)
-  cut_here sofar c os cs plains muted = record {
+  unfolding first_turn
+  cut_here sofar c os cs plains free muted = record {
     told = c ∷ [];
     left = cs;
     whole = refl;
     calls = own_told c os (made orders o (sofar ++ called o c os ∷ []) cs)
         ∙ ap (λ (ds : List Deed). c ∷ told_in o ds) (muted_made (sofar ++ called o c os ∷ []) cs muted plains);
-    ended = inr (ap (λ (ds : List Deed). is_muted o (sofar ++ called o c os ∷ ds)) (muted_made (sofar ++ called o c os ∷ []) cs muted plains) ∙ muted);
+    ended = inr (first_turn sofar (called o c os) (made orders o (sofar ++ called o c os ∷ []) cs) free muted, own_told c os []);
   }
 
   cut_later : (sofar : List Deed) (c : Callback) (os : List Order) (cs : List Callback) → (let next : List Deed = sofar ++ called o c os ∷ [] in
       Cut next cs (made orders o next cs) → Cut sofar (c ∷ cs) (called o c os ∷ made orders o next cs))
+  unfolding later_turn
   cut_later sofar c os cs rest =
       let next : List Deed = sofar ++ called o c os ∷ [] in
       let same : (b : Bool) → is_muted o (next ++ made orders o next cs) ≡ b → is_muted o (sofar ++ called o c os ∷ made orders o next cs) ≡ b =
@@ -150,7 +220,8 @@ module _ (orders : ObjectId → ℕ → List Order) (o : ObjectId) where
         left = rest.left;
         whole = ap (λ (xs : List Callback). c ∷ xs) rest.whole;
         calls = own_told c os (made orders o next cs) ∙ ap (λ (xs : List Callback). c ∷ xs) rest.calls;
-        ended = ⊎_elim (λ h. inl (h.0, same false h.1)) (λ h. inr (same true h)) rest.ended;
+        ended = ⊎_elim (λ h. inl (h.0, same false h.1))
+            (λ h. inr (later_turn sofar (called o c os) (made orders o next cs) h.0, own_told c os (h.0.front ++ h.0.by ∷ []) ∙ ap (λ (xs : List Callback). c ∷ xs) h.1)) rest.ended;
       }
 
   cut : (sofar : List Deed) (cs : List Callback) → is_muted o sofar ≡ false → list_all is_plain cs ≡ true → Cut sofar cs (made orders o sofar cs)
@@ -161,7 +232,7 @@ module _ (orders : ObjectId → ℕ → List Order) (o : ObjectId) where
       let plains = both_of (is_plain c) (list_all is_plain cs) plain in
       subst (Cut sofar (c ∷ cs)) (sym (open_made sofar c cs live))
       ((elim (is_muted o next) as (λ (m : Bool). is_muted o next ≡ m → Cut sofar (c ∷ cs) (called o c os ∷ made orders o next cs)) [
-        | true ↦ λ muted. cut_here sofar c os cs plains.1 muted
+        | true ↦ λ muted. cut_here sofar c os cs plains.1 live muted
         | false ↦ λ still. cut_later sofar c os cs (cut next cs still plains.1)
       ]) refl)
 
@@ -182,21 +253,32 @@ module _ (orders : ObjectId → ℕ → List Order) (o : ObjectId) where
   muted_more : (told : List Callback) (sofar new : List Deed) → IsMutedWith o told sofar → IsMutedWith o told (sofar ++ new)
   muted_more told sofar new with_ = record {
     before = with_.before;
+    by = with_.by;
     after = with_.after ++ new;
-    cut = ap (λ (ds : List Deed). ds ++ new) with_.cut ∙ append_assoc with_.before with_.after new;
+    cut = ap (λ (ds : List Deed). ds ++ new) with_.cut ∙ append_assoc with_.before (with_.by ∷ with_.after) new;
+    free = with_.free;
     muted = with_.muted;
     calls = with_.calls;
   }
 
-  muted_now : (told : List Callback) (ds : List Deed) → is_muted o ds ≡ true → told_in o ds ≡ on.Create ∷ told → IsMutedWith o told ds
-  muted_now told ds muted calls = record { before = ds; after = []; cut = sym (append-nil ds); muted = muted; calls = calls }
+  free_more : (sofar new : List Deed) → IsNotMuted o sofar → IsNotMuted o (sofar ++ new)
+  free_more sofar new free = record {
+    before = free.before;
+    orders = free.orders;
+    after = free.after ++ new;
+    cut = ap (λ (ds : List Deed). ds ++ new) free.cut ∙ append_assoc free.before (called o on.Destroy free.orders ∷ free.after) new;
+    free = free.free;
+  }
 
-  -- where it stands after its callbacks were made, muted or not
-  stands_now : (Known : List Deed → Type 0) (told : List Callback) (ds : List Deed) → told_in o ds ≡ on.Create ∷ told → Known ds → Stands Known told [] ds
-  stands_now Known told ds calls known = by_case (is_muted o ds) refl
+  -- where it stands after deeds that made no callback of it
+  stands_now : (Known : List Deed → Type 0) (told : List Callback) (sofar new : List Deed) → is_muted o sofar ≡ false → told_in o sofar ≡ on.Create ∷ told → told_in o new ≡ []
+      → Known (sofar ++ new) → Stands Known told [] (sofar ++ new)
+  stands_now Known told sofar new free calls silent known = by_case (is_muted o (sofar ++ new)) refl
     where
-      by_case : (m : Bool) → is_muted o ds ≡ m → Stands Known told [] ds
-      by_case true muted = inr (muted_now told ds muted calls, muted)
+      by_case : (m : Bool) → is_muted o (sofar ++ new) ≡ m → Stands Known told [] (sofar ++ new)
+      by_case true muted =
+          let turn : Turns sofar new = turns sofar new free muted in
+          inr (subst (λ (cs : List Callback). IsMutedWith o cs (sofar ++ new)) (append-nil told) (muted_by_turn told [] sofar new turn calls (silent_front sofar new turn silent)), muted)
       by_case false live = inl (refl, (live, known))
 
   -- an event of another object
@@ -211,7 +293,7 @@ module _ (orders : ObjectId → ℕ → List Order) (o : ObjectId) where
         parts = live.parts;
         calls = calls;
         stands = ⊎_elim
-            (λ h. subst (λ (left : List Callback). Stands Known live.told left (sofar ++ new)) (sym h.0) (stands_now Known live.told (sofar ++ new) calls (keeps h.1.1)))
+            (λ h. subst (λ (left : List Callback). Stands Known live.told left (sofar ++ new)) (sym h.0) (stands_now Known live.told sofar new h.1.0 live.calls silent (keeps h.1.1)))
             (λ h. inr (muted_more live.told sofar new h.0, muted_stays o false sofar new h.1))
             live.stands;
       }
@@ -234,7 +316,7 @@ module _ (orders : ObjectId → ℕ → List Order) (o : ObjectId) where
         calls = calls;
         stands = ⊎_elim
             (λ h. inl (h.0, (h.1, next)))
-            (λ h. inr (muted_now (live.told ++ piece.told) (mid ++ new) h calls, h))
+            (λ h. inr (muted_by_turn live.told piece.told mid new h.0 (same ∙ live.calls) h.1, turned mid new h.0))
             piece.ended;
       }
 
@@ -268,7 +350,12 @@ module _ (orders : ObjectId → ℕ → List Order) (o : ObjectId) where
       told_append sofar (called o on.Create os ∷ [])
       ∙ ap (λ (cs : List (Callback × List Order)). map call_in cs ++ told_in o (called o on.Create os ∷ [])) none ∙ own_told on.Create os [] in
       subst (λ (ds : List Deed). Live Known [] (sofar ++ ds)) (sym (open_made sofar on.Create [] (unbegun o sofar none).1))
-      (record { told = []; left = []; parts = refl; calls = calls; stands = stands_now Known [] (sofar ++ called o on.Create os ∷ []) calls (known os) })
+      (record { told = []; left = []; parts = refl; calls = calls; stands = created os calls (is_muted o (sofar ++ called o on.Create os ∷ [])) refl })
+    where
+      created : (os : List Order) → told_in o (sofar ++ called o on.Create os ∷ []) ≡ on.Create ∷ [] → (m : Bool) → is_muted o (sofar ++ called o on.Create os ∷ []) ≡ m
+          → Stands Known [] [] (sofar ++ called o on.Create os ∷ [])
+      created os calls true muted = inr (record { before = sofar; by = called o on.Create os; after = []; cut = refl; free = (unbegun o sofar none).1; muted = muted; calls = calls }, muted)
+      created os calls false live = inl (refl, (live, known os))
 
   gone_last : (Known : List Deed → Type 0) (whole : List Callback) (sofar : List Deed) → Live Known whole sofar
       → (let ds : List Deed = sofar ++ made orders o sofar (on.Destroy ∷ []) in IsTold o whole ds (told_in o ds))
@@ -281,7 +368,7 @@ module _ (orders : ObjectId → ℕ → List Order) (o : ObjectId) where
         calls = told_append sofar (called o on.Destroy os ∷ [])
             ∙ ap (λ (cs : List Callback). told_in o sofar ++ cs) (own_told on.Destroy os [])
             ∙ ap (λ (cs : List Callback). cs ++ on.Destroy ∷ []) live.calls;
-        ended = ⊎_elim (λ h. inl h.0) (λ h. inr (muted_more live.told sofar (called o on.Destroy os ∷ []) h.0)) live.stands;
+        ended = ⊎_elim (λ h. inl (h.0, record { before = sofar; orders = os; after = []; cut = refl; free = h.1.0 })) (λ h. inr (muted_more live.told sofar (called o on.Destroy os ∷ []) h.0)) live.stands;
       })
     where
       one : (os : List Order) (m : Bool) → (if m && false then [] else called o on.Destroy os ∷ []) ≡ called o on.Destroy os ∷ []
@@ -294,7 +381,7 @@ module _ (orders : ObjectId → ℕ → List Order) (o : ObjectId) where
     left = told.left;
     parts = told.parts;
     calls = told_append sofar new ∙ ap (λ (cs : List Callback). told_in o sofar ++ cs) silent ∙ append-nil (told_in o sofar) ∙ told.calls;
-    ended = ⊎_elim (λ h. inl h) (λ h. inr (muted_more told.told sofar new h)) told.ended;
+    ended = ⊎_elim (λ h. inl (h.0, free_more sofar new h.1)) (λ h. inr (muted_more told.told sofar new h)) told.ended;
   }
 
   -- ---- along a journal
@@ -387,6 +474,16 @@ module _ (orders : ObjectId → ℕ → List Order) (o : ObjectId) where
               (live_other (Known xs) (total xs) sofar (served orders before sofar e.1) (other_told before sofar e.1 other) (keeps xs before sofar e.1 other) live)
         ]) refl
 
+    created_live : (before : List (ℕ × QueueNote)) (sofar : List Deed) (e : ℕ × QueueNote) → e.1 ≡ q.Create slot o how tag → told_in o sofar ≡ [] → Known [] sofar
+        → Live (Known []) (total []) (grown before sofar e)
+    created_live before sofar e this silent known =
+        subst (λ (n : QueueNote). Live (Known []) (total []) (sofar ++ served orders before sofar n)) (sym this)
+        (subst (λ (cs : List Callback). Live (Known []) cs (sofar ++ made orders o sofar (on.Create ∷ []))) (sym nothing)
+        (create_first (Known []) sofar (none_left call_in (calls_of o sofar) silent) (λ os. starts sofar os known)))
+
+    made_by : (before : List (ℕ × QueueNote)) (e : ℕ × QueueNote) → first_said make_of before ≡ None → e.1 ≡ q.Create slot o how tag → first_said make_of (before ++ e ∷ []) ≡ Some how
+    made_by before e unsaid this = said_last make_of before e unsaid ∙ ap (make_in o) this ∙ ap (λ (b : Bool). if b then Some how else None) (same_object-refl o)
+
     walk_from : (xs : List X) (before : List (ℕ × QueueNote)) (sofar : List Deed) (es : List (ℕ × QueueNote))
         → first_said make_of before ≡ None → told_in o sofar ≡ [] → Known [] sofar → events_of o es ≡ stream xs
         → IsTold o (total xs) (walk before sofar es) (told_in o (walk before sofar es))
@@ -397,17 +494,68 @@ module _ (orders : ObjectId → ℕ → List Order) (o : ObjectId) where
               let is : e.1 ∷ events_of o es ≡ q.Create slot o how tag ∷ later_stream xs = events_one e es (stream xs) mine events in
               let this : e.1 ≡ q.Create slot o how tag = cc in
               let rest : events_of o es ≡ later_stream xs = cc in
-              walk_live es xs [] (before ++ e ∷ []) (grown before sofar e)
-              (said_last make_of before e unsaid ∙ ap (make_in o) this ∙ ap (λ (b : Bool). if b then Some how else None) (same_object-refl o)) rest
-              (subst (λ (n : QueueNote). Live (Known []) (total []) (sofar ++ served orders before sofar n)) (sym this)
-              (subst (λ (cs : List Callback). Live (Known []) cs (sofar ++ made orders o sofar (on.Create ∷ []))) (sym nothing)
-              (create_first (Known []) sofar (none_left call_in (calls_of o sofar) silent) (λ os. starts sofar os known))))
+              walk_live es xs [] (before ++ e ∷ []) (grown before sofar e) (made_by before e unsaid this) rest (created_live before sofar e this silent known)
           | false ↦ λ other.
               walk_from xs (before ++ e ∷ []) (grown before sofar e) es (said_last make_of before e unsaid ∙ other_make e.1 other)
               (told_append sofar (served orders before sofar e.1) ∙ ap (λ (cs : List Callback). cs ++ told_in o (served orders before sofar e.1)) silent ∙ other_told before sofar e.1 other)
               (keeps [] before sofar e.1 other known)
               (events_none e es (stream xs) other events)
         ]) refl
+
+    -- the object while its Gone was not taken
+    walk_notes : (es : List (ℕ × QueueNote)) (later xs : List X) (before : List (ℕ × QueueNote)) (sofar : List Deed)
+        → first_said make_of before ≡ Some how → events_of o es ≡ map note later
+        → Live (Known xs) (total xs) sofar → Live (Known (xs ++ later)) (total (xs ++ later)) (walk before sofar es)
+    walk_notes [] [] xs before sofar said events live = subst (λ (ys : List X). Live (Known ys) (total ys) sofar) (sym (append-nil xs)) live
+    walk_notes [] (x ∷ later) xs before sofar said events live = absurd cc
+    walk_notes (e ∷ es) [] xs before sofar said events live =
+        (elim (is_of o e.1) as (λ (b : Bool). is_of o e.1 ≡ b → Live (Known (xs ++ [])) (total (xs ++ [])) (walk before sofar (e ∷ es))) [
+          | true ↦ λ mine. let some : e.1 ∷ events_of o es ≡ [] = events_one e es [] mine events in absurd cc
+          | false ↦ λ other.
+              walk_notes es [] xs (before ++ e ∷ []) (grown before sofar e) (said_more make_of before (e ∷ []) how said) (events_none e es [] other events)
+              (live_other (Known xs) (total xs) sofar (served orders before sofar e.1) (other_told before sofar e.1 other) (keeps xs before sofar e.1 other) live)
+        ]) refl
+    walk_notes (e ∷ es) (x ∷ later) xs before sofar said events live =
+        (elim (is_of o e.1) as (λ (b : Bool). is_of o e.1 ≡ b → Live (Known (xs ++ x ∷ later)) (total (xs ++ x ∷ later)) (walk before sofar (e ∷ es))) [
+          | true ↦ λ mine.
+              let is : e.1 ∷ events_of o es ≡ note x ∷ map note later = events_one e es (map note (x ∷ later)) mine events in
+              let this : e.1 ≡ note x = cc in
+              let rest : events_of o es ≡ map note later = cc in
+              subst (λ (ys : List X). Live (Known ys) (total ys) (walk before sofar (e ∷ es))) (append_assoc xs (x ∷ []) later)
+              (walk_notes es later (xs ++ x ∷ []) (before ++ e ∷ []) (grown before sofar e) (said_more make_of before (e ∷ []) how said) rest
+              (subst (λ (n : QueueNote). Live (Known (xs ++ x ∷ [])) (total (xs ++ x ∷ [])) (sofar ++ served orders before sofar n)) (sym this) (own xs x before sofar said live)))
+          | false ↦ λ other.
+              walk_notes es (x ∷ later) xs (before ++ e ∷ []) (grown before sofar e) (said_more make_of before (e ∷ []) how said) (events_none e es (map note (x ∷ later)) other events)
+              (live_other (Known xs) (total xs) sofar (served orders before sofar e.1) (other_told before sofar e.1 other) (keeps xs before sofar e.1 other) live)
+        ]) refl
+
+    walk_born : (xs : List X) (before : List (ℕ × QueueNote)) (sofar : List Deed) (es : List (ℕ × QueueNote))
+        → first_said make_of before ≡ None → told_in o sofar ≡ [] → Known [] sofar → events_of o es ≡ q.Create slot o how tag ∷ map note xs
+        → Live (Known xs) (total xs) (walk before sofar es)
+    walk_born xs before sofar [] unsaid silent known events = absurd cc
+    walk_born xs before sofar (e ∷ es) unsaid silent known events =
+        (elim (is_of o e.1) as (λ (b : Bool). is_of o e.1 ≡ b → Live (Known xs) (total xs) (walk before sofar (e ∷ es))) [
+          | true ↦ λ mine.
+              let is : e.1 ∷ events_of o es ≡ q.Create slot o how tag ∷ map note xs = events_one e es (q.Create slot o how tag ∷ map note xs) mine events in
+              let this : e.1 ≡ q.Create slot o how tag = cc in
+              let rest : events_of o es ≡ map note xs = cc in
+              walk_notes es xs [] (before ++ e ∷ []) (grown before sofar e) (made_by before e unsaid this) rest (created_live before sofar e this silent known)
+          | false ↦ λ other.
+              walk_born xs (before ++ e ∷ []) (grown before sofar e) es (said_last make_of before e unsaid ∙ other_make e.1 other)
+              (told_append sofar (served orders before sofar e.1) ∙ ap (λ (cs : List Callback). cs ++ told_in o (served orders before sofar e.1)) silent ∙ other_told before sofar e.1 other)
+              (keeps [] before sofar e.1 other known)
+              (events_none e es (q.Create slot o how tag ∷ map note xs) other events)
+        ]) refl
+
+    -- while it is not muted, it was told all of its events
+    pub told_at_once : (xs : List X) (front : List (ℕ × QueueNote)) → Known [] [] → events_of o front ≡ q.Create slot o how tag ∷ map note xs
+        → is_muted o (deeds orders front) ≡ false → told_in o (deeds orders front) ≡ on.Create ∷ total xs
+    told_at_once xs front known events free =
+        let live : Live (Known xs) (total xs) (deeds orders front) = walk_born xs [] [] front refl refl known events in
+        ⊎_elim
+        (λ h. live.calls ∙ ap (λ (cs : List Callback). on.Create ∷ cs) (sym (live.parts ∙ ap (λ (cs : List Callback). live.told ++ cs) h.0 ∙ append-nil live.told)))
+        (λ h. absurd (both_ways (is_muted o (deeds orders front)) free h.1))
+        live.stands
 
     -- what a whole journal tells the object
     pub told_by_journal : (xs : List X) (journal : List (ℕ × QueueNote)) → Known [] [] → events_of o journal ≡ stream xs

@@ -32,7 +32,7 @@ use Rattle.mama_legal.specs.Legal.{IsLegal}
 use Rattle.mama_legal.specs.Laws.{IsOrderly}
 use Rattle.mama_legal.proofs.LegalRounds.{rounds_are_legal}
 use Rattle.mama_callbacks.specs.Told.{call_in, call_of, strategy, ticks_told, replies_told, deeds_on, IsTold, IsToldLink, IsToldTicks, IsToldReplies, IsToldObject, Of, LegalRecordsTellAll, RoundsTellAll}
-use Rattle.mama_callbacks.proofs.Telling.{sub_told, timer_told, inbox_told}
+use Rattle.mama_callbacks.proofs.Telling.{sub_told, sub_at_once, timer_told, timer_at_once, inbox_told, inbox_at_once}
 use Rattle.mama_callbacks.proofs.Joining.{OfClient, PlannedOf, queue_in, timer_queue_in, inbox_queue_in, all_planned}
 
 calls_noted : (calls : List (Callback × List Order)) → map call_of (map noted calls) ≡ map call_in calls
@@ -79,6 +79,7 @@ module _ (script : ScriptData) (run : RunData) (orderly : IsOrderly script) (leg
         there = of.made.there;
         told = subst (IsTold (Sub s) (strategy terms.kind terms.cache (through terms.faults (window_of s))) (deeds_on script run queue)) (sym (calls_noted (notes_of queue (Sub s))))
             (sub_told (orders_by (setting_of script)) s terms.kind terms.cache stream.slot stream.tag (through terms.faults (window_of s)) (journal queue) stream.whole);
+        at_once = sub_at_once (orders_by (setting_of script)) s terms.kind terms.cache (journal queue);
       }
 
   told_timer : (queue : ℕ) (t : TimerId) → OfClient timer_queue_in (arming_put t) 0 (length script.clients) t.client steps queue → IsToldTicks script run queue t (map noted (notes_of queue (Timer t)))
@@ -93,6 +94,7 @@ module _ (script : ScriptData) (run : RunData) (orderly : IsOrderly script) (leg
         there = of.made.there;
         told = subst (IsTold (Timer t) (ticks_told (ticks_of t)) (deeds_on script run queue)) (sym (calls_noted (notes_of queue (Timer t))))
             (timer_told (orders_by (setting_of script)) t stream.slot stream.tag (ticks_of t) (journal queue) stream.whole);
+        at_once = timer_at_once (orders_by (setting_of script)) t (journal queue);
       }
 
   told_inbox : (queue : ℕ) (i : InboxId) → OfClient inbox_queue_in (inbox_terms_put i) 0 (length script.clients) i.client steps queue
@@ -108,6 +110,7 @@ module _ (script : ScriptData) (run : RunData) (orderly : IsOrderly script) (leg
         there = of.made.there;
         told = subst (IsTold (Inbox i) (replies_told (through terms.faults (replies_of i))) (deeds_on script run queue)) (sym (calls_noted (notes_of queue (Inbox i))))
             (inbox_told (orders_by (setting_of script)) i stream.slot stream.tag (through terms.faults (replies_of i)) (journal queue) stream.whole);
+        at_once = inbox_at_once (orders_by (setting_of script)) i (journal queue);
       }
 
   told_object : (p : Planned) → PlannedOf (queues_of script.shape) run.clients 0 script.clients p.queue p.object → IsToldObject script run p (object_calls (setting_of script) run.queues p)

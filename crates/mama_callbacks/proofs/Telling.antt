@@ -28,8 +28,8 @@ use Rattle.mama_dispatch.proofs.CallBound.{calls_plain}
 use Rattle.mama_dispatch.proofs.DeedLemmas.{muted_handled, same_object-refl}
 use Rattle.mama_legal.specs.Streams.{is_of, events_of}
 use Rattle.mama_genuine.proofs.Handled.{none_made}
-use Rattle.mama_callbacks.specs.Told.{told_in, strategy, ticks_told, replies_told, IsTold}
-use Rattle.mama_callbacks.proofs.Cutting.{told_append, Live, live_open, live_muted, live_one, told_by_journal}
+use Rattle.mama_callbacks.specs.Told.{told_in, strategy, ticks_told, replies_told, IsTold, TellsAtOnce}
+use Rattle.mama_callbacks.proofs.Cutting.{told_append, Live, live_open, live_muted, live_one, told_by_journal, told_at_once}
 
 -- ---- what the strategy makes of one message more
 
@@ -125,10 +125,37 @@ module _ (orders : ObjectId → ℕ → List Order) (s : SubId) where
       told_by_journal orders (Sub s) (make.Sub kind size) (λ (m : MarketMsg). q.Deliver slot s m) (strategy kind size) HasHandled refl
       keeps_handled starts_handled (own_message kind size slot) slot tag msgs journal refl events
 
+  pub sub_at_once : (kind : SubKind) (size : ℕ) (journal : List (ℕ × QueueNote)) → TellsAtOnce (Sub s) (make.Sub kind size) (λ slot m. q.Deliver slot s m) (strategy kind size) orders journal
+  sub_at_once kind size journal front back slot tag msgs cut events free =
+      told_at_once orders (Sub s) (make.Sub kind size) (λ (m : MarketMsg). q.Deliver slot s m) (strategy kind size) HasHandled refl
+      keeps_handled starts_handled (own_message kind size slot) slot tag msgs front refl events free
+
 -- ---- timers and inboxes
 
 abbrev Nothing : {X : Type 0} → List X → List Deed → Type 0
 Nothing xs ds = Unit {0}
+
+own_tick : (orders : ObjectId → ℕ → List Order) (t : TimerId) (xs : List ℕ) (x : ℕ) (sofar : List Deed) → Live orders (Timer t) (Nothing xs) (ticks_told xs) sofar
+    → Live orders (Timer t) (Nothing (xs ++ x ∷ [])) (ticks_told (xs ++ x ∷ [])) (sofar ++ made orders (Timer t) sofar (on.Tick x ∷ []))
+own_tick orders t xs x sofar live =
+    subst (λ (cs : List Callback). Live orders (Timer t) (Nothing xs) cs (sofar ++ made orders (Timer t) sofar (on.Tick x ∷ []))) (sym (map-append (λ (m : ℕ). on.Tick m) xs (x ∷ [])))
+    (live_one orders (Timer t) (Nothing xs) (ticks_told xs) (on.Tick x) sofar (λ ds. tt) refl live)
+
+own_reply : (orders : ObjectId → ℕ → List Order) (i : InboxId) (xs : List (List FieldData)) (x : List FieldData) (sofar : List Deed) → Live orders (Inbox i) (Nothing xs) (replies_told xs) sofar
+    → Live orders (Inbox i) (Nothing (xs ++ x ∷ [])) (replies_told (xs ++ x ∷ [])) (sofar ++ made orders (Inbox i) sofar (on.Reply x ∷ []))
+own_reply orders i xs x sofar live =
+    subst (λ (cs : List Callback). Live orders (Inbox i) (Nothing xs) cs (sofar ++ made orders (Inbox i) sofar (on.Reply x ∷ []))) (sym (map-append (λ (b : List FieldData). on.Reply b) xs (x ∷ [])))
+    (live_one orders (Inbox i) (Nothing xs) (replies_told xs) (on.Reply x) sofar (λ ds. tt) refl live)
+
+pub timer_at_once : (orders : ObjectId → ℕ → List Order) (t : TimerId) (journal : List (ℕ × QueueNote)) → TellsAtOnce (Timer t) make.Timer (λ slot m. q.Tick slot t m) ticks_told orders journal
+timer_at_once orders t journal front back slot tag moments cut events free =
+    told_at_once orders (Timer t) make.Timer (λ (m : ℕ). q.Tick slot t m) ticks_told (Nothing {X = ℕ}) refl
+    (λ xs before sofar other is known. tt) (λ sofar os known. tt) (λ xs x before sofar said live. own_tick orders t xs x sofar live) slot tag moments front tt events free
+
+pub inbox_at_once : (orders : ObjectId → ℕ → List Order) (i : InboxId) (journal : List (ℕ × QueueNote)) → TellsAtOnce (Inbox i) make.Inbox (λ slot b. q.Reply slot i b) replies_told orders journal
+inbox_at_once orders i journal front back slot tag bodies cut events free =
+    told_at_once orders (Inbox i) make.Inbox (λ (b : List FieldData). q.Reply slot i b) replies_told (Nothing {X = List FieldData}) refl
+    (λ xs before sofar other is known. tt) (λ sofar os known. tt) (λ xs x before sofar said live. own_reply orders i xs x sofar live) slot tag bodies front tt events free
 
 pub timer_told : (orders : ObjectId → ℕ → List Order) (t : TimerId) (slot : ℕ) (tag : ObjectId) (moments : List ℕ) (journal : List (ℕ × QueueNote))
     → events_of (Timer t) journal ≡ q.Create slot (Timer t) make.Timer tag ∷ (map (λ (m : ℕ). q.Tick slot t m) moments ++ q.Gone slot (Timer t) ∷ [])
@@ -136,9 +163,7 @@ pub timer_told : (orders : ObjectId → ℕ → List Order) (t : TimerId) (slot 
 timer_told orders t slot tag moments journal events =
     told_by_journal orders (Timer t) make.Timer (λ (m : ℕ). q.Tick slot t m) ticks_told (Nothing {X = ℕ}) refl
     (λ xs before sofar other is known. tt) (λ sofar os known. tt)
-    (λ xs x before sofar said live.
-    subst (λ (cs : List Callback). Live orders (Timer t) (Nothing xs) cs (sofar ++ made orders (Timer t) sofar (on.Tick x ∷ []))) (sym (map-append (λ (m : ℕ). on.Tick m) xs (x ∷ [])))
-    (live_one orders (Timer t) (Nothing xs) (ticks_told xs) (on.Tick x) sofar (λ ds. tt) refl live))
+    (λ xs x before sofar said live. own_tick orders t xs x sofar live)
     slot tag moments journal tt events
 
 pub inbox_told : (orders : ObjectId → ℕ → List Order) (i : InboxId) (slot : ℕ) (tag : ObjectId) (bodies : List (List FieldData)) (journal : List (ℕ × QueueNote))
@@ -147,7 +172,5 @@ pub inbox_told : (orders : ObjectId → ℕ → List Order) (i : InboxId) (slot 
 inbox_told orders i slot tag bodies journal events =
     told_by_journal orders (Inbox i) make.Inbox (λ (b : List FieldData). q.Reply slot i b) replies_told (Nothing {X = List FieldData}) refl
     (λ xs before sofar other is known. tt) (λ sofar os known. tt)
-    (λ xs x before sofar said live.
-    subst (λ (cs : List Callback). Live orders (Inbox i) (Nothing xs) cs (sofar ++ made orders (Inbox i) sofar (on.Reply x ∷ []))) (sym (map-append (λ (b : List FieldData). on.Reply b) xs (x ∷ [])))
-    (live_one orders (Inbox i) (Nothing xs) (replies_told xs) (on.Reply x) sofar (λ ds. tt) refl live))
+    (λ xs x before sofar said live. own_reply orders i xs x sofar live)
     slot tag bodies journal tt events

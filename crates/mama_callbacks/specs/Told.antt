@@ -1,5 +1,5 @@
 -- What a listener is told, from its create notice to its destroy notice.
-use Rattle.std.specs.Prelude.{◌≡◌, ◌⊎◌, ℕ, true, List, [], ◌∷◌, ◌++◌, map, slice_index_or, Some}
+use Rattle.std.specs.Prelude.{◌≡◌, ◌⊎◌, ℕ, true, false, List, [], ◌∷◌, ◌++◌, map, slice_index_or, Some}
 use Rattle.std.specs.List.{flat_map, AllZip}
 use Rattle.mama_link.specs.Link.{through}
 use Rattle.mama_msg.specs.Field.{FieldData}
@@ -14,18 +14,22 @@ use Rattle.mama_event.specs.declared.callback.Callback.{Callback}
 use Rattle.mama_event.specs.declared.callback.Callback.TheVariants as on
 use Rattle.mama_event.specs.declared.callback.CallNote.{CallNote}
 use Rattle.mama_event.specs.declared.order.Order.{Order}
+use Rattle.mama_event.specs.declared.to_queue.Make.{Make}
+use Rattle.mama_event.specs.declared.to_queue.Make.TheVariants as make
+use Rattle.mama_event.specs.declared.to_queue.QueueNote.{QueueNote}
+use Rattle.mama_event.specs.declared.to_queue.QueueNote.TheVariants as q
 use Rattle.mama_event.specs.declared.to_bridge.SubTerms.{SubTerms}
 use Rattle.mama_event.specs.declared.to_bridge.InboxTerms.{InboxTerms}
 use Rattle.mama_dq.specs.Strategy.{calls_of_fold}
 use Rattle.mama_rules.specs.Bridge.{heard, window, reply_window}
 use Rattle.mama_rules.specs.Timers as timing
-use Rattle.mama_queue_rules.specs.Queue.{Deed, calls_of, deeds, is_muted}
+use Rattle.mama_queue_rules.specs.Queue.{Deed, called, calls_of, deeds, is_muted}
 use Rattle.mama_record.specs.RunData.{RunData, ObjectCalls}
 use Rattle.mama_script.specs.Script.{ScriptData}
 use Rattle.mama_rounds.specs.Client.{Planned}
 use Rattle.mama_rounds.specs.World.{orders_by}
 use Rattle.mama_rounds.specs.Round.{IsRound, setting_of}
-use Rattle.mama_legal.specs.Streams.{terms_of, inbox_terms_of}
+use Rattle.mama_legal.specs.Streams.{events_of, terms_of, inbox_terms_of}
 use Rattle.mama_legal.specs.Ticks.{arming_of, ticks}
 use Rattle.mama_legal.specs.Legal.{IsLegal}
 use Rattle.mama_legal.specs.Laws.{IsOrderly}
@@ -37,22 +41,40 @@ call_in c = c.0
 abbrev pub told_in : ObjectId → List Deed → List Callback
 told_in o ds = map call_in (calls_of o ds)
 
--- among some deeds an object was muted, and up to there it was told these callbacks after its create notice
+-- An order in one of some deeds muted an object, which was not muted before, and up to there it was told these callbacks
+-- after its create notice.
 pub record IsMutedWith (o : ObjectId) (told : List Callback) (ds : List Deed) : Type 0 where
   pub before : List Deed
+  pub by : Deed
   pub after : List Deed
-  pub cut : ds ≡ before ++ after
-  pub muted : is_muted o before ≡ true
-  pub calls : told_in o before ≡ on.Create ∷ told
+  pub cut : ds ≡ before ++ by ∷ after
+  pub free : is_muted o before ≡ false
+  pub muted : is_muted o (before ++ by ∷ []) ≡ true
+  pub calls : told_in o (before ++ by ∷ []) ≡ on.Create ∷ told
+
+-- when its destroy notice came it was not muted
+pub record IsNotMuted (o : ObjectId) (ds : List Deed) : Type 0 where
+  pub before : List Deed
+  pub orders : List Order
+  pub after : List Deed
+  pub cut : ds ≡ before ++ called o on.Destroy orders ∷ after
+  pub free : is_muted o before ≡ false
 
 -- Between its create and its destroy notice an object is told these callbacks, in order and each once, and nothing follows
--- the notice. The last of them are left out only where it was muted before.
+-- the notice: all of them, if it was not muted when the notice came; else those up to the order that muted it.
 pub record IsTold (o : ObjectId) (whole : List Callback) (ds : List Deed) (given : List Callback) : Type 0 where
   pub told : List Callback
   pub left : List Callback
   pub parts : whole ≡ told ++ left
   pub calls : given ≡ on.Create ∷ (told ++ on.Destroy ∷ [])
-  pub ended : (left ≡ []) ⊎ IsMutedWith o told ds
+  pub ended : ((left ≡ []) × IsNotMuted o ds) ⊎ IsMutedWith o told ds
+
+-- At each place of a queue's journal where an object's Create was taken and its notice was not, and it is not muted, it was
+-- told all that the events taken so far give. note has the event of each x that is meant for it.
+abbrev pub TellsAtOnce : {X : Type 0} → ObjectId → Make → (ℕ → X → QueueNote) → (List X → List Callback) → (ObjectId → ℕ → List Order) → List (ℕ × QueueNote) → Type 0
+TellsAtOnce {X} o how note whole orders journal = (front back : List (ℕ × QueueNote)) (slot : ℕ) (tag : ObjectId) (xs : List X) → journal ≡ front ++ back
+    → events_of o front ≡ q.Create slot o how tag ∷ map (note slot) xs → is_muted o (deeds orders front) ≡ false
+    → told_in o (deeds orders front) ≡ on.Create ∷ whole xs
 
 -- what the strategy makes of some messages: the callbacks of each, in order
 abbrev pub strategy : SubKind → ℕ → List MarketMsg → List Callback
@@ -81,6 +103,8 @@ pub record IsToldLink (script : ScriptData) (run : RunData) (queue : ℕ) (s : S
   pub there : terms.queue ≡ queue
   pub told : IsTold (Sub s) (strategy terms.kind terms.cache (through terms.faults (window script.shape s (heard script.shape run.bridge))))
       (deeds_on script run queue) (map call_of calls)
+  pub at_once : TellsAtOnce (Sub s) (make.Sub terms.kind terms.cache) (λ slot m. q.Deliver slot s m) (strategy terms.kind terms.cache)
+      (orders_by (setting_of script)) (slice_index_or run.queues queue [])
 
 -- With these a timer is told its ticks.
 pub record IsToldTicks (script : ScriptData) (run : RunData) (queue : ℕ) (t : TimerId) (calls : List CallNote) : Type 0 where
@@ -88,6 +112,7 @@ pub record IsToldTicks (script : ScriptData) (run : RunData) (queue : ℕ) (t : 
   pub armed : arming_of script run t ≡ Some arming
   pub there : arming.0 ≡ queue
   pub told : IsTold (Timer t) (ticks_told (ticks script.shape t (timing.heard script.shape run.timers))) (deeds_on script run queue) (map call_of calls)
+  pub at_once : TellsAtOnce (Timer t) make.Timer (λ slot m. q.Tick slot t m) ticks_told (orders_by (setting_of script)) (slice_index_or run.queues queue [])
 
 -- With these an inbox is told exactly the replies that its link lets through of those that were put while it was open.
 pub record IsToldReplies (script : ScriptData) (run : RunData) (queue : ℕ) (i : InboxId) (calls : List CallNote) : Type 0 where
@@ -96,6 +121,7 @@ pub record IsToldReplies (script : ScriptData) (run : RunData) (queue : ℕ) (i 
   pub there : terms.queue ≡ queue
   pub told : IsTold (Inbox i) (replies_told (through terms.faults (reply_window script.shape i (heard script.shape run.bridge))))
       (deeds_on script run queue) (map call_of calls)
+  pub at_once : TellsAtOnce (Inbox i) make.Inbox (λ slot b. q.Reply slot i b) replies_told (orders_by (setting_of script)) (slice_index_or run.queues queue [])
 
 -- what is said of each kind of object
 abbrev pub Of : (SubId → Type 0) → (TimerId → Type 0) → (InboxId → Type 0) → ObjectId → Type 0

@@ -25,7 +25,7 @@ pub record IsSent (publishers : List PublisherScript) (m : MarketMsg) : Type 0 w
   pub sender : m.sender ≡ place + 1
   pub body : IsGenuineBody publisher.base (updates_of publisher.lines) m.kind m.seq m.body
 
--- A reply has fields that were asked for, as far as they are there, of the record of one of the publishers at a number.
+-- A reply has the fields of some fids, as far as they are there, of the record of one of the publishers at a number.
 pub record IsReply (publishers : List PublisherScript) (body : List FieldData) : Type 0 where
   pub place : ℕ
   pub publisher : PublisherScript

@@ -26,10 +26,10 @@ pub fn ok_images_are_records()
     ensures { OkImagesAreRecords }
 {}
 
-/// A law: in a record whose callbacks are those that its queues make, what a subscription's listener is told of gaps, of
-/// quality and of recaps is true of the messages that the subscription handled. One of them tells it. Each number of a gap
-/// was not taken since the subscription last turned to the sender, or was taken and dropped by a full cache before the
-/// first image. An image is called stale only right after a gap, or where the sender changes.
+/// A law: in a record whose callbacks are those that its queues make, one of the messages that a subscription handled
+/// tells what its listener is told of gaps, of quality and of recaps. Each number of a gap was not taken since the
+/// subscription last turned to the sender, or was taken and dropped by a full cache before the first image. An image is
+/// called stale only right after a gap, or where the sender changes.
 pub fn told_gaps_are_true()
     ensures { ToldGapsAreTrue }
 {}

@@ -6,6 +6,7 @@ use Rattle.mama_record.specs.RunData.{RunData}
 use Rattle.mama_rounds.specs.Round.{IsRound}
 use Rattle.mama_legal.specs.Laws.{IsOrderly, RoundsAreLegal}
 use Rattle.mama_callbacks.specs.Told.{RoundsTellAll}
+use Rattle.mama_callbacks.specs.Plain.{RoundsTellPlainly}
 use Rattle.mama_genuine.specs.Sent.{RoundMessagesAreSent, RoundGivenAreSent}
 use Rattle.mama_genuine.specs.Records.{RoundImagesAreRecords}
 use Rattle.mama_genuine.specs.Gaps.{RoundGapsAreTrue}
@@ -14,12 +15,13 @@ use Rattle.mama_genuine.specs.GivenAll.{RoundUpdatesAreGiven}
 use Rattle.mama_run.specs.Answers.{IsRun}
 
 pub round_is_run : (script : ScriptData) (run : RunData) → IsScript script → IsWithin script
-    → RoundsAreLegal → RoundsTellAll → RoundMessagesAreSent → RoundGivenAreSent → RoundImagesAreRecords → RoundGapsAreTrue → RoundLinksAreCalm → RoundUpdatesAreGiven
+    → RoundsAreLegal → RoundsTellAll → RoundsTellPlainly → RoundMessagesAreSent → RoundGivenAreSent → RoundImagesAreRecords → RoundGapsAreTrue → RoundLinksAreCalm → RoundUpdatesAreGiven
     → IsRound script run → IsRun script run
-round_is_run script run accepted within legal told sent given records gaps calm updates round = record {
+round_is_run script run accepted within legal told plainly sent given records gaps calm updates round = record {
   round = round;
   legal = legal script run orderly round;
   told = told script run orderly round;
+  plainly = plainly script run orderly round;
   messages = sent script run round;
   given = given script run round;
   images = records script run round;

@@ -11,6 +11,7 @@ use Rattle.mama_rounds.specs.Round.{IsRound, publishers_from, setting_of}
 use Rattle.mama_seats.specs.Moments.{AreHeard}
 use Rattle.mama_legal.specs.Legal.{IsLegal}
 use Rattle.mama_callbacks.specs.Told.{AreTold}
+use Rattle.mama_callbacks.specs.Plain.{ArePlainlyTold}
 use Rattle.mama_genuine.specs.Sent.{AreSent, AreGivenSent}
 use Rattle.mama_genuine.specs.Records.{AreRecords}
 use Rattle.mama_genuine.specs.Gaps.{HasTrueGaps}
@@ -31,17 +32,18 @@ pub record GaveAll (old new : Option (List ℕ)) (text : List ℕ) : Type 0 wher
 -- in order; what a queue took of a subscription is its Create, what its link lets through of what was sent while it was
 -- live, and its Gone, and likewise of timers and inboxes; the callbacks are those that the queues make, with the orders of
 -- the plans. Between its create and its destroy notice each object is told exactly what is meant for it, in order and each
--- once, until it is muted: a subscription what its strategy makes of what its link lets through, a timer its ticks, an inbox
--- the replies that its link lets through. And whatever the links lose, repeat and hold back: each message that was
--- delivered, or given to a listener, is its sender's own; each image that is ok is its sender's record at its number; and
--- each gap that was told is true. Where the line of a subscription has no fault rows, and exactly one publisher has its
--- topic, it is told no gap and no change of quality; and if it is a market subscription, each update that the bridge took
--- between its Join and its first Leave or the ending, with a number above the first image's, is called back once, unless the
--- subscription was muted.
+-- once, up to an order that mutes it: a subscription what its strategy makes of what its link lets through, a timer its
+-- ticks, an inbox the replies that its link lets through; and at once, while it is not muted. And whatever the links lose,
+-- repeat and hold back: each message that was delivered, or given to a listener, is its sender's own; each image that is ok
+-- is its sender's record at its number; and each gap that was told is true. Where the line of a subscription has no fault
+-- rows, and exactly one publisher has its topic, it is told no gap and no change of quality; and if it is a market
+-- subscription, it is told just the messages from its first image on, each once and as ok, and so each update that the bridge
+-- took between its Join and its first Leave or the ending with a number above that image's, unless it was muted.
 pub record IsRun (script : ScriptData) (run : RunData) : Type 0 where
   pub round : IsRound script run
   pub legal : IsLegal script run
   pub told : AreTold script run
+  pub plainly : ArePlainlyTold script run
   pub messages : AreSent (publishers_from 0 script.publishers) run.queues
   pub given : AreGivenSent (publishers_from 0 script.publishers) run.calls
   pub images : AreRecords (publishers_from 0 script.publishers) run.images

@@ -8,7 +8,7 @@ ghost use Rattle.mama_run.specs.Command.{is_serial};
 ghost use Rattle.mama_run.specs.Answers.{GaveAll, IsRun, IsLogOf, IsCause, IfWriteFault, IfBadScript, IfOverLimit, OnSilent};
 
 use crate::status::Status;
-use mama_callbacks::rounds_tell_all;
+use mama_callbacks::{rounds_tell_all, rounds_tell_plainly};
 use mama_drive::serial;
 use mama_edge::{Clock, ReadAll, Sink, Source, read_all, write_all_counted};
 use mama_genuine::{
@@ -132,6 +132,7 @@ fn play<C: Clock>(alloc: Global, script: &Script, clock: &mut C) -> Result<RunRe
     let _shape = script.shape();
     round_is_legal();
     rounds_tell_all();
+    rounds_tell_plainly();
     messages_of_rounds_are_sent();
     given_messages_of_rounds_are_sent();
     ok_images_of_rounds_are_records();
