@@ -14,3 +14,4 @@ pub mod KeepLemmas
 pub mod RowLemmas
 pub mod AnswerLemmas
 pub mod ServingLemmas
+pub mod NoteLemmas

@@ -93,12 +93,17 @@ left_by context (Sub s) = image_put s (image_in (context s))
 left_by context (Timer t) = []
 left_by context (Inbox i) = []
 
+-- what an entry leaves: a Gone, where the contexts are these, the image of its subscription
+abbrev pub left_in : (SubId → ContextData) → QueueNote → List (SubId × ImageHead × List FieldData)
+left_in context (q.Create slot object make tag) = []
+left_in context (q.Deliver slot sub msg) = []
+left_in context (q.Reply slot inbox body) = []
+left_in context (q.Tick slot timer moment) = []
+left_in context (q.Gone slot object) = left_by context object
+left_in context q.Fin = []
+
 abbrev pub left_at : (ObjectId → ℕ → List Order) → List (ℕ × QueueNote) → ℕ × QueueNote → List (SubId × ImageHead × List FieldData)
-left_at orders before e = left_in e.1
-  where
-    left_in : QueueNote → List (SubId × ImageHead × List FieldData)
-    left_in (q.Gone slot object) = left_by (context_after orders before) object
-    left_in _ = []
+left_at orders before e = left_in (context_after orders before) e.1
 
 -- the images that were left, in the order of the Gones
 abbrev pub images_left : (ObjectId → ℕ → List Order) → List (ℕ × QueueNote) → List (SubId × ImageHead × List FieldData)

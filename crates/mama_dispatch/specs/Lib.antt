@@ -8,6 +8,7 @@ pub mod Standing
 pub mod Hearing
 pub mod Keeping
 pub mod Served
+pub mod Notes
 pub mod Answering
 pub mod Streams
 pub mod Images

@@ -5,6 +5,9 @@ mod arms;
 mod calling;
 mod entries;
 mod laws;
+#[cfg(test)]
+mod note_tests;
+mod notes;
 mod puts;
 mod row;
 mod seats;
@@ -21,6 +24,7 @@ pub use laws::{
 };
 pub use mama_event::{CallNote, Callback, ImageHead, ObjectId, Order, Orders, QueueNote, ToQueue};
 pub use mama_listener::Listener;
+pub use notes::ServingNotes;
 pub use row::ImageRow;
 pub use seats::Seats;
 pub use serving::Serving;

@@ -12,6 +12,7 @@ ghost use Rattle.mama_dispatch.specs.Journals.{image_in};
 ghost use Rattle.mama_dispatch.specs.Keeping.{AreFew};
 ghost use Rattle.mama_dispatch.specs.Served.{calls_at};
 ghost use Rattle.mama_dispatch.specs.Images.{lent, image_at};
+ghost use Rattle.mama_dispatch.specs.Rows.{row_data};
 
 use crate::row::{
     ImageRow, Row, image_of, live_image, make_at, most_calls, mute_at, new_row, reserve_at,
@@ -97,6 +98,21 @@ impl<L: Listener> Seats<L> {
         ensures { AreFew self.now }
     {
         let _ = &self.rows;
+    }
+
+    /// How many objects were made here.
+    pub(crate) fn len(&self) -> usize
+        ensures { result ≡ length self.now }
+    {
+        self.rows.len()
+    }
+
+    /// The objects, in the order in which they were made.
+    pub(crate) fn into_rows(self) -> Vec<Row<L>>
+        ensures { map (row_data (told L.tagged L.calls L.heard L.plan)) result.items ≡ self }
+    {
+        let Seats { places: _, rows } = self;
+        rows
     }
 
     /// Whether an object was made here.

@@ -8,7 +8,7 @@ ghost use Rattle.mama_event.specs.declared.to_queue.QueueNote.TheVariants as not
 ghost use Rattle.mama_event.specs.ToQueue.{note_of};
 ghost use Rattle.mama_listener.specs.Listener.{told};
 ghost use Rattle.mama_queue_rules.specs.Queue.{deeds, is_fin, messages_of, to_bridge, to_timers, queue_puts_at};
-ghost use Rattle.mama_dispatch.specs.Journals.{is_live_here, may_come, notes_of, context_after, image_in};
+ghost use Rattle.mama_dispatch.specs.Journals.{is_live_here, may_come, notes_of, context_after, image_in, images_left};
 ghost use Rattle.mama_dispatch.specs.Seats.{Fits};
 ghost use Rattle.mama_dispatch.specs.Keeping.{brought, ComesPlanned, ArePlanned};
 ghost use Rattle.mama_dispatch.specs.Turns.{put_note};
@@ -23,7 +23,9 @@ ghost use Rattle.mama_msg.specs.Field.{FieldData};
 ghost use Rattle.mama_event.specs.declared.ids.ObjectId.TheVariants.{Sub};
 ghost use Rattle.mama_event.specs.Record.{IsGenuine};
 ghost use Rattle.mama_dispatch.specs.Images.{lent, IsRecord};
+ghost use Rattle.mama_dispatch.specs.Notes.{lists_of, calls_made};
 
+use crate::notes::{ServingNotes, add_image, calls_of_rows, prepare};
 use crate::row::ImageRow;
 use crate::seats::Seats;
 use crate::turn::{QueueOut, Turn};
@@ -45,6 +47,10 @@ pub struct Serving<L: Listener> {
     seats: Seats<L>,
     journal: Vec<(u32, QueueNote)>,
     fins: usize,
+    // Nothing, with room for a list of notes of each object.
+    room: Vec<(ObjectId, Vec<CallNote>)>,
+    // The images that were left, in the order of the Gones.
+    images: Vec<(SubId, ImageHead, Msg)>,
 }
 
 impl<L: Listener> Model for Serving<L> {
@@ -52,11 +58,12 @@ impl<L: Listener> Model for Serving<L> {
 
     ghost Value = { Served };
 
-    ghost use Rattle.mama_dispatch.specs.Served.{told_seats, IsServed};
+    ghost use Rattle.mama_dispatch.specs.Served.{told_seats};
+    ghost use Rattle.mama_dispatch.specs.Notes.{IsServing};
 
     ghost view = { λ s. record { queue = s.queue; journal = s.journal.items; seats = told_seats s.seats } };
 
-    ghost invariant = { λ s. IsServed s.journal.items s.fins s.seats };
+    ghost invariant = { λ s. IsServing s.journal.items s.fins s.seats s.room s.images.items };
 }
 
 impl<L: Listener> Serving<L> {
@@ -70,6 +77,8 @@ impl<L: Listener> Serving<L> {
             seats: Seats::new(alloc),
             journal: Vec::new(alloc),
             fins: 0,
+            room: Vec::new(alloc),
+            images: Vec::new(alloc),
         }
     }
 
@@ -175,11 +184,16 @@ impl<L: Listener> Serving<L> {
         if self.journal.reserve(1).is_err() {
             return Err(event);
         }
+        let Ok(left) = prepare(&self.seats, &note, &mut self.room, &mut self.images) else {
+            return Err(event);
+        };
         self.seats.apart();
         match self.seats.serve(self.alloc, event, out) {
             Ok(turn) => {
                 self.seats.few();
+                self.seats.apart();
                 self.journal.push_reserved((port, note));
+                add_image(&mut self.images, left);
                 Ok(turn)
             }
             Err(event) => Err(event),
@@ -260,8 +274,34 @@ impl<L: Listener> Serving<L> {
             seats: _,
             journal,
             fins: _,
+            room: _,
+            images: _,
         } = self;
         journal
+    }
+
+    /// What it took, each event with its port; the callbacks of each object, in the order of the Creates; and the image
+    /// of each subscription that had one when its Gone was taken, in the order of the Gones. It takes no memory: there
+    /// is room since the turns of the Creates, and the images were copied in the turns of the Gones.
+    pub fn into_notes(self) -> ServingNotes
+        ensures taken { result.taken.items ≡ self.journal }
+        ensures calls { (orders : ObjectId → ℕ → List Order) → Fits orders self.seats → lists_of result.calls.items ≡ calls_made orders self.journal }
+        ensures images { (orders : ObjectId → ℕ → List Order) → Fits orders self.seats → result.images.items ≡ images_left orders self.journal }
+    {
+        let Serving {
+            alloc: _,
+            queue: _,
+            seats,
+            journal,
+            fins: _,
+            room,
+            images,
+        } = self;
+        ServingNotes {
+            taken: journal,
+            calls: calls_of_rows(seats.into_rows(), room),
+            images,
+        }
     }
 }
 

@@ -13,6 +13,6 @@ returns g c =
     (λ copies is orders fits.
     is ∙ c.calls.ensures
     ∙ calls_there c.self.inside.journal.items (deeds orders c.self.inside.journal.items) c.self.inside.seats c.args.object.now
-    (c.self.invariant.stands orders (fits_untold orders c.self.inside.seats (subst (λ (s : Served). Fits orders s.seats) (sym c.self.view_is) fits)))
+    (c.self.invariant.served.stands orders (fits_untold orders c.self.inside.seats (subst (λ (s : Served). Fits orders s.seats) (sym c.self.view_is) fits)))
     ∙ ap (λ (s : Served). notes_of c.args.object.now (deeds orders s.journal)) c.self.view_is)
     c.copies_of.ensures

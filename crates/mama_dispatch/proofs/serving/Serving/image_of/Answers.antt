@@ -12,6 +12,6 @@ returns g c =
     (λ found is orders fits.
     is
     ∙ ap image_in (context_there orders c.self.inside.journal.items c.self.inside.seats c.args.sub
-    (c.self.invariant.stands orders (fits_untold orders c.self.inside.seats (subst (λ (s : Served). Fits orders s.seats) (sym c.self.view_is) fits))))
+    (c.self.invariant.served.stands orders (fits_untold orders c.self.inside.seats (subst (λ (s : Served). Fits orders s.seats) (sym c.self.view_is) fits))))
     ∙ ap (λ (s : Served). image_in (context_after orders s.journal c.args.sub)) c.self.view_is)
     c.image.ensures

@@ -14,7 +14,7 @@ pub returns-clause-row : goal.returns-clause-row
 returns-clause-row g c = λ orders fits.
     c.row.ensures
     ∙ row_there orders c.self.inside.journal.items c.self.inside.seats c.args.sub
-    (c.self.invariant.stands orders (fits_untold orders c.self.inside.seats (subst (λ (s : Served). Fits orders s.seats) (sym c.self.view_is) fits)))
+    (c.self.invariant.served.stands orders (fits_untold orders c.self.inside.seats (subst (λ (s : Served). Fits orders s.seats) (sym c.self.view_is) fits)))
     ∙ ap (λ (s : Served). if is_live_here (Sub c.args.sub) s.journal then image_in (context_after orders s.journal c.args.sub) else None) c.self.view_is
 
 pub returns-clause-record : goal.returns-clause-record
