@@ -1,17 +1,11 @@
 use super::*;
 use crate::test_listener::Orderer;
-use mama_event::{Make, MarketMsg, MsgKind, PlanRow, SubId, SubKind, TimerId};
+use mama_event::{Make, MarketMsg, MsgKind, SubId, SubKind};
 use mama_link::Outbox;
-use mama_listener::{BoxedListener, PlanListener, has_few_rows};
 use mama_memory::OutOfMemory;
 use mama_msg::Msg;
 use std::alloc::Global;
 use std::test::Fail;
-
-const TIMER: TimerId = TimerId {
-    client: 0,
-    number: 0,
-};
 
 fn sub(number: u32) -> SubId {
     SubId { client: 0, number }
@@ -122,69 +116,5 @@ fn a_queue_that_took_nothing_has_no_notes(rt: HostRuntime) -> Result<(), Fail> {
     assert_eq!(rt; notes.taken.len(), 0);
     assert_eq!(rt; notes.calls.len(), 0);
     assert_eq!(rt; notes.images.len(), 0);
-    Ok(())
-}
-
-#[test]
-fn listeners_of_two_kinds_are_on_one_queue(rt: HostRuntime) -> Result<(), Fail> {
-    let alloc = rt.alloc();
-    let mut plan = Vec::new(alloc);
-    plan.push(PlanRow {
-        call: 2,
-        order: Order::Disarm(TIMER),
-    })?;
-    assert!(rt; has_few_rows(alloc, &plan)?);
-    let planned = PlanListener::new(alloc, ObjectId::Sub(sub(0)), plan);
-    let plain = Orderer {
-        tag: ObjectId::Timer(TIMER),
-        count: 0,
-        order: Order::Disarm(TIMER),
-        call: 9,
-        times: 1,
-    };
-    let mut serving = Serving::new(alloc, 0);
-    let mut out = Outbox::new(alloc);
-    let first = ToQueue::Create {
-        slot: 0,
-        object: ObjectId::Sub(sub(0)),
-        make: Make::Sub {
-            kind: SubKind::Basic,
-            cache: 0,
-        },
-        listener: BoxedListener {
-            listener: Box::new(alloc, planned)?,
-        },
-    };
-    let second = ToQueue::Create {
-        slot: 1,
-        object: ObjectId::Timer(TIMER),
-        make: Make::Timer,
-        listener: BoxedListener {
-            listener: Box::new(alloc, plain)?,
-        },
-    };
-    let _turn = take(&mut serving, first, &mut out)?;
-    let _turn = take(&mut serving, second, &mut out)?;
-    // The planned listener disarms the timer in its second callback.
-    let _turn = take(&mut serving, image(alloc, 0, 3), &mut out)?;
-    assert_eq!(rt; out.len(), 1);
-    let tick = ToQueue::Tick {
-        slot: 1,
-        timer: TIMER,
-        moment: 5,
-    };
-    assert!(rt;
-        matches!(
-            &take(&mut serving, tick, &mut out)?,
-            Turn::Muted { object: _ }
-        )
-    );
-    match take(&mut serving, gone(0), &mut out)? {
-        Turn::Ended {
-            object: _,
-            listener,
-        } => assert_eq!(rt; listener.count(), 3),
-        _ => assert!(rt; false),
-    }
     Ok(())
 }
