@@ -36,7 +36,7 @@ module _ {L : Type 0} (tagged : L → ObjectId) where
   -- nothing is heard
   pub hears_nothing : (shape : Shape) (desk : Desk) (outs : List (BridgeOut L)) → Hears tagged shape no_event desk desk outs outs []
   hears_nothing shape desk outs table s sound = record {
-    stands = record { joined = s.joined; opened = s.opened; subs = s.subs; inboxes = s.inboxes; clients = s.clients; sends = s.sends; settled = s.settled; byes = s.byes };
+    stands = record { opened = s.opened; subs = s.subs; inboxes = s.inboxes; clients = s.clients; sends = s.sends; settled = s.settled; byes = s.byes };
     adds = adds_none tagged outs;
   }
 
@@ -69,11 +69,11 @@ module _ {L : Type 0} (tagged : L → ObjectId) where
   hears_queue shape n given before after o0 o1 = hears_plain shape (from_queue n (note_of tagged given)) given before after o0 o1 refl
 
   pub hears_join : (shape : Shape) (s : SubId) (terms : SubTerms) (listener : L) (before after : Desk) (o0 o1 : List (BridgeOut L))
-      → Hears tagged shape (joins s terms (tagged listener)) before after o0 o1 (cond (is_sub_among before.joined s) [] (listener ∷ []))
+      → Hears tagged shape (joins s terms (tagged listener)) before after o0 o1 (cond (is_sub_among before.subs.places.joined s) [] (listener ∷ []))
       → HearsOf tagged shape (joins s terms (tagged listener)) (event.Join s terms listener) before after o0 o1
   hears_join shape s terms listener before after o0 o1 h table stands sound =
       subst (λ (ls : List L). Heard tagged shape table (joins s terms (tagged listener)) after o0 o1 ls)
-      (ap (λ (b : Bool). cond b [] (listener ∷ [])) (stands.joined s)
+      (ap (λ (b : Bool). cond b [] (listener ∷ [])) (stands.subs.known s)
       ∙ carried (has_joined s table) (to_queue terms.queue (q.Create (slot_for terms.queue table) (Sub s) (make.Sub terms.kind terms.cache) (tagged listener))) (wants_image shape s terms.kind terms.topic) listener refl)
       (h table stands sound)
 
@@ -87,7 +87,7 @@ module _ {L : Type 0} (tagged : L → ObjectId) where
       (h table stands sound)
 
   pub hears_join_of : (shape : Shape) (client : ℕ) (s : SubId) (terms : SubTerms) (listener : L) (before after : Desk) (o0 o1 : List (BridgeOut L)) → s.client ≡ client
-      → Hears tagged shape (joins s terms (tagged listener)) before after o0 o1 (cond (is_sub_among before.joined s) [] (listener ∷ []))
+      → Hears tagged shape (joins s terms (tagged listener)) before after o0 o1 (cond (is_sub_among before.subs.places.joined s) [] (listener ∷ []))
       → HearsOf tagged shape (cond (s.client == client) (joins s terms (tagged listener)) no_event) (event.Join s terms listener) before after o0 o1
   hears_join_of shape client s terms listener before after o0 o1 own h =
       subst (λ (b : Bool). HearsOf tagged shape (cond b (joins s terms (tagged listener)) no_event) (event.Join s terms listener) before after o0 o1)

@@ -1,25 +1,27 @@
 -- Rows by topic: what is done to the rows on one topic is done to all rows.
-use Rattle.std.specs.Prelude.{nat_lt, position, remove}
+use Rattle.std.specs.Prelude.{nat_lt, option_to_list}
 use Rattle.std.specs.List.{list_any, flat_map}
 use Rattle.std.specs.BTreeMap.{BTreeMap, get}
 use Rattle.std.specs.Ordering.{nat_cmp}
 use Rattle.std.specs.declared.collections.VecDeque.{VecDeque}
-use Rattle.std.proofs.Common.{◌≡◌, ℕ, Bool, true, false, not, ◌||◌, ◌==◌, cond, List, [], ◌∷◌, ◌++◌, map, filter, get_or, Option, None, Some, refl, sym, ◌∙◌, ap, subst, eq-eqb, append-nil}
+use Rattle.std.proofs.Common.{◌≡◌, ℕ, Bool, true, false, not, ◌||◌, ◌==◌, cond, List, [], ◌∷◌, ◌++◌, map, filter, Option, None, Some, refl, sym, ◌∙◌, ap, subst, eq-eqb, append-nil}
 use Rattle.std.proofs.lemmas.Bool.{eqb-true}
-use Rattle.std.proofs.lemmas.List.{map-id}
-use Rattle.std.proofs.lemmas.List.Quantifiers.{position-Some}
+use Rattle.std.proofs.lemmas.List.{map-append}
+use Rattle.std.proofs.lemmas.List.Elements.{filter-append}
 use Rattle.mama_event.specs.Object.{same_sub}
-use Rattle.mama_event.specs.EqualityLaws.{same_sub-Decides}
 use Rattle.mama_event.specs.declared.ids.SubId.{SubId}
 use Rattle.mama_bridge_rules.specs.Laws.{Alone}
-use Rattle.mama_bridge_rules.specs.Table.{SubRow, of_sub, sub_wished, changed, without}
+use Rattle.mama_bridge_rules.specs.Table.{SubRow, of_sub, sub_wished, changed, without, kept}
 use Rattle.mama_bridge.specs.declared.live.Live.{Live}
-use Rattle.mama_bridge.specs.declared.live.Place.{Place}
+use Rattle.mama_bridge.specs.declared.places.Place.{Place}
 use Rattle.mama_bridge.specs.declared.out.BridgeOut.{BridgeOut}
 use Rattle.mama_bridge.specs.declared.subs.SubLink.{SubLink}
-use Rattle.mama_bridge.specs.Links.{Each, sub_seen, sub_view, row_is_on, end_outs, wished_once, SubLeaves}
-use Rattle.mama_bridge.specs.Live.{links_in, links_on, OnTopic, place_of, IsLive, AloneSubs, IsTopicOf}
-use Rattle.mama_bridge.proofs.TheOne.{the_one, no_one, none_taken, none_changed, none_without}
+use Rattle.mama_bridge.specs.Ids.{is_sub_among}
+use Rattle.mama_bridge.specs.Placed.{Placed, is_place_of}
+use Rattle.mama_bridge.specs.Links.{SubView, Each, sub_seen, sub_view, row_is_on, end_outs, wished_once, SubLeaves}
+use Rattle.mama_bridge.specs.Live.{links_in, links_on, OnTopic, place_of, IsLive, StaysLive, AloneSubs, Awaits}
+use Rattle.mama_bridge.proofs.Known.{sub_joined}
+use Rattle.mama_bridge.proofs.TheOne.{none_taken, none_changed, none_without}
 
 heads : {V : Type 0} {v w : V} {vs ws : List V} → v ∷ vs ≡ w ∷ ws → v ≡ w
 heads e = cc
@@ -150,10 +152,19 @@ filter_within test t (row ∷ rows) h =
     at rest false e true d = no_true (row_is_on t row) (each_first (λ (r : SubRow). row_is_on t r ≡ true) (test row) row (filter test rows) d h) e
     at rest false e false d = rest
 
+filter_map_of : {A B : Type 0} (f : A → B) (test : B → Bool) (xs : List A) → filter test (map f xs) ≡ map f (filter (λ x. test (f x)) xs)
+filter_map_of f test [] = refl
+filter_map_of {A} {B} f test (x ∷ xs) = at (test (f x)) (filter_map_of f test xs)
+  where
+    at : (b : Bool) → filter test (map f xs) ≡ map f (filter (λ y. test (f y)) xs) → cond b (f x ∷ filter test (map f xs)) (filter test (map f xs)) ≡ map f (cond b (x ∷ filter (λ y. test (f y)) xs) (filter (λ y. test (f y)) xs))
+    at true h = ap (λ (ys : List B). f x ∷ ys) h
+    at false h = h
+
 -- a link that is seen as before stays on its topic
-pub stays_on : (t : ℕ) (old new : Live) → new.places.items ≡ old.places.items → OnTopic t (λ a b. map sub_seen b ≡ map sub_seen a) old.topics new.topics → (rows : List SubRow) → IsLive rows old → IsLive rows new
-stays_on t old new places on rows live = record {
-  places = places ∙ live.places;
+pub stays_on : (t : ℕ) (old new : Live) → new.places ≡ old.places → OnTopic t (λ a b. map sub_seen b ≡ map sub_seen a) old.topics new.topics → StaysLive old new
+stays_on t old new places on joined rows live = record {
+  known = λ s. ap (λ (p : Placed). is_sub_among p.joined s) places ∙ live.known s;
+  places = ap (λ (p : Placed). p.live) places ∙ live.places;
   topics = λ q. at q (t == q) refl;
 }
   where
@@ -162,13 +173,14 @@ stays_on t old new places on rows live = record {
     at q false e = ap (map sub_seen) (on.others q e) ∙ live.topics q
 
 -- rows are changed, all on one topic
-pub live_does : {L : Type 0} (test : SubRow → Bool) (f : SubRow → SubRow) (put : SubRow → List (BridgeOut L)) → KeepsPlaces f → (t : ℕ) (old new : Live) (o0 o1 : List (BridgeOut L)) → new.places.items ≡ old.places.items
+pub live_does : {L : Type 0} (test : SubRow → Bool) (f : SubRow → SubRow) (put : SubRow → List (BridgeOut L)) → KeepsPlaces f → (t : ℕ) (old new : Live) (o0 o1 : List (BridgeOut L)) → new.places ≡ old.places
     → OnTopic t (λ a b. (rows : List SubRow) → map sub_seen a ≡ map sub_view rows → AloneSubs rows → (map sub_seen b ≡ map sub_view (changed test f rows)) × (o1 ≡ o0 ++ flat_map put (filter test rows))) old.topics new.topics
-    → (rows : List SubRow) → AllOn t (filter test rows) → IsLive rows old → AloneSubs rows → IsLive (changed test f rows) new × (o1 ≡ o0 ++ flat_map put (filter test rows))
-live_does {L} test f put k t old new o0 o1 places on rows only live alone =
+    → (joined : List SubId) (rows : List SubRow) → AllOn t (filter test rows) → IsLive joined rows old → AloneSubs rows → IsLive joined (changed test f rows) new × (o1 ≡ o0 ++ flat_map put (filter test rows))
+live_does {L} test f put k t old new o0 o1 places on joined rows only live alone =
     let done = on.here (filter (row_is_on t) rows) (live.topics t) (alone_filter same_sub (λ (row : SubRow). row.sub) (row_is_on t) rows alone) in (
       record {
-        places = places ∙ live.places ∙ sym (places_kept test f k rows);
+        known = λ s. ap (λ (p : Placed). is_sub_among p.joined s) places ∙ live.known s;
+        places = ap (λ (p : Placed). p.live) places ∙ live.places ∙ sym (places_kept test f k rows);
         topics = λ q. at done.0 q (t == q) refl;
       },
       done.1 ∙ ap (λ (rs : List SubRow). o0 ++ flat_map put rs) (filter_within test t rows only),
@@ -181,13 +193,14 @@ live_does {L} test f put k t old new o0 o1 places on rows only live alone =
         ∙ sym (ap (map sub_view) (filter_changed test f k q rows ∙ none_changed test f (filter (row_is_on q) rows) (none_other test t q e rows only)))
 
 -- a row is gone
-pub live_leaves : {L : Type 0} (s : SubId) (t : ℕ) (old new : Live) (o0 o1 : List (BridgeOut L)) (rows : List SubRow) → AllOn t (filter (of_sub s) rows) → new.places.items ≡ map place_of (without (of_sub s) rows)
-    → OnTopic t (λ a b. SubLeaves s a b o0 o1) old.topics new.topics
-    → IsLive rows old → AloneSubs rows → IsLive (without (of_sub s) rows) new × (o1 ≡ o0 ++ flat_map end_outs (filter (of_sub s) rows))
-live_leaves {L} s t old new o0 o1 rows only places on live alone =
+pub live_leaves : {L : Type 0} (s : SubId) (t : ℕ) (old new : Live) (o0 o1 : List (BridgeOut L)) (joined : List SubId) (rows : List SubRow) → AllOn t (filter (of_sub s) rows)
+    → new.places.joined ≡ old.places.joined → new.places.live ≡ without (is_place_of s) old.places.live → OnTopic t (λ a b. SubLeaves s a b o0 o1) old.topics new.topics
+    → IsLive joined rows old → AloneSubs rows → IsLive joined (without (of_sub s) rows) new × (o1 ≡ o0 ++ flat_map end_outs (filter (of_sub s) rows))
+live_leaves {L} s t old new o0 o1 joined rows only noted places on live alone =
     let done = on.here (filter (row_is_on t) rows) (live.topics t) (alone_filter same_sub (λ (row : SubRow). row.sub) (row_is_on t) rows alone) in (
       record {
-        places = places;
+        known = λ one. ap (λ ids. is_sub_among ids one) noted ∙ live.known one;
+        places = places ∙ ap (without (is_place_of s)) live.places ∙ filter_map_of place_of (λ (p : Place). not (is_place_of s p)) rows;
         topics = λ q. at done.0 q (t == q) refl;
       },
       done.1 ∙ ap (λ (rs : List SubRow). o0 ++ flat_map end_outs rs) (filter_within (of_sub s) t rows only),
@@ -201,36 +214,6 @@ live_leaves {L} s t old new o0 o1 rows only places on live alone =
 
 -- ---- places
 
-sub_decides : (a b : SubId) → same_sub a b ≡ true → a ≡ b
-sub_decides a b h = (same_sub-Decides a b).0 h
-
-place_named : (a : Place) (r : SubRow) → a ≡ place_of r → a.sub ≡ r.sub
-place_named a r h = ap (λ (p : Place). p.sub) h
-
-pub topic_found : (s : SubId) (places : List Place) (n : ℕ) (place : Place) → position (λ (p : Place). same_sub p.sub s) places ≡ Some n → place ≡ get_or places n place
-    → (rows : List SubRow) → places ≡ map place_of rows → AloneSubs rows → AllOn place.topic (filter (of_sub s) rows) × (remove places n ≡ map place_of (without (of_sub s) rows))
-topic_found s places n place at value rows h alone =
-    let found = position-Some (λ (p : Place). same_sub p.sub s) places n place at in
-    let it : same_sub place.sub s ≡ true = ap (λ (p : Place). same_sub p.sub s) value ∙ found.1 in
-    let one = the_one (λ (p : Place). p) place_of (λ (p : Place). p.sub) (λ (r : SubRow). r.sub) same_sub sub_decides place_named s places rows n place (map-id places ∙ h) alone found.0 value it in (
-      subst (λ (rs : List SubRow). AllOn place.topic rs) (sym one.taken) (eq-eqb place.topic one.row.terms.topic (ap (λ (p : Place). p.topic) one.stands), tt),
-      sym (map-id (remove places n)) ∙ one.removes,
-    )
-
-pub no_topic : (s : SubId) (places : List Place) → position (λ (p : Place). same_sub p.sub s) places ≡ None → (rows : List SubRow) → places ≡ map place_of rows → list_any (of_sub s) rows ≡ false
-no_topic s places at rows h = no_one (λ (p : Place). p) place_of (λ (p : Place). p.sub) (λ (r : SubRow). r.sub) same_sub sub_decides place_named s places rows (map-id places ∙ h) at
-
--- where a subscription has no row, nothing is done
-pub live_idle : {L : Type 0} (test : SubRow → Bool) (f : SubRow → SubRow) (put : SubRow → List (BridgeOut L)) (live : Live) (o : List (BridgeOut L)) (rows : List SubRow) → list_any test rows ≡ false → IsLive rows live
-    → IsLive (changed test f rows) live × (o ≡ o ++ flat_map put (filter test rows))
-live_idle {L} test f put live o rows none h =
-    (subst (λ (rs : List SubRow). IsLive rs live) (sym (none_changed test f rows none)) h, sym (ap (λ (rs : List SubRow). o ++ flat_map put rs) (none_taken test rows none) ∙ append-nil o))
-
-pub live_stays : {L : Type 0} (s : SubId) (live : Live) (o : List (BridgeOut L)) (rows : List SubRow) → list_any (of_sub s) rows ≡ false → IsLive rows live
-    → IsLive (without (of_sub s) rows) live × (o ≡ o ++ flat_map end_outs (filter (of_sub s) rows))
-live_stays {L} s live o rows none h =
-    (subst (λ (rs : List SubRow). IsLive rs live) (sym (none_without (of_sub s) rows none)) h, sym (ap (λ (rs : List SubRow). o ++ flat_map end_outs rs) (none_taken (of_sub s) rows none) ∙ append-nil o))
-
 -- none of these rows passes
 pub none_from_taken : (test : SubRow → Bool) (rows : List SubRow) → filter test rows ≡ [] → list_any test rows ≡ false
 none_from_taken test [] h = refl
@@ -239,6 +222,68 @@ none_from_taken test (row ∷ rows) h = at (none_from_taken test rows) (test row
     at : (filter test rows ≡ [] → list_any test rows ≡ false) → (b : Bool) → cond b (row ∷ filter test rows) (filter test rows) ≡ [] → (b || list_any test rows) ≡ false
     at rest true e = cc
     at rest false e = rest e
+
+-- the one place that was found is on the topic of all rows of the subscription
+one_on : (place : Place) (rows : List SubRow) → place ∷ [] ≡ map place_of rows → AllOn place.topic rows
+one_on place [] h = cc
+one_on place (row ∷ []) h = (eq-eqb place.topic row.terms.topic (ap (λ (p : Place). p.topic) (heads h)), tt)
+one_on place (row ∷ other ∷ rows) h = cc
+
+pub found_on : (found : Option Place) (place : Place) (rows : List SubRow) → found ≡ Some place → option_to_list found ≡ map place_of rows → AllOn place.topic rows
+found_on found place rows is h = one_on place rows (sym (ap option_to_list is) ∙ h)
+
+none_of_map : {A B : Type 0} (f : A → B) (xs : List A) → [] ≡ map f xs → xs ≡ []
+none_of_map f [] h = refl
+none_of_map f (x ∷ xs) h = cc
+
+pub found_none : (s : SubId) (found : Option Place) (rows : List SubRow) → found ≡ None → option_to_list found ≡ map place_of (filter (of_sub s) rows) → list_any (of_sub s) rows ≡ false
+found_none s found rows is h = none_from_taken (of_sub s) rows (none_of_map place_of (filter (of_sub s) rows) (sym (ap option_to_list is) ∙ h))
+
+pub found_is : (s : SubId) (found : Option Place) (places : List Place) (rows : List SubRow) → option_to_list found ≡ filter (is_place_of s) places → places ≡ map place_of rows → option_to_list found ≡ map place_of (filter (of_sub s) rows)
+found_is s found places rows h k = h ∙ ap (filter (is_place_of s)) k ∙ filter_map_of place_of (is_place_of s) rows
+
+-- ---- one more
+
+pub live_gains : (link : SubLink) (place : Place) (before old new : Live) (joined : List SubId) (rows : List SubRow) (row : SubRow) → OnTopic link.topic (λ a b. b ≡ a ++ link ∷ []) old.topics new.topics → new.places ≡ old.places
+    → place ≡ place_of row → IsLive joined rows before → Awaits false place before old → sub_seen link ≡ sub_view row → IsLive (joined ++ row.sub ∷ []) (rows ++ row ∷ []) new
+live_gains link place before old new joined rows row on same is live awaits seen = record {
+  known = sub_joined row.sub before.places.joined old.places.joined new.places.joined joined (λ one. awaits.joined one ∙ ap (λ (p : Place). is_sub_among before.places.joined one || same_sub p.sub one) is) (ap (λ (p : Placed). p.joined) same) live.known;
+  places = ap (λ (p : Placed). p.live) same ∙ awaits.places ∙ ap (λ (ps : List Place). ps ++ place ∷ []) live.places ∙ ap (λ (p : Place). map place_of rows ++ p ∷ []) is ∙ sym (map-append place_of rows (row ∷ []));
+  topics = λ q. at q (link.topic == q) refl;
+}
+  where
+    topic : link.topic ≡ row.terms.topic
+    topic = ap (λ (v : SubView). v.topic) seen
+
+    before_on : (q : ℕ) → map sub_seen (links_on old.topics q) ≡ map sub_view (filter (row_is_on q) rows)
+    before_on q = ap (map sub_seen) (awaits.topics q) ∙ live.topics q
+
+    more : (q : ℕ) (b : Bool) → row_is_on q row ≡ b → filter (row_is_on q) (rows ++ row ∷ []) ≡ filter (row_is_on q) rows ++ cond b (row ∷ []) []
+    more q b e = filter-append (row_is_on q) rows (row ∷ []) ∙ ap (λ c. filter (row_is_on q) rows ++ cond c (row ∷ []) []) e
+
+    off : (q : ℕ) → (link.topic == q) ≡ false → (b : Bool) → row_is_on q row ≡ b → b ≡ false
+    off q e true w = clash link.topic q row.terms.topic (eq-eqb link.topic row.terms.topic topic) w e
+    off q e false w = refl
+
+    at : (q : ℕ) (b : Bool) → (link.topic == q) ≡ b → map sub_seen (links_on new.topics q) ≡ map sub_view (filter (row_is_on q) (rows ++ row ∷ []))
+    at q true e = subst (λ n. map sub_seen (links_on new.topics n) ≡ map sub_view (filter (row_is_on n) (rows ++ row ∷ []))) (eqb-true link.topic q e)
+        (ap (map sub_seen) on.here ∙ map-append sub_seen (links_on old.topics link.topic) (link ∷ []) ∙ ap (λ (vs : List SubView). vs ++ sub_seen link ∷ []) (before_on link.topic)
+        ∙ ap (λ v. map sub_view (filter (row_is_on link.topic) rows) ++ v ∷ []) seen ∙ sym (map-append sub_view (filter (row_is_on link.topic) rows) (row ∷ []))
+        ∙ sym (ap (map sub_view) (more link.topic true (eq-eqb link.topic row.terms.topic topic))))
+    at q false e =
+        ap (map sub_seen) (on.others q e) ∙ before_on q
+        ∙ sym (ap (map sub_view) (more q false (off q e (row_is_on q row) refl) ∙ append-nil (filter (row_is_on q) rows)))
+
+-- where a subscription has no row, nothing is done
+pub live_idle : {L : Type 0} (test : SubRow → Bool) (f : SubRow → SubRow) (put : SubRow → List (BridgeOut L)) (live : Live) (o : List (BridgeOut L)) (joined : List SubId) (rows : List SubRow) → list_any test rows ≡ false → IsLive joined rows live
+    → IsLive joined (changed test f rows) live × (o ≡ o ++ flat_map put (filter test rows))
+live_idle {L} test f put live o joined rows none h =
+    (subst (λ (rs : List SubRow). IsLive joined rs live) (sym (none_changed test f rows none)) h, sym (ap (λ (rs : List SubRow). o ++ flat_map put rs) (none_taken test rows none) ∙ append-nil o))
+
+pub live_stays : {L : Type 0} (s : SubId) (live : Live) (o : List (BridgeOut L)) (joined : List SubId) (rows : List SubRow) → list_any (of_sub s) rows ≡ false → IsLive joined rows live
+    → IsLive joined (without (of_sub s) rows) live × (o ≡ o ++ flat_map end_outs (filter (of_sub s) rows))
+live_stays {L} s live o joined rows none h =
+    (subst (λ (rs : List SubRow). IsLive joined rs live) (sym (none_without (of_sub s) rows none)) h, sym (ap (λ (rs : List SubRow). o ++ flat_map end_outs rs) (none_taken (of_sub s) rows none) ∙ append-nil o))
 
 -- where a topic has no links, nothing is done
 pub none_on : {A : Type 0} (topics new : BTreeMap ℕ (VecDeque SubLink A)) (t : ℕ) (Does : List SubLink → List SubLink → Type 0) → None ≡ get nat_cmp topics t → new ≡ topics → Does [] [] → OnTopic t Does topics new
@@ -258,13 +303,6 @@ none_done test f put o (row ∷ rows) h alone = cc
 pub none_left : {L : Type 0} (s : SubId) (o : List (BridgeOut L)) → SubLeaves {L = L} s [] [] o o
 none_left s o [] h alone = (refl, sym (append-nil o))
 none_left s o (row ∷ rows) h alone = cc
-
--- what a topic that was told says
-pub topic_told : (s : SubId) (told : Option ℕ) (topic : ℕ) (rows : List SubRow) → told ≡ Some topic → IsTopicOf s told rows → AllOn topic (filter (of_sub s) rows)
-topic_told s told topic rows is h = subst (λ (o : Option ℕ). IsTopicOf s o rows) is h
-
-pub topic_none : (s : SubId) (told : Option ℕ) (rows : List SubRow) → told ≡ None → IsTopicOf s told rows → list_any (of_sub s) rows ≡ false
-topic_none s told rows is h = none_from_taken (of_sub s) rows (subst (λ (o : Option ℕ). IsTopicOf s o rows) is h)
 
 pub wish_keeps_places : KeepsPlaces wished_once
 wish_keeps_places row = at (nat_lt row.wished row.terms.recaps)

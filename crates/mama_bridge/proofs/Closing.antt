@@ -24,7 +24,7 @@ seen_kept {A} {R} {V} seen view links old rows ends ends' h same e =
 
 module _ {L : Type 0} (tagged : L → ObjectId) where
   pub adds_closing : (shape : Shape) (table : Table) (e : BridgeEvent) (subs : Live) (inboxes : List InboxLink) (o0 o1 : List (BridgeOut L)) (settles ends : Bool)
-      → IsLive table.subs subs → map inbox_seen inboxes ≡ map inbox_view table.inboxes
+      → IsLive table.joined table.subs subs → map inbox_seen inboxes ≡ map inbox_view table.inboxes
       → EndsLive ends (publishers_of shape) (queues_of shape) subs inboxes (o0 ++ cond settles (settle_outs (publishers_of shape)) []) o1
       → settles ≡ begins_settling table e → ends ≡ begins_ending table e
       → Adds tagged o0 o1 (closing shape table e) []
@@ -35,5 +35,5 @@ module _ {L : Type 0} (tagged : L → ObjectId) where
       (says_if tagged settles (settle_outs (publishers_of shape)) (settles_all shape) (says_settles tagged shape))
       (says_if tagged ends ending (ends_all shape table) (says_ending tagged shape table)) in
       let adds = adds_said tagged o0 o1 outs (cond settles (settles_all shape) [] ++ cond ends (ends_all shape table) [])
-      (put table.subs table.inboxes h k ∙ append_assoc o0 (cond settles (settle_outs (publishers_of shape)) []) (cond ends ending [])) says in
+      (put table.joined table.subs table.inboxes h k ∙ append_assoc o0 (cond settles (settle_outs (publishers_of shape)) []) (cond ends ending [])) says in
       rw (← s, ← t) adds

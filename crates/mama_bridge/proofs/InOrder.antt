@@ -4,16 +4,16 @@ use Rattle.std.specs.BTreeMap.{BTreeMap, get, is_at}
 use Rattle.std.specs.Map.{set_value, values_of}
 use Rattle.std.specs.Ordering.{nat_cmp}
 use Rattle.std.specs.declared.collections.VecDeque.{VecDeque}
-use Rattle.std.proofs.Common.{◌≡◌, ℕ, zero, suc, ◌+◌, ◌<◌, ◌≤◌, Bool, true, false, ◌==◌, cond, List, [], ◌∷◌, ◌++◌, length, map, filter, get_or, take, drop, Option, None, Some, refl, sym, ◌∙◌, ap, arith, subst, eq-eqb}
+use Rattle.std.proofs.Common.{◌≡◌, ℕ, zero, suc, ◌+◌, ◌<◌, ◌≤◌, Bool, true, false, ◌==◌, cond, List, [], ◌∷◌, ◌++◌, length, map, filter, get_or, take, drop, Option, None, Some, refl, sym, ◌∙◌, ap, arith, subst, eq-eqb, append-nil, append_assoc, length-append, add-zero}
 use Rattle.std.proofs.lemmas.Bool.{eqb-true}
-use Rattle.std.proofs.lemmas.List.{map-append, length-map, take_all}
+use Rattle.std.proofs.lemmas.List.{map-append, length-map, take_all, get_or-append-add}
 use Rattle.std.proofs.lemmas.List.Sums.{sum_by-append}
 use Rattle.std.proofs.lemmas.Map.Entries.{sum_by-set_value}
 use Rattle.mama_bridge_rules.specs.Table.{SubRow}
-use Rattle.mama_bridge.specs.declared.live.Place.{Place}
+use Rattle.mama_bridge.specs.declared.places.Place.{Place}
 use Rattle.mama_bridge.specs.declared.subs.SubLink.{SubLink}
 use Rattle.mama_bridge.specs.Links.{SubView, sub_seen, sub_view, sub_held, row_is_on}
-use Rattle.mama_bridge.specs.Live.{links_on, links_held, all_held, OnTopic, place_of, IsTaken}
+use Rattle.mama_bridge.specs.Live.{links_on, links_held, all_held, OnTopic, place_of, TakesNext, IsTaken}
 
 heads : {V : Type 0} {v w : V} {vs ws : List V} → v ∷ vs ≡ w ∷ ws → v ≡ w
 heads e = cc
@@ -47,7 +47,7 @@ abbrev pub IsTakenTo : {A : Type 0} → List Place → BTreeMap ℕ (VecDeque Su
 IsTakenTo places old topics links i = (rows : List SubRow) → places ≡ map place_of rows → ((topic : ℕ) → map sub_seen (links_on old topic) ≡ map sub_view (filter (row_is_on topic) rows))
     → (map sub_seen links ≡ map sub_view (take i rows)) × ((topic : ℕ) → map sub_seen (links_on topics topic) ≡ map sub_view (filter (row_is_on topic) (drop i rows)))
 
-pub one_taken : {A : Type 0} (places : List Place) (old topics topics' : BTreeMap ℕ (VecDeque SubLink A)) (links links' : List SubLink) (i topic : ℕ) (d : Place) (r : Option SubLink) → i < length places → topic ≡ (get_or places i d).topic
+one_taken : {A : Type 0} (places : List Place) (old topics topics' : BTreeMap ℕ (VecDeque SubLink A)) (links links' : List SubLink) (i topic : ℕ) (d : Place) (r : Option SubLink) → i < length places → topic ≡ (get_or places i d).topic
     → OnTopic topic (λ a b. a ≡ option_to_list r ++ b) topics topics' → IfNone r (links_on topics topic ≡ []) → links' ≡ links ++ option_to_list r
     → IsTakenTo places old topics links i → IsTakenTo places old topics' links' (i + 1)
 one_taken places old topics topics' links links' i topic d r lt is on none put before rows h k =
@@ -79,6 +79,22 @@ one_taken places old topics topics' links links' i topic d r lt is on none put b
             let one : (topic == q) ≡ true = eq-eqb topic q (same ∙ sym (eqb-true q found.row.terms.topic w)) in
             absurd (let bad : false ≡ true = sym e ∙ one in cc)
         off false w = refl
+
+-- one entry more
+pub entry_taken : {A : Type 0} (places front rest : List Place) (entry : Option Place) (old topics topics' : BTreeMap ℕ (VecDeque SubLink A)) (links links' : List SubLink) → places ≡ (front ++ option_to_list entry) ++ rest
+    → TakesNext entry topics topics' links links' → IsTakenTo places old topics links (length front) → IsTakenTo places old topics' links' (length (front ++ option_to_list entry))
+entry_taken places front rest None old topics topics' links links' whole step before = λ rows h k.
+    let now = before rows h k in
+    let len : length front ≡ length (front ++ []) = sym (ap length (append-nil front)) in (
+      ap (map sub_seen) step.1 ∙ now.0 ∙ ap (λ n. map sub_view (take n rows)) len,
+      λ topic. ap (λ m. map sub_seen (links_on m topic)) step.0 ∙ now.1 topic ∙ ap (λ n. map sub_view (filter (row_is_on topic) (drop n rows))) len,
+    )
+entry_taken {A} places front rest (Some place) old topics topics' links links' whole step before =
+    let len : length (front ++ place ∷ []) ≡ length front + 1 = length-append front (place ∷ []) in
+    let all : length places ≡ (length front + 1) + length rest = ap length whole ∙ length-append (front ++ place ∷ []) rest ∙ ap (λ n. n + length rest) len in
+    let at : get_or places (length front) place ≡ place = ap (λ (ps : List Place). get_or ps (length front) place) (whole ∙ append_assoc front (place ∷ []) rest) ∙ ap (λ n. get_or (front ++ place ∷ rest) n place) (sym (add-zero (length front))) ∙ get_or-append-add front (place ∷ rest) 0 place in
+    subst (λ n. IsTakenTo places old topics' links' n) (sym len)
+    (one_taken places old topics topics' links links' (length front) place.topic place step.0 (omega arith) (ap (λ (p : Place). p.topic) (sym at)) step.1 step.2 step.3 before)
 
 pub all_taken : {A : Type 0} (places : List Place) (old topics : BTreeMap ℕ (VecDeque SubLink A)) (links : List SubLink) (i : ℕ) → length places ≤ i → IsTakenTo places old topics links i → IsTaken places old links
 all_taken places old topics links i most taken rows h k =

@@ -23,7 +23,7 @@ use Rattle.mama_rules.specs.Bridge.{BridgePut, to_publisher, to_queue, to_timers
 use Rattle.mama_bridge_rules.specs.Table.{SubRow, InboxRow, Table, sub_slots, inbox_slots, is_ended_by, is_settling_by, kept, sub_ends, inbox_ends, settles_all, ends_all}
 use Rattle.mama_bridge.specs.declared.out.BridgeOut.{BridgeOut}
 use Rattle.mama_bridge.specs.declared.out.BridgeOut.TheVariants as out
-use Rattle.mama_bridge.specs.declared.live.Place.{Place}
+use Rattle.mama_bridge.specs.declared.places.Place.{Place}
 use Rattle.mama_bridge.specs.declared.inboxes.InboxLink.{InboxLink}
 use Rattle.mama_bridge.specs.Outs.{put_note, listeners, listener_in, Adds}
 use Rattle.mama_bridge.specs.Links.{InboxView, inbox_seen, inbox_view, inbox_link_slots, first_outs, image_outs, end_outs, inbox_end_outs, settle_outs, fin_outs}

@@ -1,7 +1,6 @@
 -- What a bridge keeps after one entry more.
 use Rattle.std.proofs.Common.{◌≡◌, ℕ, ◌<◌, zero, suc, Bool, true, false, not, ◌&&◌, List, [], ◌∷◌, ◌++◌, length, set, map, replicate, Option, None, Some, refl, sym, ◌∙◌, ap, subst}
 use Rattle.std.proofs.lemmas.List.{map-append}
-use Rattle.mama_event.specs.declared.ids.SubId.{SubId}
 use Rattle.mama_event.specs.declared.ids.InboxId.{InboxId}
 use Rattle.mama_event.specs.declared.shape.Shape.{Shape}
 use Rattle.mama_event.specs.declared.to_bridge.BridgeNote.{BridgeNote}
@@ -11,7 +10,7 @@ use Rattle.mama_rules.specs.Ports.{Putter as Actor, bridge_putter}
 use Rattle.mama_rules.specs.Bridge.{BridgeEvent, put_by, heard, bridge_puts_at}
 use Rattle.mama_bridge_rules.specs.Table.{Table, table_puts, table_of, table_after, table_next, empty_table, all_set, marked, client_in, sender_in, settler_in, leaver_in}
 use Rattle.mama_bridge_rules.specs.Laws.{RowsAreLive, FlagsTell, TableTells, TableGrows, all_left}
-use Rattle.mama_bridge.specs.Ids.{is_sub_among, is_inbox_among}
+use Rattle.mama_bridge.specs.Ids.{is_inbox_among}
 use Rattle.mama_bridge.specs.declared.desk.Desk.{Desk}
 use Rattle.mama_bridge.specs.declared.putter.Putter.{Putter}
 use Rattle.mama_bridge.specs.declared.putter.Putter.TheVariants as putter
@@ -98,9 +97,8 @@ no_last grows tell shape journal port note none =
 
 stood : (table : Table) (desk desk' : Desk) → Stands table desk → desk'.byes ≡ table.byes → AllButByes desk desk' → Stands table desk'
 stood table desk desk' s h rest = record {
-  joined = λ one. ap (λ (known : List SubId). is_sub_among known one) rest.joined ∙ s.joined one;
   opened = λ one. ap (λ (known : List InboxId). is_inbox_among known one) rest.opened ∙ s.opened one;
-  subs = subst (λ (live : Live). IsLive table.subs live) (sym rest.subs) s.subs;
+  subs = subst (λ (live : Live). IsLive table.joined table.subs live) (sym rest.subs) s.subs;
   inboxes = ap (λ xs. map inbox_seen xs) rest.inboxes ∙ s.inboxes;
   clients = rest.clients ∙ s.clients;
   sends = rest.sends ∙ s.sends;
@@ -114,9 +112,8 @@ pub bye_stands : (shape : Shape) (table : Table) (desk desk' : Desk) (by : Putte
 bye_stands shape table desk desk' (putter.Client n) s h rest = stood table desk desk' s (h ∙ s.byes) rest
 bye_stands shape table desk desk' (putter.Publisher n) s h rest = stood table desk desk' s (h ∙ s.byes) rest
 bye_stands shape table desk desk' (putter.Queue n) s h rest = record {
-  joined = λ one. ap (λ (known : List SubId). is_sub_among known one) rest.joined ∙ s.joined one;
   opened = λ one. ap (λ (known : List InboxId). is_inbox_among known one) rest.opened ∙ s.opened one;
-  subs = subst (λ (live : Live). IsLive table.subs live) (sym rest.subs) s.subs;
+  subs = subst (λ (live : Live). IsLive table.joined table.subs live) (sym rest.subs) s.subs;
   inboxes = ap (λ xs. map inbox_seen xs) rest.inboxes ∙ s.inboxes;
   clients = rest.clients ∙ s.clients;
   sends = rest.sends ∙ s.sends;

@@ -17,7 +17,7 @@ is_eq-then Less p = refl
 is_eq-then Equal p = refl
 is_eq-then Greater p = refl
 
-sub_ties : (a c : SubId) → is_eq (sub_cmp a c) ≡ same_sub a c
+pub sub_ties : (a c : SubId) → is_eq (sub_cmp a c) ≡ same_sub a c
 sub_ties a c = is_eq-then (nat_cmp a.client c.client) (nat_cmp a.number c.number)
     ∙ ap (λ (b : Bool). b && is_eq (nat_cmp a.number c.number)) (is_eq-nat_cmp a.client c.client)
     ∙ ap (λ (b : Bool). (a.client == c.client) && b) (is_eq-nat_cmp a.number c.number)
@@ -27,14 +27,11 @@ inbox_ties a c = is_eq-then (nat_cmp a.client c.client) (nat_cmp a.number c.numb
     ∙ ap (λ (b : Bool). b && is_eq (nat_cmp a.number c.number)) (is_eq-nat_cmp a.client c.client)
     ∙ ap (λ (b : Bool). (a.client == c.client) && b) (is_eq-nat_cmp a.number c.number)
 
-or_else : (b old : Bool) → cond b true old ≡ (old || b)
+pub or_else : (b old : Bool) → cond b true old ≡ (old || b)
 or_else true true = refl
 or_else true false = refl
 or_else false true = refl
 or_else false false = refl
-
-pub sub_added : (sub one : SubId) (old new : Bool) → new ≡ cond (is_eq (sub_cmp sub one)) true old → new ≡ (old || same_sub sub one)
-sub_added sub one old new h = h ∙ ap (λ (b : Bool). cond b true old) (sub_ties sub one) ∙ or_else (same_sub sub one) old
 
 pub inbox_added : (inbox one : InboxId) (old new : Bool) → new ≡ cond (is_eq (inbox_cmp inbox one)) true old → new ≡ (old || same_inbox inbox one)
 inbox_added inbox one old new h = h ∙ ap (λ (b : Bool). cond b true old) (inbox_ties inbox one) ∙ or_else (same_inbox inbox one) old

@@ -11,5 +11,7 @@ pub mod Closing
 pub mod Brought
 pub mod Keeping
 pub mod Known
+pub mod Entries
+pub mod PlaceLemmas
 pub mod ByTopic
 pub mod InOrder

@@ -1,7 +1,6 @@
 -- What ties what a bridge keeps to the table of what it heard.
 use Rattle.std.specs.Prelude.{◌≡◌, ℕ, ◌<◌, false, List, [], map, if◌then◌else◌}
 use Rattle.std.specs.List.{list_any}
-use Rattle.mama_event.specs.declared.ids.SubId.{SubId}
 use Rattle.mama_event.specs.declared.ids.InboxId.{InboxId}
 use Rattle.mama_event.specs.declared.ids.ObjectId.{ObjectId}
 use Rattle.mama_event.specs.declared.shape.Shape.{Shape}
@@ -15,15 +14,14 @@ use Rattle.mama_bridge_rules.specs.Laws.{Alone}
 use Rattle.mama_bridge.specs.declared.out.BridgeOut.{BridgeOut}
 use Rattle.mama_bridge.specs.declared.desk.Desk.{Desk}
 use Rattle.mama_bridge.specs.Outs.{Adds, brought, is_create}
-use Rattle.mama_bridge.specs.Ids.{is_sub_among, is_inbox_among}
+use Rattle.mama_bridge.specs.Ids.{is_inbox_among}
 use Rattle.mama_bridge.specs.Links.{inbox_seen, inbox_view}
 use Rattle.mama_bridge.specs.Live.{IsLive}
 
 -- what is kept stands for a table
 pub record Stands (table : Table) (desk : Desk) : Type 0 where
-  pub joined : (s : SubId) → is_sub_among desk.joined s ≡ list_any (λ (r : SubId). same_sub r s) table.joined
   pub opened : (i : InboxId) → is_inbox_among desk.opened i ≡ list_any (λ (r : InboxId). same_inbox r i) table.opened
-  pub subs : IsLive table.subs desk.subs
+  pub subs : IsLive table.joined table.subs desk.subs
   pub inboxes : map inbox_seen desk.inboxes.items ≡ map inbox_view table.inboxes
   pub clients : desk.clients ≡ table.clients
   pub sends : desk.sends ≡ table.sends
@@ -52,7 +50,7 @@ HearsOf tagged shape e event before after old new = (table : Table) → Stands t
 abbrev pub AsBefore : Desk → Desk → Type 0
 AsBefore before after = (table : Table) → Stands table before → Stands table after
 
--- only who joined and the links of subscriptions may have changed
+-- only who joined, and the links of subscriptions, may have changed
 pub record AllBut (before after : Desk) : Type 0 where
   pub opened : after.opened ≡ before.opened
   pub inboxes : after.inboxes.items ≡ before.inboxes.items
@@ -63,7 +61,6 @@ pub record AllBut (before after : Desk) : Type 0 where
 
 -- only who opened and the links of inboxes may have changed
 pub record AllButInboxes (before after : Desk) : Type 0 where
-  pub joined : after.joined ≡ before.joined
   pub subs : after.subs ≡ before.subs
   pub clients : after.clients ≡ before.clients
   pub sends : after.sends ≡ before.sends
@@ -72,7 +69,6 @@ pub record AllButInboxes (before after : Desk) : Type 0 where
 
 -- only links may have changed
 pub record AllButLinks (before after : Desk) : Type 0 where
-  pub joined : after.joined ≡ before.joined
   pub opened : after.opened ≡ before.opened
   pub clients : after.clients ≡ before.clients
   pub sends : after.sends ≡ before.sends
@@ -81,7 +77,6 @@ pub record AllButLinks (before after : Desk) : Type 0 where
 
 -- only who said Bye may have changed
 pub record AllButByes (before after : Desk) : Type 0 where
-  pub joined : after.joined ≡ before.joined
   pub opened : after.opened ≡ before.opened
   pub subs : after.subs ≡ before.subs
   pub inboxes : after.inboxes.items ≡ before.inboxes.items

@@ -5,4 +5,5 @@ pub mod Routing
 pub mod Putters
 pub mod Marks
 pub mod Ids
+pub mod Placed
 pub mod Live

@@ -1,6 +1,6 @@
 -- The links of the live subscriptions by topic, and their places in order of joining.
-use Rattle.std.specs.Prelude.{◌≡◌, ℕ, ◌<◌, Bool, true, false, ◌==◌, List, [], ◌∷◌, ◌++◌, map, filter, sum_by, Option, None, Some, if◌then◌else◌}
-use Rattle.std.specs.List.{flat_map}
+use Rattle.std.specs.Prelude.{◌≡◌, ℕ, ◌<◌, Bool, true, false, ◌==◌, List, [], ◌∷◌, ◌++◌, ◌||◌, map, filter, sum_by, Option, None, Some, option_to_list, IfNone, if◌then◌else◌}
+use Rattle.std.specs.List.{list_any, flat_map}
 use Rattle.std.specs.Ordering.{nat_cmp}
 use Rattle.std.specs.BTreeMap.{BTreeMap, get, values}
 use Rattle.std.specs.VecDeque.{deque_len, deque_capacity}
@@ -10,11 +10,12 @@ use Rattle.mama_event.specs.declared.ids.SubId.{SubId}
 use Rattle.mama_bridge_rules.specs.Laws.{Alone}
 use Rattle.mama_bridge_rules.specs.Table.{SubRow, InboxRow, of_sub, changed, without, kept}
 use Rattle.mama_bridge.specs.declared.live.Live.{Live}
-use Rattle.mama_bridge.specs.declared.live.Place.{Place}
+use Rattle.mama_bridge.specs.declared.places.Place.{Place}
 use Rattle.mama_bridge.specs.declared.inboxes.InboxLink.{InboxLink}
 use Rattle.mama_bridge.specs.declared.out.BridgeOut.{BridgeOut}
 use Rattle.mama_bridge.specs.declared.subs.SubLink.{SubLink}
-use Rattle.mama_bridge.specs.Links.{Each, sub_seen, sub_view, sub_held, inbox_seen, inbox_view, row_is_on, link_slot, end_outs, inbox_end_outs, fin_outs}
+use Rattle.mama_bridge.specs.Ids.{is_sub_among}
+use Rattle.mama_bridge.specs.Links.{sub_seen, sub_view, sub_held, inbox_seen, inbox_view, row_is_on, link_slot, end_outs, inbox_end_outs, fin_outs}
 
 -- the links in a queue of links, which are none where there is none
 abbrev pub links_in : {A : Type 0} → Option (VecDeque SubLink A) → List SubLink
@@ -49,51 +50,60 @@ pub record OnTopic {A : Type 0} (topic : ℕ) (Does : List SubLink → List SubL
 abbrev pub place_of : SubRow → Place
 place_of row = record { sub = row.sub; topic = row.terms.topic; queue = row.terms.queue; slot = row.slot }
 
--- the places are those of the rows, in order, and the links of each topic stand for the rows on it
-pub record IsLive (rows : List SubRow) (live : Live) : Type 0 where
-  pub places : live.places.items ≡ map place_of rows
+-- who joined is noted, the places are those of the rows, in order, and the links of each topic stand for the rows on it
+pub record IsLive (joined : List SubId) (rows : List SubRow) (live : Live) : Type 0 where
+  pub known : (s : SubId) → is_sub_among live.places.joined s ≡ list_any (λ (r : SubId). same_sub r s) joined
+  pub places : live.places.live ≡ map place_of rows
   pub topics : (topic : ℕ) → map sub_seen (links_on live.topics topic) ≡ map sub_view (filter (row_is_on topic) rows)
 
 -- nothing that contracts see has changed
 abbrev pub StaysLive : Live → Live → Type 0
-StaysLive old new = (rows : List SubRow) → IsLive rows old → IsLive rows new
+StaysLive old new = (joined : List SubId) (rows : List SubRow) → IsLive joined rows old → IsLive joined rows new
 
 abbrev pub AloneSubs : List SubRow → Type 0
 AloneSubs rows = Alone same_sub (λ (row : SubRow). row.sub) rows
 
--- the topic of the row of a subscription, which is none where there is no row
-abbrev pub IsTopicOf : SubId → Option ℕ → List SubRow → Type 0
-IsTopicOf s None rows = filter (of_sub s) rows ≡ []
-IsTopicOf s (Some topic) rows = Each (λ (row : SubRow). row_is_on topic row ≡ true) (filter (of_sub s) rows)
-
 module _ {L : Type 0} where
   -- the rows that pass a test are changed, and this is put out for each of them
   abbrev pub LiveDoes : (SubRow → Bool) → (SubRow → SubRow) → (SubRow → List (BridgeOut L)) → Live → Live → List (BridgeOut L) → List (BridgeOut L) → Type 0
-  LiveDoes test change put old new outs outs' = (rows : List SubRow) → IsLive rows old → AloneSubs rows
-      → IsLive (changed test change rows) new × (outs' ≡ outs ++ flat_map put (filter test rows))
+  LiveDoes test change put old new outs outs' = (joined : List SubId) (rows : List SubRow) → IsLive joined rows old → AloneSubs rows
+      → IsLive joined (changed test change rows) new × (outs' ≡ outs ++ flat_map put (filter test rows))
 
   -- a subscription's row is gone, and its end is put out
   abbrev pub LiveLeaves : SubId → Live → Live → List (BridgeOut L) → List (BridgeOut L) → Type 0
-  LiveLeaves s old new outs outs' = (rows : List SubRow) → IsLive rows old → AloneSubs rows
-      → IsLive (without (of_sub s) rows) new × (outs' ≡ outs ++ flat_map end_outs (filter (of_sub s) rows))
+  LiveLeaves s old new outs outs' = (joined : List SubId) (rows : List SubRow) → IsLive joined rows old → AloneSubs rows
+      → IsLive joined (without (of_sub s) rows) new × (outs' ≡ outs ++ flat_map end_outs (filter (of_sub s) rows))
 
   -- the ending, if it comes
   abbrev pub EndsLive : Bool → ℕ → ℕ → Live → List InboxLink → List (BridgeOut L) → List (BridgeOut L) → Type 0
-  EndsLive ends publishers queues live inboxes outs outs' = (rows : List SubRow) (others : List InboxRow) → IsLive rows live → map inbox_seen inboxes ≡ map inbox_view others
+  EndsLive ends publishers queues live inboxes outs outs' = (joined : List SubId) (rows : List SubRow) (others : List InboxRow) → IsLive joined rows live → map inbox_seen inboxes ≡ map inbox_view others
       → outs' ≡ outs ++ (if ends then flat_map end_outs rows ++ flat_map inbox_end_outs others ++ fin_outs publishers queues else [])
+
+-- no row is left where the ending comes
+abbrev pub KeepsLive : Bool → Live → Live → Type 0
+KeepsLive ends old new = (joined : List SubId) (rows : List SubRow) → IsLive joined rows old → IsLive joined (kept ends rows) new
 
 -- the slots of a queue that places have
 abbrev pub place_slots : ℕ → List Place → List ℕ
 place_slots queue places = flat_map (λ (place : Place). link_slot queue place.queue place.slot) places
 
--- the rows of a live list and one more
-abbrev pub Gains : SubLink → Live → Live → Type 0
-Gains link old new = (rows : List SubRow) (row : SubRow) → IsLive rows old → sub_seen link ≡ sub_view row → IsLive (rows ++ row ∷ []) new
+-- one subscription more joined, and its link is still to come
+pub record Awaits (ended : Bool) (place : Place) (old new : Live) : Type 0 where
+  pub joined : (one : SubId) → is_sub_among new.places.joined one ≡ (is_sub_among old.places.joined one || same_sub place.sub one)
+  pub places : new.places.live ≡ old.places.live ++ kept ended (place ∷ [])
+  pub topics : (q : ℕ) → links_on new.topics q ≡ links_on old.topics q
+
+-- the link of the one that joined is kept
+abbrev pub Gains : Bool → SubLink → Live → Live → Type 0
+Gains ended link old new = (before : Live) (joined : List SubId) (rows : List SubRow) (row : SubRow) → IsLive joined rows before → Awaits ended (place_of row) before old → sub_seen link ≡ sub_view row
+    → IsLive (joined ++ row.sub ∷ []) (rows ++ kept ended (row ∷ [])) new
+
+-- the next link of a place's topic is moved to the end of a list, if there is a place
+abbrev pub TakesNext : {A : Type 0} → Option Place → BTreeMap ℕ (VecDeque SubLink A) → BTreeMap ℕ (VecDeque SubLink A) → List SubLink → List SubLink → Type 0
+TakesNext None old new links links' = (new ≡ old) × (links' ≡ links)
+TakesNext (Some place) old new links links' = (next : Option SubLink) × OnTopic place.topic (λ a b. a ≡ option_to_list next ++ b) old new × IfNone next (links_on old place.topic ≡ []) × (links' ≡ links ++ option_to_list next)
 
 -- the links that stand for the rows of these places, in order
 abbrev pub IsTaken : {A : Type 0} → List Place → BTreeMap ℕ (VecDeque SubLink A) → List SubLink → Type 0
 IsTaken places topics links = (rows : List SubRow) → places ≡ map place_of rows → ((topic : ℕ) → map sub_seen (links_on topics topic) ≡ map sub_view (filter (row_is_on topic) rows))
     → map sub_seen links ≡ map sub_view rows
-
-abbrev pub GainsIf : Bool → SubLink → Live → Live → Type 0
-GainsIf ended link old new = (rows : List SubRow) (row : SubRow) → IsLive rows old → sub_seen link ≡ sub_view row → IsLive (rows ++ kept ended (row ∷ [])) new

@@ -1,25 +1,25 @@
-ghost use Rattle.std.specs.Prelude.{◌≡◌, ◌+◌, ◌<◌, ◌≤◌, ◌^◌, ◌==◌, ◌&&◌, ◌||◌, ◌++◌, [], ◌∷◌, List, not, nat_lt, nat_le, slice_set, true, length, position, sum_by, vec_len, IfOk, IfErr, OnOk, OnErr, if◌then◌else◌};
+ghost use Rattle.std.specs.Prelude.{◌≡◌, ◌+◌, ◌<◌, ◌≤◌, ◌^◌, ◌==◌, ◌&&◌, ◌||◌, ◌++◌, [], ◌∷◌, List, not, nat_lt, nat_le, slice_set, true, false, length, position, sum_by, vec_len, IfOk, IfErr, OnOk, OnErr, if◌then◌else◌};
 ghost use Rattle.std.specs.Vec.{vec_capacity};
 ghost use Rattle.mama_journal.specs.Journal.{least_free};
 ghost use Rattle.mama_link.specs.Link.{standing_after};
-ghost use Rattle.mama_event.specs.Object.{same_sub, same_inbox};
-ghost use Rattle.mama_event.specs.declared.ids.SubId.{SubId as Sub};
+ghost use Rattle.mama_event.specs.Object.{same_inbox};
 ghost use Rattle.mama_event.specs.declared.ids.InboxId.{InboxId as Inbox};
 ghost use Rattle.mama_event.specs.declared.shape.Shape.{Shape};
 ghost use Rattle.mama_rules.specs.Bridge.{joins, leaves, opens, closes, asks, publishes, images, replies, wishes, client_done, sends_done, settled, put_by};
-ghost use Rattle.mama_bridge_rules.specs.Table.{SubRow, empty_table, all_set, marked, leaver_in, is_settling_by, is_ended_by, kept};
+ghost use Rattle.mama_bridge_rules.specs.Table.{empty_table, all_set, marked, leaver_in, is_settling_by, is_ended_by, kept};
 ghost use Rattle.mama_bridge.specs.Desk.{Stands, Hears, AsBefore, AllBut, AllButInboxes, AllButLinks, AllButByes};
 ghost use Rattle.mama_bridge.specs.Ids.{is_sub_among, is_inbox_among};
 ghost use Rattle.mama_bridge.specs.Putters.{actor_of, HasFlags};
 ghost use Rattle.mama_bridge.specs.Links.{sub_seen, inbox_seen, first_outs, image_outs, settle_outs, inbox_held, inbox_link_slots};
-ghost use Rattle.mama_bridge.specs.Live.{place_slots, all_held, IsLive, StaysLive, HasRoomOn, GainsIf, EndsLive};
+ghost use Rattle.mama_bridge.specs.Live.{place_slots, all_held, StaysLive, HasRoomOn, Awaits, Gains, KeepsLive, EndsLive};
 
 use crate::ending::{end_all, held_by_inboxes, room, settle_if};
 use crate::flags::Flags;
-use crate::ids::{InboxIds, SubIds};
+use crate::ids::InboxIds;
 use crate::inboxes::InboxLink;
 use crate::live::Live;
 use crate::out::BridgeOut;
+use crate::places::Place;
 use crate::putter::Putter;
 use crate::slots::free_slot;
 use crate::subs::SubLink;
@@ -37,7 +37,6 @@ use std::alloc::Global;
 #[derive(Drop)]
 pub(crate) struct Desk {
     alloc: Global,
-    joined: SubIds,
     opened: InboxIds,
     subs: Live,
     inboxes: Vec<InboxLink>,
@@ -54,7 +53,6 @@ impl Desk {
         let publishers = shape.publisher_topics.len();
         Ok(Desk {
             alloc,
-            joined: SubIds::new(alloc),
             opened: InboxIds::new(alloc),
             subs: Live::new(alloc),
             inboxes: Vec::new(alloc),
@@ -184,25 +182,30 @@ impl Desk {
     /// Notes that a subscription joined, makes the room that it takes, and tells its slot.
     fn ready_sub<L>(
         &mut self,
+        ended: bool,
         sub: SubId,
         topic: u32,
         queue: u32,
         out: &mut Outbox<BridgeOut<L>>,
     ) -> Result<u32, OutOfMemory>
-        ensures slot { IfOk result (λ slot. slot ≡ least_free (place_slots queue self.old.subs.places.items ++ inbox_link_slots queue self.old.inboxes.items)) }
-        ensures room_places { OnOk result (vec_len self.new.subs.places < vec_capacity self.new.subs.places) }
+        requires { is_sub_among self.old.subs.places.joined sub ≡ false }
+        ensures slot { IfOk result (λ slot. slot ≡ least_free (place_slots queue self.old.subs.places.live ++ inbox_link_slots queue self.old.inboxes.items)) }
         ensures room_links { OnOk result (HasRoomOn self.new.subs.topics topic) }
         ensures room_out { OnOk result (1 < out.new.spare) }
-        ensures joined { OnOk result ((one : Sub) → is_sub_among self.new.joined one ≡ (is_sub_among self.old.joined one || same_sub sub one)) }
-        ensures not_joined { OnErr result (self.new.joined ≡ self.old.joined) }
-        ensures subs { StaysLive self.old.subs self.new.subs }
+        ensures subs { IfOk result (λ slot. Awaits ended (record { sub = sub; topic = topic; queue = queue; slot = slot }) self.old.subs self.new.subs) }
+        ensures same_subs { OnErr result (StaysLive self.old.subs self.new.subs) }
         ensures rest { AllBut self.old self.new }
         ensures out { out.new.items ≡ out.old.items }
     {
         let slot = free_slot(self.alloc, &self.subs.places, &self.inboxes, queue)?;
-        self.subs.reserve(self.alloc, topic)?;
         out.reserve(2)?;
-        self.joined.add(sub)?;
+        let place = Place {
+            sub,
+            topic,
+            queue,
+            slot,
+        };
+        self.subs.ready(self.alloc, ended, place)?;
         Ok(slot)
     }
 
@@ -215,19 +218,19 @@ impl Desk {
         out: &mut Outbox<BridgeOut<L>>,
     ) -> Result<(), (SubTerms, L)>
         requires { length shape.now.publisher_topics < 2 ^ 32 }
-        ensures ok { OnOk result (Hears L.tagged shape.now (joins sub terms (L.tagged listener)) self.old self.new out.old.items out.new.items (if is_sub_among self.old.joined sub then [] else listener ∷ [])) }
+        ensures ok { OnOk result (Hears L.tagged shape.now (joins sub terms (L.tagged listener)) self.old self.new out.old.items out.new.items (if is_sub_among self.old.subs.places.joined sub then [] else listener ∷ [])) }
         ensures back { IfErr result (λ given. given ≡ (terms, listener)) }
         ensures same { OnErr result (AsBefore self.old self.new) }
         ensures err { OnErr result (out.new.items ≡ out.old.items) }
     {
-        if self.joined.has(sub) {
+        if self.subs.has_joined(sub) {
             return Ok(());
         }
-        let slot = match self.ready_sub(sub, terms.topic, terms.queue, out) {
+        let ended = self.is_ended();
+        let slot = match self.ready_sub(ended, sub, terms.topic, terms.queue, out) {
             Ok(slot) => slot,
             Err(_) => return Err((terms, listener)),
         };
-        let ended = self.is_ended();
         let SubTerms {
             topic,
             kind,
@@ -356,13 +359,13 @@ impl Desk {
         out: &mut Outbox<BridgeOut<L>>,
     )
         requires no_links { links.items ≡ [] }
-        requires links { vec_len self.old.subs.places ≤ vec_capacity links }
+        requires links { length self.old.subs.places.live ≤ vec_capacity links }
         requires msgs { all_held self.old.subs.topics ≤ msgs.old.spare }
         requires bodies { sum_by inbox_held self.old.inboxes.items ≤ bodies.old.spare }
-        requires out { all_held self.old.subs.topics + vec_len self.old.subs.places + (sum_by inbox_held self.old.inboxes.items + length self.old.inboxes.items) + (queues + publishers + 1) ≤ out.old.spare }
+        requires out { all_held self.old.subs.topics + length self.old.subs.places.live + (sum_by inbox_held self.old.inboxes.items + length self.old.inboxes.items) + (queues + publishers + 1) ≤ out.old.spare }
         requires no_msgs { msgs.old.items ≡ [] }
         requires no_bodies { bodies.old.items ≡ [] }
-        ensures subs { (rows : List SubRow) → IsLive rows self.old.subs → IsLive (kept ends rows) self.new.subs }
+        ensures subs { KeepsLive ends self.old.subs self.new.subs }
         ensures inboxes { self.new.inboxes.items ≡ kept ends self.old.inboxes.items }
         ensures out { EndsLive ends publishers queues self.old.subs self.old.inboxes.items out.old.items out.new.items }
         ensures rest { AllButLinks self.old self.new }
@@ -383,7 +386,7 @@ impl Desk {
         queues: u32,
         out: &mut Outbox<BridgeOut<L>>,
     ) -> Result<(), OutOfMemory>
-        ensures subs { OnOk result ((rows : List SubRow) → IsLive rows self.old.subs → IsLive (kept ends rows) self.new.subs) }
+        ensures subs { OnOk result (KeepsLive ends self.old.subs self.new.subs) }
         ensures inboxes { OnOk result (self.new.inboxes.items ≡ kept ends self.old.inboxes.items) }
         ensures out { OnOk result (EndsLive ends publishers queues self.old.subs self.old.inboxes.items (out.old.items ++ (if settles then settle_outs publishers else [])) out.new.items) }
         ensures rest { AllButLinks self.old self.new }
@@ -392,7 +395,7 @@ impl Desk {
         ensures err { OnErr result (out.new.items ≡ out.old.items) }
     {
         let held = self.subs.held()?;
-        let count = self.subs.len();
+        let count = self.subs.count();
         let replies = held_by_inboxes(&self.inboxes)?;
         let opened = self.inboxes.len();
         let more = room(held, count, replies, opened, publishers, queues)?;
@@ -417,7 +420,7 @@ impl Desk {
         queues: u32,
         out: &mut Outbox<BridgeOut<L>>,
     ) -> Result<(), OutOfMemory>
-        ensures subs { OnOk result ((rows : List SubRow) → IsLive rows self.old.subs → IsLive (kept ends rows) self.new.subs) }
+        ensures subs { OnOk result (KeepsLive ends self.old.subs self.new.subs) }
         ensures inboxes { OnOk result (self.new.inboxes.items ≡ kept ends self.old.inboxes.items) }
         ensures out { OnOk result (EndsLive ends publishers queues self.old.subs self.old.inboxes.items (out.old.items ++ (if settles then settle_outs publishers else [])) out.new.items) }
         ensures rest { AllButLinks self.old self.new }
@@ -487,7 +490,7 @@ impl Desk {
         queue: u32,
         out: &mut Outbox<BridgeOut<L>>,
     ) -> Result<u32, OutOfMemory>
-        ensures slot { IfOk result (λ slot. slot ≡ least_free (place_slots queue self.old.subs.places.items ++ inbox_link_slots queue self.old.inboxes.items)) }
+        ensures slot { IfOk result (λ slot. slot ≡ least_free (place_slots queue self.old.subs.places.live ++ inbox_link_slots queue self.old.inboxes.items)) }
         ensures room_inboxes { OnOk result (vec_len self.new.inboxes < vec_capacity self.new.inboxes) }
         ensures room_out { OnOk result (0 < out.new.spare) }
         ensures opened { OnOk result ((one : Inbox) → is_inbox_among self.new.opened one ≡ (is_inbox_among self.old.opened one || same_inbox inbox one)) }
@@ -505,10 +508,8 @@ impl Desk {
 
     /// Keeps the link of a new subscription, unless the ending has come.
     fn add_sub(&mut self, ended: bool, link: SubLink)
-        requires places { vec_len self.old.subs.places < vec_capacity self.old.subs.places }
-        requires links { HasRoomOn self.old.subs.topics link.topic }
-        ensures joined { self.new.joined ≡ self.old.joined }
-        ensures subs { GainsIf ended link self.old.subs self.new.subs }
+        requires { HasRoomOn self.old.subs.topics link.topic }
+        ensures subs { Gains ended link self.old.subs self.new.subs }
         ensures rest { AllBut self.old self.new }
     {
         if !ended {

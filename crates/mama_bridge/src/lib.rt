@@ -7,10 +7,10 @@
 //!
 //! A bridge keeps a link for each live subscription and each open inbox, and not what it heard. The links of
 //! subscriptions stand by topic: a publish costs the links of its topic, what comes out of them, and a logarithm of the
-//! topics. An image, a wish and a Leave cost the links of one topic, and a look at the place of each live subscription; a
-//! Join costs the places and the inboxes, and a logarithm of all that joined before; a reply, an Ask and the end of an
-//! inbox cost the inboxes. All links are looked at where settling begins and where the ending comes. Want of memory
-//! leaves the bridge and the outbox as they were.
+//! topics. An image, a wish and a Leave cost the links of one topic, and a logarithm of all that joined before. A Join
+//! costs that logarithm too, and a look at the place of each that ever was live and at the inboxes; a reply, an Ask and
+//! the end of an inbox cost the inboxes. All links and places are looked at where settling begins and where the ending
+//! comes. Want of memory leaves the bridge and the outbox as they were.
 #![tactic(auto)]
 
 mod bridge;
@@ -23,6 +23,7 @@ mod ids;
 mod inboxes;
 mod live;
 mod out;
+mod places;
 mod putter;
 mod routes;
 mod slots;

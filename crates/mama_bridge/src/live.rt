@@ -1,13 +1,16 @@
-ghost use Rattle.std.specs.Prelude.{◌≡◌, ◌+◌, ◌<◌, ◌≤◌, ◌++◌, [], ◌∷◌, List, ℕ, false, map, length, sum_by, vec_len, option_to_list, take, drop, position, IfOk, IfNone, OnOk, OnErr, ◌==◌, if◌then◌else◌};
+ghost use Rattle.std.specs.Prelude.{◌≡◌, ◌+◌, ◌<◌, ◌≤◌, ◌++◌, [], ◌∷◌, List, ℕ, false, map, filter, length, sum_by, vec_len, option_to_list, take, drop, IfOk, IfNone, OnOk, OnErr, ◌==◌, if◌then◌else◌};
 ghost use Rattle.std.specs.Vec.{vec_capacity};
-ghost use Rattle.mama_event.specs.Object.{same_sub};
+ghost use Rattle.mama_event.specs.declared.ids.SubId.{SubId as Sub};
 ghost use Rattle.mama_event.specs.declared.market.MarketMsg.{MarketMsg};
 ghost use Rattle.mama_bridge_rules.specs.Table.{SubRow, of_sub, sub_passed};
 ghost use Rattle.mama_bridge.specs.Links.{sub_seen, sub_view, sub_held, row_is_on, emit_outs, end_outs, wish_outs, wished_once, SubsPass, SubLeaves, SubWishes};
-ghost use Rattle.mama_bridge.specs.Live.{links_on, links_held, all_held, place_of, HasRoomOn, OnTopic, IsLive, StaysLive, AloneSubs, IsTopicOf, LiveDoes, LiveLeaves, Gains, IsTaken};
+ghost use Rattle.mama_bridge.specs.Ids.{is_sub_among};
+ghost use Rattle.mama_bridge.specs.Placed.{present};
+ghost use Rattle.mama_bridge.specs.Live.{links_on, links_held, all_held, place_of, HasRoomOn, OnTopic, IsLive, StaysLive, LiveDoes, LiveLeaves, Awaits, TakesNext, IsTaken};
 
 use crate::ends::plus;
 use crate::out::BridgeOut;
+use crate::places::{Place, Places};
 use crate::routes;
 use crate::subs::SubLink;
 use mama_event::{MarketMsg, SubId};
@@ -16,22 +19,13 @@ use mama_memory::OutOfMemory;
 use std::alloc::Global;
 use std::collections::{BTreeMap, VecDeque};
 
-/// Where a live subscription is: its topic, its queue, and its slot there.
-#[derive(Clone, Copy)]
-pub(crate) struct Place {
-    pub(crate) sub: SubId,
-    pub(crate) topic: u32,
-    pub(crate) queue: u32,
-    pub(crate) slot: u32,
-}
-
 /// Links by topic, those of a topic in order of joining.
 type ByTopic = BTreeMap<u32, VecDeque<SubLink>>;
 
-/// The live subscriptions: their places in order of joining, and their links by topic.
+/// The live subscriptions: their places in order of joining, and their links by topic. Beside the places stands who joined.
 #[derive(Drop)]
 pub(crate) struct Live {
-    pub(crate) places: Vec<Place>,
+    pub(crate) places: Places,
     pub(crate) topics: ByTopic,
 }
 
@@ -160,18 +154,30 @@ fn put_next(links: &mut Vec<SubLink>, link: Option<SubLink>)
     }
 }
 
+/// Moves the next link of a place's topic to a list with room, if there is a place.
+fn take_next(place: Option<Place>, topics: &mut ByTopic, links: &mut Vec<SubLink>)
+    requires { vec_len links.old + length (option_to_list place) ≤ vec_capacity links.old }
+    ensures taken { TakesNext place topics.old topics.new links.old.items links.new.items }
+    ensures held { all_held topics.new + sum_by sub_held links.new.items ≡ all_held topics.old + sum_by sub_held links.old.items }
+    ensures len { vec_len links.new ≤ vec_len links.old + length (option_to_list place) }
+    ensures capacity { vec_capacity links.new ≡ vec_capacity links.old }
+{
+    if let Some(place) = place {
+        let link = next_on(topics, place.topic);
+        put_next(links, link);
+    }
+}
+
 /// Moves all links to a list with room, in the order of their places.
-fn take_in_order(places: &Vec<Place>, topics: &mut ByTopic, links: &mut Vec<SubLink>)
+fn take_in_order(places: &Vec<Option<Place>>, topics: &mut ByTopic, links: &mut Vec<SubLink>)
     requires none { links.old.items ≡ [] }
-    requires room { vec_len places.now ≤ vec_capacity links.old }
-    ensures taken { IsTaken places.now.items topics.old links.new.items }
+    requires room { length (present places.now.items) ≤ vec_capacity links.old }
+    ensures taken { IsTaken (present places.now.items) topics.old links.new.items }
     ensures held { sum_by sub_held links.new.items ≤ all_held topics.old }
-    ensures len { vec_len links.new ≤ vec_len places.now }
+    ensures len { vec_len links.new ≤ length (present places.now.items) }
 {
     for i in 0..places.len() {
-        let topic = places[i].topic;
-        let link = next_on(topics, topic);
-        put_next(links, link);
+        take_next(places[i], topics, links);
     }
 }
 
@@ -197,28 +203,28 @@ fn held_by_all(topics: &ByTopic) -> Result<usize, OutOfMemory>
     Ok(total)
 }
 
-/// The place of a subscription in the list of places.
-fn find(places: &Vec<Place>, sub: SubId) -> Option<usize>
-    ensures { result ≡ position (λ place. same_sub place.sub sub) places.now.items }
-{
-    places.iter().position(|place| place.sub == sub)
-}
-
 impl Live {
     pub(crate) fn new(alloc: Global) -> Live
-        ensures { IsLive [] result }
+        ensures { IsLive [] [] result }
     {
         Live {
-            places: Vec::new(alloc),
+            places: Places::new(alloc),
             topics: BTreeMap::new(alloc),
         }
     }
 
-    /// How many subscriptions are live.
-    pub(crate) fn len(&self) -> usize
-        ensures { result ≡ vec_len self.now.places }
+    /// Whether a subscription joined before.
+    pub(crate) fn has_joined(&self, sub: SubId) -> bool
+        ensures { result ≡ is_sub_among self.now.places.joined sub }
     {
-        self.places.len()
+        self.places.has_joined(sub)
+    }
+
+    /// How many subscriptions are live. It looks at each that ever was.
+    pub(crate) fn count(&self) -> usize
+        ensures { result ≡ length self.now.places.live }
+    {
+        self.places.count()
     }
 
     /// How many messages all links hold.
@@ -243,14 +249,11 @@ impl Live {
         publish_on(alloc, &mut self.topics, topic, msg, out)
     }
 
-    /// The topic of a subscription, if it is live.
-    fn topic_of(&self, sub: SubId) -> Option<u32>
-        ensures { (rows : List SubRow) → IsLive rows self.now → AloneSubs rows → IsTopicOf sub result rows }
+    /// The place of a subscription, if it is live.
+    pub(crate) fn find(&self, sub: SubId) -> Option<Place>
+        ensures { (joined : List Sub) (rows : List SubRow) → IsLive joined rows self.now → option_to_list result ≡ map place_of (filter (of_sub sub) rows) }
     {
-        match find(&self.places, sub) {
-            Some(i) => Some(self.places[i].topic),
-            None => None,
-        }
+        self.places.find(sub)
     }
 
     /// Passes a message through a subscription's link, if it is live.
@@ -265,8 +268,8 @@ impl Live {
         ensures same { OnErr result (StaysLive self.old self.new) }
         ensures err { OnErr result (out.new.items ≡ out.old.items) }
     {
-        match self.topic_of(sub) {
-            Some(topic) => image_on(alloc, &mut self.topics, topic, sub, msg, out),
+        match self.find(sub) {
+            Some(place) => image_on(alloc, &mut self.topics, place.topic, sub, msg, out),
             None => Ok(()),
         }
     }
@@ -283,8 +286,8 @@ impl Live {
         ensures same { OnErr result (StaysLive self.old self.new) }
         ensures err { OnErr result (out.new.items ≡ out.old.items) }
     {
-        match self.topic_of(sub) {
-            Some(topic) => wish_on(&mut self.topics, topic, sub, sender, out),
+        match self.find(sub) {
+            Some(place) => wish_on(&mut self.topics, place.topic, sub, sender, out),
             None => Ok(()),
         }
     }
@@ -300,60 +303,52 @@ impl Live {
         ensures same { OnErr result (StaysLive self.old self.new) }
         ensures err { OnErr result (out.new.items ≡ out.old.items) }
     {
-        match find(&self.places, sub) {
-            Some(i) => {
-                let topic = self.places[i].topic;
-                leave_on(alloc, &mut self.topics, topic, sub, out)?;
-                self.places.remove(i);
+        match self.find(sub) {
+            Some(place) => {
+                leave_on(alloc, &mut self.topics, place.topic, sub, out)?;
+                self.places.leave(sub);
                 Ok(())
             }
             None => Ok(()),
         }
     }
 
-    /// Makes room for one subscription more on a topic.
-    pub(crate) fn reserve(&mut self, alloc: Global, topic: u32) -> Result<(), OutOfMemory>
-        ensures places { OnOk result (vec_len self.new.places < vec_capacity self.new.places) }
-        ensures links { OnOk result (HasRoomOn self.new.topics topic) }
-        ensures same { StaysLive self.old self.new }
+    /// Notes that a subscription joined, and makes room for its link. Its place is noted unless the ending has come.
+    pub(crate) fn ready(
+        &mut self,
+        alloc: Global,
+        ended: bool,
+        place: Place,
+    ) -> Result<(), OutOfMemory>
+        requires { is_sub_among self.old.places.joined place.sub ≡ false }
+        ensures room { OnOk result (HasRoomOn self.new.topics place.topic) }
+        ensures awaits { OnOk result (Awaits ended place self.old self.new) }
+        ensures same { OnErr result (StaysLive self.old self.new) }
     {
-        self.places.reserve(1)?;
-        reserve_on(alloc, &mut self.topics, topic)
+        reserve_on(alloc, &mut self.topics, place.topic)?;
+        self.places.join(ended, place)
     }
 
     /// Adds the link of a subscription, for which there is room.
     pub(crate) fn add(&mut self, link: SubLink)
-        requires places { vec_len self.old.places < vec_capacity self.old.places }
-        requires links { HasRoomOn self.old.topics link.topic }
-        ensures { Gains link self.old self.new }
+        requires { HasRoomOn self.old.topics link.topic }
+        ensures links { OnTopic link.topic (λ old new. new ≡ old ++ link ∷ []) self.old.topics self.new.topics }
+        ensures places { self.new.places ≡ self.old.places }
     {
-        let SubLink {
-            sub,
-            topic,
-            queue,
-            slot,
-            ..
-        } = &link;
-        let place = Place {
-            sub: *sub,
-            topic: *topic,
-            queue: *queue,
-            slot: *slot,
-        };
-        self.places.push_reserved(place);
-        add_on(&mut self.topics, place.topic, link);
+        let topic = link.topic;
+        add_on(&mut self.topics, topic, link);
     }
 
     /// Moves all links to a list with room, in order of joining. None is live then.
     pub(crate) fn take_all(&mut self, links: &mut Vec<SubLink>)
         requires none { links.old.items ≡ [] }
-        requires room { vec_len self.old.places ≤ vec_capacity links.old }
-        ensures seen { (rows : List SubRow) → IsLive rows self.old → map sub_seen links.new.items ≡ map sub_view rows }
+        requires room { length self.old.places.live ≤ vec_capacity links.old }
+        ensures seen { (joined : List Sub) (rows : List SubRow) → IsLive joined rows self.old → map sub_seen links.new.items ≡ map sub_view rows }
         ensures held { sum_by sub_held links.new.items ≤ all_held self.old.topics }
-        ensures len { vec_len links.new ≤ vec_len self.old.places }
-        ensures empty { IsLive [] self.new }
+        ensures len { vec_len links.new ≤ length self.old.places.live }
+        ensures empty { (joined : List Sub) (rows : List SubRow) → IsLive joined rows self.old → IsLive joined [] self.new }
     {
-        take_in_order(&self.places, &mut self.topics, links);
+        take_in_order(self.places.entries(), &mut self.topics, links);
         self.places.clear();
         self.topics.clear();
     }

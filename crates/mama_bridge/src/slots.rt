@@ -1,11 +1,12 @@
-ghost use Rattle.std.specs.Prelude.{◌≡◌, ◌<◌, ◌++◌, length, replicate, slice_set, slice_index_or, true, false, IfOk, OnOk};
+ghost use Rattle.std.specs.Prelude.{◌≡◌, ◌<◌, ◌++◌, length, replicate, slice_set, slice_index_or, true, false, option_to_list, IfOk, OnOk};
 ghost use Rattle.mama_journal.specs.Journal.{least_free};
 ghost use Rattle.mama_bridge.specs.Links.{link_slot, inbox_link_slots};
 ghost use Rattle.mama_bridge.specs.Live.{place_slots};
+ghost use Rattle.mama_bridge.specs.Placed.{present};
 ghost use Rattle.mama_bridge.specs.Marks.{marked_by};
 
 use crate::inboxes::InboxLink;
-use crate::live::Place;
+use crate::places::{Place, Places};
 use mama_memory::OutOfMemory;
 use std::alloc::Global;
 
@@ -19,11 +20,25 @@ fn note(used: &mut Vec<u32>, queue: u32, of_queue: u32, slot: u32) -> Result<(),
     Ok(())
 }
 
-fn note_places(used: &mut Vec<u32>, places: &Vec<Place>, queue: u32) -> Result<(), OutOfMemory>
-    ensures { OnOk result (used.new.items ≡ used.old.items ++ place_slots queue places.now.items) }
+/// Notes the slot of a place, if there is one.
+fn note_place(used: &mut Vec<u32>, queue: u32, place: Option<Place>) -> Result<(), OutOfMemory>
+    ensures { OnOk result (used.new.items ≡ used.old.items ++ place_slots queue (option_to_list place)) }
 {
-    for place in places {
-        note(used, queue, place.queue, place.slot)?;
+    match place {
+        Some(place) => note(used, queue, place.queue, place.slot),
+        None => Ok(()),
+    }
+}
+
+fn note_places(
+    used: &mut Vec<u32>,
+    places: &Vec<Option<Place>>,
+    queue: u32,
+) -> Result<(), OutOfMemory>
+    ensures { OnOk result (used.new.items ≡ used.old.items ++ place_slots queue (present places.now.items)) }
+{
+    for i in 0..places.len() {
+        note_place(used, queue, places[i])?;
     }
     Ok(())
 }
@@ -91,14 +106,14 @@ fn first_free(alloc: Global, used: &Vec<u32>) -> Result<u32, OutOfMemory>
 /// The least slot of a queue that no link has.
 pub(crate) fn free_slot(
     alloc: Global,
-    places: &Vec<Place>,
+    places: &Places,
     inboxes: &Vec<InboxLink>,
     queue: u32,
 ) -> Result<u32, OutOfMemory>
-    ensures { IfOk result (λ slot. slot ≡ least_free (place_slots queue places.now.items ++ inbox_link_slots queue inboxes.now.items)) }
+    ensures { IfOk result (λ slot. slot ≡ least_free (place_slots queue places.now.live ++ inbox_link_slots queue inboxes.now.items)) }
 {
     let mut used = Vec::new(alloc);
-    note_places(&mut used, places, queue)?;
+    note_places(&mut used, places.entries(), queue)?;
     note_inboxes(&mut used, inboxes, queue)?;
     first_free(alloc, &used)
 }

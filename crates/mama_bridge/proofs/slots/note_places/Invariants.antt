@@ -1,6 +1,7 @@
 use Rattle.std.proofs.Common.{◌≡◌, ◌++◌, take}
 use Rattle.mama_bridge.specs.Live.{place_slots}
+use Rattle.mama_bridge.specs.Placed.{present}
 use Rattle.mama_bridge.proofs.slots.note_places.Given as goal
 
-abbrev pub invariant-loop-place : goal.invariant-loop-place
-invariant-loop-place l = l.used.items ≡ l.initial.used.items ++ place_slots l.queue (take l.place-index l.places.items)
+abbrev pub invariant-loop-i : goal.invariant-loop-i
+invariant-loop-i l = l.used.items ≡ l.initial.used.items ++ place_slots l.queue (present (take l.i l.places.items))

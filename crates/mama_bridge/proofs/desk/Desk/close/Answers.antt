@@ -12,7 +12,7 @@ returns-clause-ok g c =
     (λ done. λ shape table s sound.
     let both = done table.inboxes s.inboxes sound.inboxes_once in
     record {
-      stands = record { joined = s.joined; opened = s.opened; subs = s.subs; inboxes = both.0; clients = s.clients; sends = s.sends; settled = s.settled; byes = s.byes };
+      stands = record { opened = s.opened; subs = s.subs; inboxes = both.0; clients = s.clients; sends = s.sends; settled = s.settled; byes = s.byes };
       adds = adds_said g.L.Tagged.tagged c.args.out.now.items c.close.new.out.items (flat_map inbox_end_outs (filter (of_inbox c.args.inbox) table.inboxes)) (flat_map inbox_ends (filter (of_inbox c.args.inbox) table.inboxes)) both.1 (says_inbox_ends g.L.Tagged.tagged (filter (of_inbox c.args.inbox) table.inboxes));
     })
     c.close.ensures.ok
@@ -20,5 +20,5 @@ returns-clause-ok g c =
 pub returns-clause-same : goal.returns-clause-same
 returns-clause-same g c =
     on_err_weaker c.close.result
-    (λ same. λ table s. record { joined = s.joined; opened = s.opened; subs = s.subs; inboxes = ap (map inbox_seen) same ∙ s.inboxes; clients = s.clients; sends = s.sends; settled = s.settled; byes = s.byes })
+    (λ same. λ table s. record { opened = s.opened; subs = s.subs; inboxes = ap (map inbox_seen) same ∙ s.inboxes; clients = s.clients; sends = s.sends; settled = s.settled; byes = s.byes })
     c.close.ensures.seen

@@ -10,9 +10,9 @@ pub returns-clause-ok : goal.returns-clause-ok
 returns-clause-ok g c =
     on_ok_weaker c.image.result
     (λ done. λ shape table s sound.
-    let both = done table.subs s.subs sound.subs_once in
+    let both = done table.joined table.subs s.subs sound.subs_once in
     record {
-      stands = record { joined = s.joined; opened = s.opened; subs = both.0; inboxes = s.inboxes; clients = s.clients; sends = s.sends; settled = s.settled; byes = s.byes };
+      stands = record { opened = s.opened; subs = both.0; inboxes = s.inboxes; clients = s.clients; sends = s.sends; settled = s.settled; byes = s.byes };
       adds = adds_said g.L.Tagged.tagged c.args.out.now.items c.image.new.out.items (flat_map (emit_outs c.args.msg.now) (filter (of_sub c.args.sub) table.subs)) (flat_map (sub_emits c.args.msg.now) (filter (of_sub c.args.sub) table.subs)) both.1 (says_emits g.L.Tagged.tagged c.args.msg.now (filter (of_sub c.args.sub) table.subs));
     })
     c.image.ensures.ok
@@ -20,5 +20,5 @@ returns-clause-ok g c =
 pub returns-clause-same : goal.returns-clause-same
 returns-clause-same g c =
     on_err_weaker c.image.result
-    (λ same. λ table s. record { joined = s.joined; opened = s.opened; subs = same table.subs s.subs; inboxes = s.inboxes; clients = s.clients; sends = s.sends; settled = s.settled; byes = s.byes })
+    (λ same. λ table s. record { opened = s.opened; subs = same table.joined table.subs s.subs; inboxes = s.inboxes; clients = s.clients; sends = s.sends; settled = s.settled; byes = s.byes })
     c.image.ensures.same

@@ -1,5 +1,5 @@
 use Rattle.std.specs.Prelude.{position}
-use Rattle.std.proofs.Common.{List, Bool, ◌≡◌, ◌∙◌, ◌==◌, ◌++◌, ◌∷◌, sym, ap, subst, false, [], map}
+use Rattle.std.proofs.Common.{List, Bool, ℕ, ◌≡◌, ◌∙◌, ◌==◌, ◌++◌, ◌∷◌, sym, ap, subst, false, [], map}
 use Rattle.mama_link.specs.Link.{standing_after}
 use Rattle.mama_event.specs.declared.ids.InboxId.{InboxId}
 use Rattle.mama_event.specs.declared.ids.ObjectId.TheVariants.{Sub}
@@ -7,11 +7,11 @@ use Rattle.mama_event.specs.declared.market.MsgKind.TheVariants.{Initial}
 use Rattle.mama_event.specs.declared.to_publisher.ToPublisher.TheVariants as asked
 use Rattle.mama_event.specs.declared.to_queue.Make.TheVariants as make
 use Rattle.mama_rules.specs.Bridge.{wants_image}
-use Rattle.mama_bridge_rules.specs.Table.{has_joined, slot_for, ended_now, new_sub, kept}
+use Rattle.mama_bridge_rules.specs.Table.{has_joined, slot_for, ended_now, new_sub}
 use Rattle.mama_bridge.specs.Ids.{is_sub_among, is_inbox_among}
 use Rattle.mama_bridge.specs.Links.{SubView, sub_seen, sub_view, inbox_seen, first_outs, image_outs}
-use Rattle.mama_bridge.specs.Live.{IsLive}
-use Rattle.mama_bridge.proofs.Known.{sub_joined}
+use Rattle.mama_bridge.specs.Live.{Awaits, Gains}
+use Rattle.mama_bridge.specs.declared.places.Place.{Place}
 use Rattle.mama_bridge.proofs.Joining.{slot_same, ended_same, adds_created, says_image}
 use Rattle.mama_bridge.proofs.desk.Desk.join.Goals as goal
 
@@ -20,18 +20,22 @@ returns-clause-ok g c table s sound =
     let before = c.args.self.now in
     let rest = c.ready_sub.ensures.rest in
     let last = c.add_sub.ensures.rest in
-    let had : is_sub_among before.joined c.args.sub ≡ false = sym c.if-has.ensures in
-    let new : has_joined c.args.sub table ≡ false = sym (s.joined c.args.sub) ∙ had in
-    let slot : c.in-Ok.slot ≡ slot_for c.args.terms.queue table = c.in-Ok.ensures.slot ∙ slot_same c.args.terms.queue before.subs.places.items before.inboxes.items table.subs table.inboxes s.subs.places s.inboxes in
-    let ended : c.is_ended-ended.result ≡ ended_now table = c.is_ended-ended.ensures ∙ ended_same _ _ _ _ _ _ (rest.clients ∙ s.clients) (rest.sends ∙ s.sends) (rest.settled ∙ s.settled) in
+    let had : is_sub_among before.subs.places.joined c.args.sub ≡ false = sym c.if-has_joined.ensures in
+    let new : has_joined c.args.sub table ≡ false = sym (s.subs.known c.args.sub) ∙ had in
+    let slot : c.in-Ok.slot ≡ slot_for c.args.terms.queue table = c.in-Ok.ensures.slot ∙ slot_same c.args.terms.queue before.subs.places.live before.inboxes.items table.subs table.inboxes s.subs.places s.inboxes in
+    let ended : c.is_ended-ended.result ≡ ended_now table = c.is_ended-ended.ensures ∙ ended_same _ _ _ _ _ _ s.clients s.sends s.settled in
     let link : sub_seen c.new_link-link.result ≡ sub_view (new_sub table c.args.sub c.args.terms) =
     c.new_link-link.ensures ∙ ap {B = SubView} (λ n. record { sub = c.args.sub; topic = c.args.terms.topic; queue = c.args.terms.queue; slot = n; recaps = c.args.terms.recaps; wished = 0; link = standing_after c.args.terms.faults [] }) slot in
+    let place : Place = record { sub = c.args.sub; topic = c.args.terms.topic; queue = c.args.terms.queue; slot = slot_for c.args.terms.queue table } in
+    let awaits : Awaits (ended_now table) place before.subs c.ready_sub.new.self.subs =
+    subst (λ (b : Bool). Awaits b place before.subs c.ready_sub.new.self.subs) ended
+    (subst (λ (n : ℕ). Awaits c.is_ended-ended.result (record { sub = c.args.sub; topic = c.args.terms.topic; queue = c.args.terms.queue; slot = n }) before.subs c.ready_sub.new.self.subs) slot c.in-Ok.ensures.subs) in
+    let gains : Gains (ended_now table) c.new_link-link.result c.ready_sub.new.self.subs c.add_sub.new.self.subs = subst (λ (b : Bool). Gains b c.new_link-link.result c.ready_sub.new.self.subs c.add_sub.new.self.subs) ended c.add_sub.ensures.subs in
     let outs = image_outs c.args.terms.kind (first_outs (position (λ x. x == c.args.terms.topic) c.args.shape.now.publisher_topics) (asked.Want c.args.sub Initial)) in
     rw had (record {
       stands = record {
-        joined = rw new (sub_joined c.args.sub before.joined c.ready_sub.new.self.joined c.add_sub.new.self.joined table.joined c.in-Ok.ensures.joined c.add_sub.ensures.joined s.joined);
         opened = λ one. ap (λ (known : List InboxId). is_inbox_among known one) (last.opened ∙ rest.opened) ∙ s.opened one;
-        subs = rw new (subst (λ (b : Bool). IsLive (table.subs ++ kept b (new_sub table c.args.sub c.args.terms ∷ [])) c.add_sub.new.self.subs) ended (c.add_sub.ensures.subs table.subs (new_sub table c.args.sub c.args.terms) (c.ready_sub.ensures.subs table.subs s.subs) link));
+        subs = rw new (gains before.subs table.joined table.subs (new_sub table c.args.sub c.args.terms) s.subs awaits link);
         inboxes = ap (λ xs. map inbox_seen xs) (last.inboxes ∙ rest.inboxes) ∙ s.inboxes;
         clients = last.clients ∙ rest.clients ∙ s.clients;
         sends = last.sends ∙ rest.sends ∙ s.sends;
@@ -41,3 +45,16 @@ returns-clause-ok g c table s sound =
       adds = rw new (adds_created g.L.Tagged.tagged c.args.out.now.items c.ready_sub.new.out.items c.push_reserved.new.self.items c.want_image.new.out.items c.args.terms.queue c.in-Ok.slot (slot_for c.args.terms.queue table) (Sub c.args.sub) (make.Sub c.args.terms.kind c.args.terms.cache) c.args.listener outs (wants_image c.args.shape.now c.args.sub c.args.terms.kind c.args.terms.topic)
           slot c.ready_sub.ensures.out c.push_reserved.ensures.items c.want_image.ensures (says_image g.L.Tagged.tagged c.args.shape.now c.args.sub c.args.terms.kind c.args.terms.topic));
     })
+
+pub returns-in-Err-clause-same : goal.returns-in-Err-clause-same
+returns-in-Err-clause-same g c table s =
+    let rest = c.ready_sub.ensures.rest in
+    record {
+      opened = λ one. ap (λ (known : List InboxId). is_inbox_among known one) rest.opened ∙ s.opened one;
+      subs = c.in-Err.ensures.same_subs table.joined table.subs s.subs;
+      inboxes = ap (λ xs. map inbox_seen xs) rest.inboxes ∙ s.inboxes;
+      clients = rest.clients ∙ s.clients;
+      sends = rest.sends ∙ s.sends;
+      settled = rest.settled ∙ s.settled;
+      byes = rest.byes ∙ s.byes;
+    }

@@ -12,7 +12,7 @@ returns-clause-ok g c =
     (λ done. λ shape table s sound.
     let both = done table.inboxes s.inboxes sound.inboxes_once in
     record {
-      stands = record { joined = s.joined; opened = s.opened; subs = s.subs; inboxes = both.0; clients = s.clients; sends = s.sends; settled = s.settled; byes = s.byes };
+      stands = record { opened = s.opened; subs = s.subs; inboxes = both.0; clients = s.clients; sends = s.sends; settled = s.settled; byes = s.byes };
       adds = adds_said g.L.Tagged.tagged c.args.out.now.items c.reply.new.out.items (flat_map (inbox_emit_outs c.args.body.now) (filter (of_inbox c.args.inbox) table.inboxes)) (flat_map (inbox_emits c.args.body.now) (filter (of_inbox c.args.inbox) table.inboxes)) both.1 (says_inbox_emits g.L.Tagged.tagged c.args.body.now (filter (of_inbox c.args.inbox) table.inboxes));
     })
     c.reply.ensures.ok
@@ -20,5 +20,5 @@ returns-clause-ok g c =
 pub returns-clause-same : goal.returns-clause-same
 returns-clause-same g c =
     on_err_weaker c.reply.result
-    (λ same. λ table s. record { joined = s.joined; opened = s.opened; subs = s.subs; inboxes = same ∙ s.inboxes; clients = s.clients; sends = s.sends; settled = s.settled; byes = s.byes })
+    (λ same. λ table s. record { opened = s.opened; subs = s.subs; inboxes = same ∙ s.inboxes; clients = s.clients; sends = s.sends; settled = s.settled; byes = s.byes })
     c.reply.ensures.seen

@@ -1,10 +1,9 @@
 use Rattle.std.proofs.Common.{◌≡◌, ◌∙◌, ap, ℕ, Bool, List, [], ◌++◌, cond, set, true, subst}
-use Rattle.mama_event.specs.declared.ids.SubId.{SubId}
 use Rattle.mama_event.specs.declared.ids.InboxId.{InboxId}
 use Rattle.mama_event.specs.Ports.{queues_of}
 use Rattle.mama_rules.specs.Bridge.{settled}
 use Rattle.mama_bridge_rules.specs.Table.{kept, begins_settling, begins_ending}
-use Rattle.mama_bridge.specs.Ids.{is_sub_among, is_inbox_among}
+use Rattle.mama_bridge.specs.Ids.{is_inbox_among}
 use Rattle.mama_bridge.specs.Links.{inbox_seen, inbox_view, settle_outs}
 use Rattle.mama_bridge.specs.Live.{IsLive, EndsLive}
 use Rattle.mama_bridge.proofs.Closing.{seen_kept, adds_closing}
@@ -20,9 +19,8 @@ returns-clause-ok g c table s sound =
     let out = subst (λ (n : ℕ). EndsLive {L = g.row.L.Denot} c.begins-ends.result n (queues_of c.args.shape.now) before.subs before.inboxes.items (c.args.out.now.items ++ cond c.begins-settles.result (settle_outs n) []) c.turn.new.out.items) c.requires.publishers turned.out in
     record {
       stands = record {
-        joined = λ one. ap (λ (known : List SubId). is_sub_among known one) rest.joined ∙ s.joined one;
         opened = λ one. ap (λ (known : List InboxId). is_inbox_among known one) rest.opened ∙ s.opened one;
-        subs = subst (λ (b : Bool). IsLive (kept b table.subs) c.turn.new.self.subs) ends (turned.subs table.subs s.subs);
+        subs = subst (λ (b : Bool). IsLive table.joined (kept b table.subs) c.turn.new.self.subs) ends (turned.subs table.joined table.subs s.subs);
         inboxes = seen_kept inbox_seen inbox_view c.turn.new.self.inboxes.items before.inboxes.items table.inboxes c.begins-ends.result (begins_ending table (settled c.args.publisher)) turned.inboxes s.inboxes ends;
         clients = rest.clients ∙ s.clients;
         sends = rest.sends ∙ s.sends;

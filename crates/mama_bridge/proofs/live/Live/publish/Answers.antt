@@ -8,9 +8,9 @@ use Rattle.mama_bridge.proofs.live.Live.publish.Goals as goal
 pub returns-clause-ok : goal.returns-clause-ok
 returns-clause-ok g c =
     on_ok_weaker c.publish_on.result
-    (λ done. λ rows live alone. live_does (row_is_on c.args.topic) (sub_passed c.args.msg.now) (emit_outs c.args.msg.now) (λ row. refl) c.args.topic c.args.self.now _ c.args.out.now.items c.publish_on.new.out.items refl done rows (each_filter (row_is_on c.args.topic) rows) live alone)
+    (λ done. λ joined rows live alone. live_does (row_is_on c.args.topic) (sub_passed c.args.msg.now) (emit_outs c.args.msg.now) (λ row. refl) c.args.topic c.args.self.now _ c.args.out.now.items c.publish_on.new.out.items refl done joined rows (each_filter (row_is_on c.args.topic) rows) live alone)
     c.publish_on.ensures.ok
 
 pub returns-clause-same : goal.returns-clause-same
 returns-clause-same g c =
-    on_err_weaker c.publish_on.result (λ same. λ rows live. stays_on c.args.topic c.args.self.now _ refl same rows live) c.publish_on.ensures.seen
+    on_err_weaker c.publish_on.result (λ same. λ joined rows live. stays_on c.args.topic c.args.self.now _ refl same joined rows live) c.publish_on.ensures.seen

@@ -1,20 +1,20 @@
-use Rattle.std.proofs.Common.{refl}
+use Rattle.std.proofs.Common.{refl, filter}
 use Rattle.std.proofs.lemmas.Result.{on_ok_weaker, on_err_weaker}
 use Rattle.mama_bridge_rules.specs.Table.{of_sub}
 use Rattle.mama_bridge.specs.Links.{wish_outs, wished_once}
-use Rattle.mama_bridge.proofs.ByTopic.{stays_on, live_does, live_idle, topic_told, topic_none, wish_keeps_places}
+use Rattle.mama_bridge.proofs.ByTopic.{stays_on, live_does, live_idle, found_on, found_none, wish_keeps_places}
 use Rattle.mama_bridge.proofs.live.Live.wish.Goals as goal
 
 pub returns-in-Some-clause-ok : goal.returns-in-Some-clause-ok
 returns-in-Some-clause-ok g c =
     on_ok_weaker c.wish_on.result
-    (λ done. λ rows live alone. live_does (of_sub c.args.sub) wished_once (wish_outs c.args.sender) wish_keeps_places c.in-Some.topic c.args.self.now _ c.args.out.now.items c.wish_on.new.out.items refl done rows (topic_told c.args.sub c.topic_of.result c.in-Some.topic rows c.in-Some.is (c.topic_of.ensures rows live alone)) live alone)
+    (λ done. λ joined rows live alone. live_does (of_sub c.args.sub) wished_once (wish_outs c.args.sender) wish_keeps_places c.in-Some.place.topic c.args.self.now _ c.args.out.now.items c.wish_on.new.out.items refl done joined rows (found_on c.find.result c.in-Some.place (filter (of_sub c.args.sub) rows) c.in-Some.is (c.find.ensures joined rows live)) live alone)
     c.wish_on.ensures.ok
 
 pub returns-in-Some-clause-same : goal.returns-in-Some-clause-same
 returns-in-Some-clause-same g c =
-    on_err_weaker c.wish_on.result (λ same. λ rows live. stays_on c.in-Some.topic c.args.self.now _ refl same rows live) c.wish_on.ensures.seen
+    on_err_weaker c.wish_on.result (λ same. λ joined rows live. stays_on c.in-Some.place.topic c.args.self.now _ refl same joined rows live) c.wish_on.ensures.seen
 
 pub returns-in-None-clause-ok : goal.returns-in-None-clause-ok
-returns-in-None-clause-ok g c rows live alone =
-    live_idle (of_sub c.args.sub) wished_once (wish_outs c.args.sender) c.args.self.now c.args.out.now.items rows (topic_none c.args.sub c.topic_of.result rows c.in-None.is (c.topic_of.ensures rows live alone)) live
+returns-in-None-clause-ok g c joined rows live alone =
+    live_idle (of_sub c.args.sub) wished_once (wish_outs c.args.sender) c.args.self.now c.args.out.now.items joined rows (found_none c.args.sub c.find.result rows c.in-None.is (c.find.ensures joined rows live)) live

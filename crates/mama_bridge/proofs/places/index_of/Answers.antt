@@ -1,0 +1,17 @@
+use Rattle.std.proofs.Common.{◌≡◌, ℕ, None, Some, sym, ◌∙◌}
+use Rattle.std.proofs.lemmas.Option.{same_Some, none-some}
+use Rattle.std.specs.declared.option.Option.{Option}
+use Rattle.mama_bridge.specs.Placed.{is_place_of}
+use Rattle.mama_bridge.proofs.Entries.{found_at, not_at}
+use Rattle.mama_bridge.proofs.PlaceLemmas.{is_noted}
+use Rattle.mama_bridge.proofs.places.index_of.Goals as goal
+
+pub returns-in-Some : goal.returns-in-Some
+returns-in-Some c =
+    found_at (is_place_of c.args.sub) c.args.entries.now.items c.in-Some.i.now c.own_index.result c.own_index.ensures
+    (λ j place h own. sym (same_Some c.in-Some.i.now j (c.in-Some.ensures.value ∙ is_noted c.args.indexes.now c.args.entries.now.items c.requires c.args.sub j place h own)))
+
+pub returns-in-None : goal.returns-in-None
+returns-in-None c =
+    not_at (is_place_of c.args.sub) c.args.entries.now.items
+    (λ j place h own. none-some j (c.in-None.ensures.value ∙ is_noted c.args.indexes.now c.args.entries.now.items c.requires c.args.sub j place h own))

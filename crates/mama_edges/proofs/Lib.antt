@@ -1,0 +1,2 @@
+pub mod LaneWalk
+pub mod SenderWalk
