@@ -89,7 +89,8 @@ impl Client {
         ))
     }
 
-    /// Makes a timer that ticks each `interval` milliseconds.
+    /// Makes a timer. It ticks when its service hears of a moment that is `interval` milliseconds or more, at least 1,
+    /// after its making, and then after its last tick: once, however many intervals went by.
     pub fn arm<L>(
         &mut self,
         queue: u32,

@@ -16,7 +16,7 @@ use Rattle.mama_event.specs.declared.to_queue.Make.{Make}
 use Rattle.mama_event.specs.declared.to_queue.QueueNote.TheVariants as q
 use Rattle.mama_msg.specs.Field.{FieldData}
 use Rattle.mama_dq.specs.Strategy.{callbacks_of}
-use Rattle.mama_listener.specs.Listener.{ListenerData}
+use Rattle.mama_event.specs.Listener.{ListenerData}
 use Rattle.mama_queue_rules.specs.Queue.{Deed, QueuePut, handled, called, is_destroy, calls_of, is_muted, made, served}
 use Rattle.mama_dispatch.specs.declared.turn.Turn.TheVariants as turn
 use Rattle.mama_dispatch.specs.Journals.{born, is_born, noted}

@@ -15,7 +15,7 @@ use Rattle.mama_event.specs.declared.order.Order.{Order}
 use Rattle.mama_event.specs.declared.to_queue.QueueNote.{QueueNote}
 use Rattle.mama_event.specs.declared.to_queue.QueueNote.TheVariants as q
 use Rattle.mama_dq.specs.Context.{ContextData}
-use Rattle.mama_listener.specs.Listener.{ListenerData}
+use Rattle.mama_event.specs.Listener.{ListenerData}
 use Rattle.mama_queue_rules.specs.Queue.{Deed, QueuePut, deeds, is_fin}
 use Rattle.mama_dispatch.specs.Journals.{Born, born, born_in, notes_of, context_after, image_in, image_put, left_by, left_in, left_at, images_left}
 use Rattle.mama_dispatch.specs.Seats.{SeatData, AreApart, context_in, with_room, Fits}

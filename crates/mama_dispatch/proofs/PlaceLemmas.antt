@@ -11,7 +11,7 @@ use Rattle.mama_event.specs.declared.ids.ObjectId.{ObjectId}
 use Rattle.mama_event.specs.declared.callback.Callback.{Callback}
 use Rattle.mama_event.specs.declared.order.Order.{Order}
 use Rattle.mama_event.specs.Object.{same_object}
-use Rattle.mama_listener.specs.Listener.{ListenerData}
+use Rattle.mama_event.specs.Listener.{ListenerData}
 use Rattle.mama_dispatch.specs.Seats.{SeatData, has_seat, AreApart, seat_of, listener_in, HeardIn, at, muted_by, muted_by_all, muted_where_live}
 use Rattle.mama_queue_rules.specs.Queue.{ends}
 use Rattle.mama_dispatch.specs.Places.{IsPlace, IsEnded}

@@ -3,7 +3,7 @@ use Rattle.std.specs.Prelude.{map, Option, Some, None, is_some, IfSome, IfNone}
 use Rattle.std.specs.Option.{option_map}
 use Rattle.std.proofs.Common.{◌≡◌, ℕ, true, false, List, [], ◌∷◌, refl, sym, arith}
 use Rattle.mama_event.specs.declared.ids.ObjectId.{ObjectId}
-use Rattle.mama_listener.specs.Listener.{ListenerData}
+use Rattle.mama_event.specs.Listener.{ListenerData}
 use Rattle.mama_dispatch.specs.declared.row.Row.{Row}
 use Rattle.mama_dispatch.specs.Seats.{SeatData, has_seat}
 use Rattle.mama_dispatch.specs.Places.{IsPlace}

@@ -20,7 +20,7 @@ use Rattle.mama_event.specs.declared.to_queue.QueueNote.{QueueNote}
 use Rattle.mama_event.specs.declared.to_queue.QueueNote.TheVariants as q
 use Rattle.mama_event.specs.Object.{same_object}
 use Rattle.mama_dq.specs.Context.{ContextData, new_context}
-use Rattle.mama_listener.specs.Listener.{ListenerData}
+use Rattle.mama_event.specs.Listener.{ListenerData}
 use Rattle.mama_queue_rules.specs.Queue.{Deed, QueuePut, to_bridge, to_timers, make_in, context_of, messages_of, deeds, is_fin, bye_put, queue_puts_at}
 use Rattle.mama_dispatch.specs.Journals.{Born, born, is_born, is_live_here, may_come, noted, notes_of, context_after, image_in}
 use Rattle.mama_dispatch.specs.Seats.{SeatData, has_seat, AreApart, seat_of, listener_in, context_in, with_room, AreOrders, Fits}

@@ -8,7 +8,7 @@ use Rattle.mama_event.specs.declared.order.Order.{Order}
 use Rattle.mama_event.specs.declared.to_queue.QueueNote.{QueueNote}
 use Rattle.mama_event.specs.declared.to_queue.QueueNote.TheVariants as q
 use Rattle.mama_queue_rules.specs.Queue.{Deed, calls_of, is_muted, served, is_fin}
-use Rattle.mama_listener.specs.Listener.{ListenerData}
+use Rattle.mama_event.specs.Listener.{ListenerData}
 use Rattle.mama_dispatch.specs.declared.turn.Turn.{Turn}
 use Rattle.mama_dispatch.specs.declared.turn.Turn.TheVariants as turn
 use Rattle.mama_dispatch.specs.Seats.{SeatData, AreApart, Fits}

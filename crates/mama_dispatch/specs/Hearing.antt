@@ -3,7 +3,7 @@ use Rattle.std.specs.Prelude.{◌≡◌, List, [], ◌∷◌, ◌++◌, map, len
 use Rattle.mama_event.specs.declared.ids.ObjectId.{ObjectId}
 use Rattle.mama_event.specs.declared.callback.CallNote.{CallNote}
 use Rattle.mama_event.specs.declared.callback.Callback.{Callback}
-use Rattle.mama_listener.specs.Listener.{ListenerData, reached}
+use Rattle.mama_event.specs.Listener.{ListenerData, reached}
 use Rattle.mama_dispatch.specs.Seats.{SeatData}
 
 -- callbacks are told after some more only where they were told before them, and then these come last

@@ -5,8 +5,7 @@ use Rattle.mama_event.specs.declared.order.Order.{Order}
 use Rattle.mama_event.specs.declared.order.PlanRow.{PlanRow}
 use Rattle.mama_event.specs.declared.to_queue.ToQueue.{ToQueue}
 use Rattle.mama_event.specs.declared.to_queue.ToQueue.TheVariants as event
-use Rattle.mama_queue_rules.specs.Queue.{planned}
-use Rattle.mama_listener.specs.Listener.{ListenerData, most_calls}
+use Rattle.mama_event.specs.Listener.{ListenerData, most_calls, planned}
 use Rattle.mama_dispatch.specs.Seats.{SeatData, AreApart, AreOrders}
 use Rattle.mama_dispatch.specs.Hearing.{HaveHeard, ComesAs}
 

@@ -13,7 +13,7 @@ use Rattle.mama_event.specs.Object.{same_object}
 use Rattle.mama_dq.specs.Strategy.{after}
 use Rattle.mama_dq.specs.Context.{ContextData, new_context}
 use Rattle.mama_queue_rules.specs.Queue.{ends, context_of}
-use Rattle.mama_listener.specs.Listener.{ListenerData, Heard}
+use Rattle.mama_event.specs.Listener.{ListenerData, Heard}
 
 -- An object that was made on this queue: its listener until that is handed back, whether it is muted, its context, its
 -- callbacks, and for how many more there is room.

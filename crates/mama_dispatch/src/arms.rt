@@ -1,6 +1,6 @@
 ghost use Rattle.std.specs.Prelude.{◌≡◌, ℕ, ◌*◌, ◌^◌, ◌<◌, ◌≤◌, List, true, false, [], ◌∷◌, ◌++◌, map, is_some, OnOk, OnErr, IfOk, IfErr, IfSome, MatchOption};
 ghost use Rattle.mama_event.specs.declared.ids.ObjectId.TheVariants.{Sub};
-ghost use Rattle.mama_listener.specs.Listener.{told};
+ghost use Rattle.mama_event.specs.Listener.{told};
 ghost use Rattle.mama_dispatch.specs.Seats.{has_seat, listener_in, is_muted_in, with_room, Fits};
 ghost use Rattle.mama_event.specs.declared.ids.ObjectId.{ObjectId};
 ghost use Rattle.mama_event.specs.declared.order.Order.{Order};
@@ -14,9 +14,8 @@ ghost use Rattle.mama_dispatch.specs.Turns.{put_note};
 use crate::seats::Seats;
 use crate::turn::QueueOut;
 use mama_dq::Calls;
-use mama_event::{Callback, Make, MarketMsg, ObjectId, SubId, Tagged};
+use mama_event::{Callback, Listener, Make, MarketMsg, ObjectId, SubId, Tagged};
 use mama_link::Outbox;
-use mama_listener::Listener;
 use mama_memory::OutOfMemory;
 use std::alloc::Global;
 

@@ -1,8 +1,7 @@
 ghost use Rattle.std.specs.Prelude.{◌≡◌, []};
-ghost use Rattle.mama_listener.specs.Listener.{told, Heard};
+ghost use Rattle.mama_event.specs.Listener.{told, Heard};
 
-use mama_event::{Callback, Orders};
-use mama_listener::Listener;
+use mama_event::{Callback, Listener, Orders};
 
 /// Makes a callback of a listener. The answer is what it ordered.
 pub(crate) fn make<L: Listener>(listener: &mut L, call: &Callback) -> Orders

@@ -6,15 +6,16 @@ ghost use Rattle.mama_dispatch.specs.Seats.{has_seat, listener_in, is_muted_in, 
 ghost use Rattle.mama_event.specs.ToQueue.{note_of};
 ghost use Rattle.mama_dispatch.specs.Standing.{Serves, MayServe};
 ghost use Rattle.mama_dispatch.specs.Answering.{Answers};
-ghost use Rattle.mama_listener.specs.Listener.{told};
+ghost use Rattle.mama_event.specs.Listener.{told};
 ghost use Rattle.mama_dispatch.specs.Keeping.{brought, KeptWith};
 ghost use Rattle.mama_dispatch.specs.Turns.{put_note};
 
 use crate::seats::Seats;
 use crate::turn::{QueueOut, Turn};
-use mama_event::{Callback, InboxId, Make, MarketMsg, ObjectId, SubId, Tagged, TimerId, ToQueue};
+use mama_event::{
+    Callback, InboxId, Listener, Make, MarketMsg, ObjectId, SubId, Tagged, TimerId, ToQueue,
+};
 use mama_link::Outbox;
-use mama_listener::Listener;
 use mama_msg::Msg;
 use std::alloc::Global;
 

@@ -22,8 +22,9 @@ mod turn;
 pub use laws::{
     callbacks_are_streams, no_objects_at_first, serving_an_entry, slots_are_kept, slots_are_of_one,
 };
-pub use mama_event::{CallNote, Callback, ImageHead, ObjectId, Order, Orders, QueueNote, ToQueue};
-pub use mama_listener::Listener;
+pub use mama_event::{
+    CallNote, Callback, ImageHead, Listener, ObjectId, Order, Orders, QueueNote, ToQueue,
+};
 pub use notes::ServingNotes;
 pub use row::ImageRow;
 pub use seats::Seats;

@@ -1,7 +1,7 @@
 ghost use Rattle.std.specs.Prelude.{◌≡◌, ◌+◌, ◌≤◌, [], ◌∷◌, ◌++◌, length, map, OnOk, IfOk, vec_len, vec_capacity};
 ghost use Rattle.std.specs.Option.{option_to_list};
 ghost use Rattle.mama_event.specs.declared.ids.ObjectId.TheVariants.{Sub};
-ghost use Rattle.mama_listener.specs.Listener.{told};
+ghost use Rattle.mama_event.specs.Listener.{told};
 ghost use Rattle.mama_dispatch.specs.Journals.{born_in, left_by, left_in};
 ghost use Rattle.mama_dispatch.specs.Seats.{context_in};
 ghost use Rattle.mama_dispatch.specs.Rows.{row_data};
@@ -9,8 +9,7 @@ ghost use Rattle.mama_dispatch.specs.Notes.{lists_of, lists_in};
 
 use crate::row::Row;
 use crate::seats::Seats;
-use mama_event::{CallNote, ImageHead, ObjectId, QueueNote, SubId};
-use mama_listener::Listener;
+use mama_event::{CallNote, ImageHead, Listener, ObjectId, QueueNote, SubId};
 use mama_memory::OutOfMemory;
 use mama_msg::Msg;
 

@@ -1,7 +1,7 @@
 ghost use Rattle.std.specs.Prelude.{◌≡◌, ◌+◌, ◌<◌, ◌||◌, [], ◌∷◌, ◌++◌, true, is_some, ◌-◌, ◌≤◌, ◌*◌, length, vec_len, vec_capacity, Some, None, OnOk, OnErr, IfOk, IfSome};
 ghost use Rattle.std.specs.Option.{option_map};
 ghost use Rattle.mama_dq.specs.Strategy.{callbacks_of};
-ghost use Rattle.mama_listener.specs.Listener.{told};
+ghost use Rattle.mama_event.specs.Listener.{told};
 ghost use Rattle.mama_dispatch.specs.Seats.{HeardIn, called_with, muted_where_live, with_listener, stepped, with_context, with_room, new_seat};
 ghost use Rattle.mama_queue_rules.specs.Queue.{context_of};
 ghost use Rattle.mama_event.specs.declared.market.MarketMsg.{MarketMsg};
@@ -11,8 +11,9 @@ ghost use Rattle.mama_dispatch.specs.Journals.{image_in};
 
 use crate::calling::make;
 use mama_dq::{Calls, DqContext};
-use mama_event::{CallNote, Callback, ImageHead, Make, MarketMsg, ObjectId, Orders, SubKind};
-use mama_listener::Listener;
+use mama_event::{
+    CallNote, Callback, ImageHead, Listener, Make, MarketMsg, ObjectId, Orders, SubKind,
+};
 use mama_memory::{Duplicate, OutOfMemory};
 use mama_msg::Msg;
 use std::alloc::Global;

@@ -5,7 +5,7 @@ ghost use Rattle.mama_event.specs.declared.market.MarketMsg.{MarketMsg};
 ghost use Rattle.std.specs.Option.{option_map, option_and_then};
 ghost use Rattle.mama_event.specs.declared.ids.ObjectId.TheVariants.{Sub};
 ghost use Rattle.mama_dq.specs.Strategy.{callbacks_of};
-ghost use Rattle.mama_listener.specs.Listener.{told};
+ghost use Rattle.mama_event.specs.Listener.{told};
 ghost use Rattle.mama_dispatch.specs.Seats.{has_seat, AreApart, seat_of, listener_in, is_muted_in, context_in, room_in, at, muted_by, muted_by_all, muted_where_live, called_with, with_listener, stepped, with_room, HeardIn};
 ghost use Rattle.mama_dispatch.specs.Places.{IsPlace, IsEnded, IsOpened};
 ghost use Rattle.mama_dispatch.specs.Journals.{image_in};
@@ -21,9 +21,9 @@ use crate::row::{
 use indexmap::IndexSet;
 use mama_dq::{Calls, DqContext};
 use mama_event::{
-    CallNote, Callback, ImageHead, Make, MarketMsg, ObjectId, Order, Orders, SubId, SubKind,
+    CallNote, Callback, ImageHead, Listener, Make, MarketMsg, ObjectId, Order, Orders, SubId,
+    SubKind,
 };
-use mama_listener::Listener;
 use mama_memory::OutOfMemory;
 use mama_msg::Msg;
 use std::alloc::Global;
@@ -43,7 +43,7 @@ impl<L: Listener> Model for Seats<L> {
     ghost Value = { List SeatData };
 
     ghost use Rattle.std.specs.Prelude.{map};
-    ghost use Rattle.mama_listener.specs.Listener.{told};
+    ghost use Rattle.mama_event.specs.Listener.{told};
     ghost use Rattle.mama_dispatch.specs.Rows.{row_data, AreKept};
 
     ghost view = { λ s. map (row_data (told L.tagged L.calls L.heard L.plan)) s.rows.items };

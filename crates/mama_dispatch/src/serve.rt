@@ -14,9 +14,8 @@ use crate::puts::{put_orders, put_wish};
 use crate::seats::Seats;
 use crate::turn::QueueOut;
 use mama_dq::Calls;
-use mama_event::{Callback, ObjectId, Tagged};
+use mama_event::{Callback, Listener, ObjectId, Tagged};
 use mama_link::Outbox;
-use mama_listener::Listener;
 
 impl<L: Listener> Seats<L> {
     /// Makes one callback of an object, be it muted or not, and puts what follows from it.

@@ -6,14 +6,14 @@ ghost use Rattle.mama_event.specs.declared.to_timers.TimersNote.TheVariants as t
 ghost use Rattle.mama_event.specs.declared.to_queue.ToQueue.TheVariants as event;
 ghost use Rattle.mama_event.specs.declared.to_queue.QueueNote.TheVariants as note;
 ghost use Rattle.mama_event.specs.ToQueue.{note_of};
-ghost use Rattle.mama_listener.specs.Listener.{told};
+ghost use Rattle.mama_event.specs.Listener.{told};
 ghost use Rattle.mama_queue_rules.specs.Queue.{deeds, is_fin, messages_of, to_bridge, to_timers, queue_puts_at};
 ghost use Rattle.mama_dispatch.specs.Journals.{is_live_here, may_come, notes_of, context_after, image_in, images_left};
 ghost use Rattle.mama_dispatch.specs.Seats.{Fits};
 ghost use Rattle.mama_dispatch.specs.Keeping.{brought, ComesPlanned, ArePlanned};
 ghost use Rattle.mama_dispatch.specs.Turns.{put_note};
 ghost use Rattle.mama_journal.specs.Journal.{count_of};
-ghost use Rattle.mama_listener.specs.Listener.{ListenerData};
+ghost use Rattle.mama_event.specs.Listener.{ListenerData};
 ghost use Rattle.mama_dispatch.specs.declared.turn.Turn.TheVariants as turn;
 ghost use Rattle.mama_dispatch.specs.Served.{calls_at};
 ghost use Rattle.mama_dispatch.specs.Hearing.{HaveHeard, ComesAs};
@@ -30,10 +30,10 @@ use crate::row::ImageRow;
 use crate::seats::Seats;
 use crate::turn::{QueueOut, Turn};
 use mama_event::{
-    CallNote, ImageHead, ObjectId, QueueNote, Stream, SubId, Tagged, ToBridge, ToQueue, ToTimers,
+    CallNote, ImageHead, Listener, ObjectId, QueueNote, Stream, SubId, Tagged, ToBridge, ToQueue,
+    ToTimers,
 };
 use mama_link::Outbox;
-use mama_listener::Listener;
 use mama_memory::{Duplicate, OutOfMemory};
 use mama_msg::Msg;
 use std::alloc::Global;

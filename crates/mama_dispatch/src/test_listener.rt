@@ -1,9 +1,8 @@
 ghost use Rattle.std.specs.Prelude.{◌≡◌, [], None};
 ghost use Rattle.mama_event.specs.declared.callback.Callback.{Callback};
-ghost use Rattle.mama_listener.specs.Listener.{Heard};
+ghost use Rattle.mama_event.specs.Listener.{Heard};
 
-use mama_event::{MarketMsg, ObjectId, Order, Orders, Quality, Tagged};
-use mama_listener::Listener;
+use mama_event::{Listener, MarketMsg, ObjectId, Order, Orders, Quality, Tagged};
 use mama_msg::Msg;
 
 /// A listener that gives one order so many times, in its callback of one number. It tells no plan, and not what it

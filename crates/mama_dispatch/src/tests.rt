@@ -167,13 +167,17 @@ fn arm(order: Order, call: u64, times: u32) -> ToQueue<Orderer> {
         slot: 1,
         object: ObjectId::Timer(TIMER),
         make: Make::Timer,
-        listener: Orderer {
-            tag: ObjectId::Timer(TIMER),
-            count: 0,
-            order,
-            call,
-            times,
-        },
+        listener: orderer(ObjectId::Timer(TIMER), order, call, times),
+    }
+}
+
+fn orderer(tag: ObjectId, order: Order, call: u64, times: u32) -> Orderer {
+    Orderer {
+        tag,
+        count: 0,
+        order,
+        call,
+        times,
     }
 }
 
@@ -186,13 +190,7 @@ fn quiet() -> ToQueue<Orderer> {
             kind: SubKind::Basic,
             cache: 0,
         },
-        listener: Orderer {
-            tag: OBJECT,
-            count: 0,
-            order: Order::Stop(SUB),
-            call: 0,
-            times: 0,
-        },
+        listener: orderer(OBJECT, Order::Stop(SUB), 0, 0),
     }
 }
 
@@ -248,5 +246,64 @@ fn one_that_comes_later_is_not_stopped(rt: HostRuntime) -> Result<(), Fail> {
     let _live = took(&rt, &mut serving, quiet(), &mut out)?;
     let first = deliver(alloc, MsgKind::Initial, 0);
     assert_eq!(rt; took(&rt, &mut serving, first, &mut out)?, ('c', 1));
+    Ok(())
+}
+
+// An event that makes an object, whose listener comes in a box.
+fn boxed<L: Listener + Send + 'static>(
+    alloc: Global,
+    slot: u32,
+    object: ObjectId,
+    make: Make,
+    listener: L,
+) -> Result<ToQueue<Box<dyn Listener + Send>>, Fail> {
+    Ok(ToQueue::Create {
+        slot,
+        object,
+        make,
+        listener: Box::new(alloc, listener)?,
+    })
+}
+
+#[test]
+fn one_queue_serves_listeners_of_two_types(rt: HostRuntime) -> Result<(), Fail> {
+    let alloc = rt.alloc();
+    let mut serving: Serving<Box<dyn Listener + Send>> = Serving::new(alloc, 0);
+    let mut out = Outbox::new(alloc);
+    let mut plan = Vec::new(alloc);
+    plan.push(PlanRow {
+        call: 2,
+        order: Order::Disarm(TIMER),
+    })?;
+    assert!(rt; has_few_rows(alloc, &plan)?);
+    let market = Make::Sub {
+        kind: SubKind::Basic,
+        cache: 0,
+    };
+    let planned = PlanListener::new(alloc, OBJECT, plan);
+    let created = boxed(alloc, 0, OBJECT, market, planned)?;
+    assert_eq!(rt; took(&rt, &mut serving, created, &mut out)?, ('c', 1));
+    let timer = ObjectId::Timer(TIMER);
+    let armed = boxed(
+        alloc,
+        1,
+        timer,
+        Make::Timer,
+        orderer(timer, Order::Stop(SUB), 3, 1),
+    )?;
+    assert_eq!(rt; took(&rt, &mut serving, armed, &mut out)?, ('c', 1));
+    let first = deliver(alloc, MsgKind::Initial, 0);
+    assert_eq!(rt; took(&rt, &mut serving, first, &mut out)?, ('c', 1));
+    let ticked = ToQueue::Tick {
+        slot: 1,
+        timer: TIMER,
+        moment: 5,
+    };
+    assert_eq!(rt; took(&rt, &mut serving, ticked, &mut out)?, ('m', 0));
+    let gone = ToQueue::Gone {
+        slot: 1,
+        object: timer,
+    };
+    assert_eq!(rt; took(&rt, &mut serving, gone, &mut out)?, ('e', 2));
     Ok(())
 }

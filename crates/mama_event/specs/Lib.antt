@@ -5,6 +5,7 @@ pub mod FidList
 pub mod Lawful
 pub mod LawfulLaws
 pub mod Laws
+pub mod Listener
 pub mod Object
 pub mod Ports
 pub mod Publisher

@@ -10,11 +10,13 @@ use mama_msg::Msg;
 pub enum Callback {
     /// The object is there.
     Create,
-    /// A message, with the quality of the image after it.
+    /// A message as it came, with the quality of the image after it. A basic subscription has no image, and hears `Ok`.
     Msg { msg: MarketMsg, quality: Quality },
-    /// The updates numbered `first` to `to`, both included, are missing.
+    /// The updates numbered `first` to `to`, both included, never came, or were dropped from a full cache before the
+    /// image could take them.
     Gap { first: u32, to: u32 },
-    /// The image's quality changed. The number is the last update in the image.
+    /// The image's quality changed. The number is that of the last update which the image had when it changed: of the
+    /// former sender, where another sender's update made it stale.
     Quality { quality: Quality, number: u32 },
     /// A recap was asked of this sender.
     RecapRequest { sender: u32 },

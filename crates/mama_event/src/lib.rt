@@ -11,10 +11,12 @@
 //! `publisher_puts_at`, and so are those for a publisher's record, `record_after`, and for a genuine message.
 #![tactic(auto)]
 
+mod boxed;
 mod callback;
 mod fids;
 mod ids;
 mod laws;
+mod listener;
 mod market;
 mod order;
 mod publisher_entry;
@@ -29,6 +31,7 @@ pub use callback::{CallNote, Callback};
 pub use fids::{Fids, MOST_FIDS};
 pub use ids::{InboxId, ObjectId, SubId, TimerId};
 pub use laws::plain_data_is_compared_exactly;
+pub use listener::Listener;
 pub use mama_memory::{Duplicate, OutOfMemory};
 pub use market::{ImageHead, MarketMsg, MsgKind, Quality, SubKind};
 pub use order::{MOST_ORDERS, Order, Orders, PlanRow};

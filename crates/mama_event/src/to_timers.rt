@@ -7,7 +7,8 @@ use mama_memory::OutOfMemory;
 /// What the timer service takes: from clients, from queues, and from the bridge.
 #[derive(Debug, Drop)]
 pub enum ToTimers<L> {
-    /// A client arms a timer on a queue, to tick each `interval` milliseconds.
+    /// A client arms a timer on a queue. It ticks at the first moment that is `interval` milliseconds or more after the
+    /// clock at its last tick, at first after the clock when this is taken.
     Arm {
         timer: TimerId,
         queue: u32,

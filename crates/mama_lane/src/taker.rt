@@ -37,8 +37,8 @@ impl<E: Stream> Model for Taker<E> {
 }
 
 impl<E: Stream> Taker<E> {
-    /// Takes the next event, with the number of its port. The answer is `None` only where the lane held nothing at a
-    /// moment of this call. It takes no memory.
+    /// Takes the next event, with the number of its port. The answer is `None` only where all that the notes which this
+    /// taker learnt name was taken: what was put and not learnt of may be in the lane. It takes no memory.
     pub fn take<Rt: Wait + Copy>(&mut self, rt: Rt, lane: &Lane<E>) -> Option<(u32, E)>
         requires { self.old.lane ≡ lane.now.id }
         ensures some { IfSome result (λ x. self.new ≡ after_take self.old x.0 (E.noted x.1)) }

@@ -9,7 +9,7 @@ use Rattle.std.proofs.lemmas.Grind.{common_steps}
 use Rattle.mama_event.specs.declared.order.Order.{Order}
 use Rattle.mama_event.specs.declared.order.Order.TheVariants as order
 use Rattle.mama_event.specs.declared.order.PlanRow.{PlanRow}
-use Rattle.mama_queue_rules.specs.Queue.{planned}
+use Rattle.mama_event.specs.Listener.{planned}
 use Rattle.mama_listener.specs.Plan.{call_of, HasFewRows, IsSameByCall, IsPassed}
 
 -- the order of a row, if it is for this call

@@ -1,3 +1,2 @@
-pub mod Listener
 pub mod Plan
 pub mod PlanListener

@@ -2,13 +2,14 @@ ghost use Rattle.std.specs.Prelude.{◌≡◌, [], ◌∷◌, Some, IfOk};
 ghost use Rattle.std.specs.Option.{option_copied};
 ghost use Rattle.mama_event.specs.declared.callback.Callback.{Callback};
 ghost use Rattle.mama_event.specs.declared.callback.Callback.TheVariants as on;
-ghost use Rattle.mama_listener.specs.Listener.{risen, Heard, HeardNext, IsPlanned, PlansAs};
+ghost use Rattle.mama_event.specs.Listener.{risen, Heard, HeardNext, IsPlanned, PlansAs};
 ghost use Rattle.mama_listener.specs.Plan.{HasFewRows};
 ghost use Rattle.mama_listener.specs.PlanListener.{heard_by};
 
-use crate::listener::Listener;
 use crate::planned::{give_by_look, give_from, sort_rows};
-use mama_event::{Callback, Duplicate, MarketMsg, ObjectId, Orders, PlanRow, Quality, Tagged};
+use mama_event::{
+    Callback, Duplicate, Listener, MarketMsg, ObjectId, Orders, PlanRow, Quality, Tagged,
+};
 use mama_memory::OutOfMemory;
 use mama_msg::Msg;
 use std::alloc::Global;
@@ -27,7 +28,7 @@ pub struct PlanListener {
 }
 
 impl Model for PlanListener {
-    ghost use Rattle.mama_listener.specs.Listener.{ListenerData};
+    ghost use Rattle.mama_event.specs.Listener.{ListenerData};
 
     ghost Value = { ListenerData };
 

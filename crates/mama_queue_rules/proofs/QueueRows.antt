@@ -19,7 +19,8 @@ use Rattle.mama_event.specs.declared.to_queue.QueueNote.{QueueNote}
 use Rattle.mama_event.specs.declared.to_queue.QueueNote.TheVariants as q
 use Rattle.mama_event.specs.declared.to_bridge.BridgeNote.TheVariants as b
 use Rattle.mama_event.specs.declared.to_timers.TimersNote.TheVariants as t
-use Rattle.mama_queue_rules.specs.Queue.{Deed, handled, called, QueuePut, to_bridge, to_timers, deeds, queue_puts_at, planned}
+use Rattle.mama_event.specs.Listener.{planned}
+use Rattle.mama_queue_rules.specs.Queue.{Deed, handled, called, QueuePut, to_bridge, to_timers, deeds, queue_puts_at}
 
 abbrev pub sub : SubId
 sub = record { client = 0; number = 0 }

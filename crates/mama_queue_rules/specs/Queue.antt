@@ -90,10 +90,6 @@ is_muted_after o live (d ∷ ds) =
 abbrev pub is_muted : ObjectId → List Deed → Bool
 is_muted o deeds = is_muted_after o false deeds
 
--- the orders of a plan for the callback of this number, in order
-abbrev pub planned : List PlanRow → ℕ → List Order
-planned plan call = map (λ r. r.order) (filter (λ r. r.call == call) plan)
-
 -- Callbacks of one object made one by one: a muted object gets none but on_destroy. In each the listener gives the
 -- orders for its number, which counts from 1 with on_create.
 abbrev pub made : (ObjectId → ℕ → List Order) → ObjectId → List Deed → List Callback → List Deed

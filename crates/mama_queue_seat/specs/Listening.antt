@@ -1,6 +1,6 @@
 -- A listener that gives the orders of a plan, as the rules of queues see it.
 use Rattle.mama_event.specs.declared.ids.ObjectId.{ObjectId}
-use Rattle.mama_listener.specs.Listener.{ListenerData, told}
+use Rattle.mama_event.specs.Listener.{ListenerData, told}
 
 abbrev pub tag_of : ListenerData → ObjectId
 tag_of l = l.tag

@@ -4,7 +4,8 @@ use Rattle.mama_journal.specs.Journal.{first_said}
 use Rattle.mama_event.specs.declared.ids.ObjectId.{ObjectId}
 use Rattle.mama_event.specs.declared.order.Order.{Order}
 use Rattle.mama_event.specs.declared.to_queue.QueueNote.{QueueNote}
-use Rattle.mama_queue_rules.specs.Queue.{QueuePut, queue_puts_at, planned}
+use Rattle.mama_event.specs.Listener.{planned}
+use Rattle.mama_queue_rules.specs.Queue.{QueuePut, queue_puts_at}
 use Rattle.mama_rounds.specs.Client.{Planned}
 use Rattle.mama_rounds.specs.World.{plan_in, rows_of}
 

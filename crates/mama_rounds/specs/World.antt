@@ -17,7 +17,8 @@ use Rattle.mama_rules.specs.Bridge as bridge
 use Rattle.mama_rules.specs.Timers.{timers_puts_at}
 use Rattle.mama_event.specs.Object.{same_object}
 use Rattle.mama_event.specs.declared.order.Order.{Order}
-use Rattle.mama_queue_rules.specs.Queue.{QueuePut, queue_puts_at, planned}
+use Rattle.mama_event.specs.Listener.{planned}
+use Rattle.mama_queue_rules.specs.Queue.{QueuePut, queue_puts_at}
 use Rattle.mama_event.specs.declared.publisher_entry.PublisherEntry.{PublisherEntry}
 use Rattle.mama_event.specs.declared.publisher_entry.PublisherEntry.TheVariants.{Took}
 use Rattle.mama_event.specs.Publisher.{PublisherScript, publisher_puts_at}

@@ -1,4 +1,4 @@
-use Rattle.mama_listener.specs.Listener.{told}
+use Rattle.mama_event.specs.Listener.{told}
 use Rattle.mama_dispatch.proofs.ServeLemmas.{serves_created}
 use Rattle.mama_dispatch.proofs.AnswerLemmas.{answers_created}
 use Rattle.mama_dispatch.proofs.KeepLemmas.{kept_created}

@@ -1,4 +1,4 @@
-use Rattle.mama_listener.specs.Listener.{told}
+use Rattle.mama_event.specs.Listener.{told}
 use Rattle.std.proofs.Common.{sym, ◌∙◌}
 use Rattle.mama_dispatch.proofs.ServeLemmas.{serves_undelivered}
 use Rattle.mama_dispatch.proofs.AnswerLemmas.{mutes_delivered}

@@ -1,4 +1,4 @@
-use Rattle.mama_listener.specs.Listener.{told}
+use Rattle.mama_event.specs.Listener.{told}
 use Rattle.std.proofs.Common.{refl, sym, ◌∙◌}
 use Rattle.mama_event.specs.declared.ids.ObjectId.TheVariants.{Inbox}
 use Rattle.mama_event.specs.declared.callback.Callback.TheVariants as on

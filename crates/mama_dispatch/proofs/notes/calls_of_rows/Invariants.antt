@@ -1,7 +1,7 @@
 use Rattle.std.specs.Prelude.{map}
 use Rattle.std.specs.Vec.{vec_len, vec_capacity}
 use Rattle.std.proofs.Common.{◌≡◌, ◌+◌, ◌≤◌, ◌++◌, length}
-use Rattle.mama_listener.specs.Listener.{told}
+use Rattle.mama_event.specs.Listener.{told}
 use Rattle.mama_dispatch.specs.Rows.{row_data}
 use Rattle.mama_dispatch.specs.Notes.{lists_of, lists_in}
 use Rattle.mama_dispatch.proofs.notes.calls_of_rows.Given as goal

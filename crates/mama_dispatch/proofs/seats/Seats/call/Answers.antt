@@ -3,7 +3,7 @@ use Rattle.std.proofs.Common.{◌≡◌, ℕ, ◌<◌, List, [], ◌∷◌, ◌+
 use Rattle.std.proofs.lemmas.List.{take_more, take_all}
 use Rattle.mama_event.specs.declared.order.Order.{Order}
 use Rattle.mama_dispatch.specs.Seats.{listener_in, at, called_with, muted_by, muted_by_all}
-use Rattle.mama_listener.specs.Listener.{ListenerData}
+use Rattle.mama_event.specs.Listener.{ListenerData}
 use Rattle.std.specs.Prelude.{Option}
 use Rattle.mama_dispatch.proofs.PlaceLemmas.{muted_none, muted_more, listener_muted, heard_same}
 use Rattle.mama_dispatch.proofs.seats.Seats.call.Goals as goal

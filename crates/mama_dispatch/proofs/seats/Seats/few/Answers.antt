@@ -1,5 +1,5 @@
 use Rattle.std.proofs.Common.{subst}
-use Rattle.mama_listener.specs.Listener.{told}
+use Rattle.mama_event.specs.Listener.{told}
 use Rattle.mama_dispatch.specs.Keeping.{AreFew}
 use Rattle.mama_dispatch.proofs.RowLemmas.{rows_few}
 use Rattle.mama_dispatch.proofs.seats.Seats.few.Goals as goal

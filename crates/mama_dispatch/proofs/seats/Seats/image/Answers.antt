@@ -3,7 +3,7 @@ use Rattle.std.specs.Option.{option_map_or}
 use Rattle.std.proofs.Common.{◌≡◌, ap, sym, subst}
 use Rattle.mama_event.specs.declared.market.SubKind.TheVariants.{Basic}
 use Rattle.mama_dq.specs.Context.{ContextData, new_context}
-use Rattle.mama_listener.specs.Listener.{told}
+use Rattle.mama_event.specs.Listener.{told}
 use Rattle.mama_dispatch.specs.Seats.{SeatData}
 use Rattle.mama_dispatch.specs.Rows.{row_data}
 use Rattle.mama_dispatch.specs.Journals.{image_in}

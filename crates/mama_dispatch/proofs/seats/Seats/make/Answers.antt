@@ -2,7 +2,7 @@ use Rattle.std.specs.Prelude.{map, Option, Some, None, is_some}
 use Rattle.std.specs.Option.{option_and_then, option_map_or, option_map}
 use Rattle.std.proofs.Common.{◌≡◌, true, refl, ap, sym, ◌∙◌, arith}
 use Rattle.std.proofs.lemmas.Bool.{false≢true}
-use Rattle.mama_listener.specs.Listener.{told, ListenerData}
+use Rattle.mama_event.specs.Listener.{told, ListenerData}
 use Rattle.mama_dispatch.specs.Seats.{SeatData, at, called_with}
 use Rattle.mama_dispatch.specs.Rows.{row_data}
 use Rattle.mama_dispatch.proofs.PlaceLemmas.{changed, row_there, none_seated, heard_same}

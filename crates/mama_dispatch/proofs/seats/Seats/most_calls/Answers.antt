@@ -5,7 +5,7 @@ use Rattle.mama_dq.specs.Context.{ContextData, new_context}
 use Rattle.mama_event.specs.declared.market.SubKind.TheVariants.{Basic}
 use Rattle.mama_dq.specs.Strategy.{callbacks_of}
 use Rattle.mama_event.specs.declared.market.MarketMsg.{MarketMsg}
-use Rattle.mama_listener.specs.Listener.{told}
+use Rattle.mama_event.specs.Listener.{told}
 use Rattle.mama_dispatch.specs.Seats.{SeatData}
 use Rattle.mama_dispatch.specs.Rows.{row_data}
 use Rattle.mama_dispatch.proofs.PlaceLemmas.{row_there}

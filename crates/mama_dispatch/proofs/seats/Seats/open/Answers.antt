@@ -5,7 +5,7 @@ use Rattle.mama_event.specs.Object.{same_object}
 use Rattle.mama_dispatch.specs.Seats.{SeatData, has_seat}
 use Rattle.mama_dispatch.proofs.PlaceLemmas.{list_any_map, kept_more, on_ok}
 use Rattle.mama_dispatch.specs.Rows.{row_data, AreKept}
-use Rattle.mama_listener.specs.Listener.{told}
+use Rattle.mama_event.specs.Listener.{told}
 use Rattle.std.proofs.lemmas.List.{map-append}
 use Rattle.mama_dispatch.proofs.seats.Seats.open.Goals as goal
 

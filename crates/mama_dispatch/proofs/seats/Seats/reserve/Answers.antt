@@ -4,7 +4,7 @@ use Rattle.std.proofs.Common.{ℕ, ◌-◌, ◌≤◌, refl, ap, sym, ◌∙◌,
 use Rattle.std.proofs.lemmas.Bool.{false≢true}
 use Rattle.std.proofs.lemmas.Result.{on_ok_weaker}
 use Rattle.std.specs.Vec.{vec_len, vec_capacity}
-use Rattle.mama_listener.specs.Listener.{told}
+use Rattle.mama_event.specs.Listener.{told}
 use Rattle.mama_dispatch.specs.Seats.{SeatData, at, with_room}
 use Rattle.mama_dispatch.specs.Rows.{row_data}
 use Rattle.mama_dispatch.proofs.PlaceLemmas.{changed, none_seated}

@@ -6,7 +6,7 @@ use Rattle.mama_event.specs.declared.ids.SubId.{SubId}
 use Rattle.mama_event.specs.declared.market.ImageHead.{ImageHead}
 use Rattle.mama_event.specs.declared.to_queue.QueueNote.{QueueNote}
 use Rattle.mama_event.specs.ToQueue.{note_of}
-use Rattle.mama_listener.specs.Listener.{told}
+use Rattle.mama_event.specs.Listener.{told}
 use Rattle.mama_queue_rules.specs.Queue.{deeds, is_fin, queue_puts_at}
 use Rattle.mama_dispatch.specs.Journals.{may_come}
 use Rattle.mama_dispatch.specs.Seats.{Fits}

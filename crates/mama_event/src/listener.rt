@@ -2,9 +2,11 @@ ghost use Rattle.std.specs.Prelude.{◌≡◌, ℕ, Option, List, []};
 ghost use Rattle.mama_event.specs.declared.callback.Callback.{Callback};
 ghost use Rattle.mama_event.specs.declared.callback.Callback.TheVariants as on;
 ghost use Rattle.mama_event.specs.declared.order.PlanRow.{PlanRow};
-ghost use Rattle.mama_listener.specs.Listener.{told, Heard};
+ghost use Rattle.mama_event.specs.Listener.{told, Heard};
 
-use mama_event::{MarketMsg, Orders, Quality, Tagged};
+use crate::market::{MarketMsg, Quality};
+use crate::order::Orders;
+use crate::stream::Tagged;
 use mama_msg::Msg;
 
 /// What is called back for an object. Its tag is the object.
@@ -29,17 +31,19 @@ pub trait Listener: Tagged {
         requires { orders.old ≡ [] }
         ensures { Heard on.Create (told Self.tagged calls heard plan self.old) (told Self.tagged calls heard plan self.new) orders.new };
 
-    /// A message, with the quality of the image after it.
+    /// A message as it came, with the quality of the image after it. A basic subscription has no image, and hears `Ok`.
     fn on_msg(&mut self, msg: &MarketMsg, quality: Quality, orders: &mut Orders)
         requires { orders.old ≡ [] }
         ensures { Heard (on.Msg msg.now quality) (told Self.tagged calls heard plan self.old) (told Self.tagged calls heard plan self.new) orders.new };
 
-    /// The image's quality changed. The number is the last update in the image.
+    /// The image's quality changed. The number is that of the last update which the image had when it changed: of the
+    /// former sender, where another sender's update made it stale.
     fn on_quality(&mut self, quality: Quality, number: u32, orders: &mut Orders)
         requires { orders.old ≡ [] }
         ensures { Heard (on.Quality quality number) (told Self.tagged calls heard plan self.old) (told Self.tagged calls heard plan self.new) orders.new };
 
-    /// The updates numbered `first` to `to`, both included, are missing.
+    /// The updates numbered `first` to `to`, both included, never came, or were dropped from a full cache before the
+    /// image could take them.
     fn on_gap(&mut self, first: u32, to: u32, orders: &mut Orders)
         requires { orders.old ≡ [] }
         ensures { Heard (on.Gap first to) (told Self.tagged calls heard plan self.old) (told Self.tagged calls heard plan self.new) orders.new };
