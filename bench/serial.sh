@@ -1,6 +1,6 @@
 #!/bin/bash
 # Time and memory of 'mama_run serial' at n and 2n: updates of one publisher to one subscription; and many publishers,
-# subscriptions and topics. Wants the proved program (./mama --version builds it). Prints seconds, their ratio, and peak bytes of
+# subscriptions, topics and inboxes. Wants the proved program (./mama --version builds it). Prints seconds, their ratio, and peak bytes of
 # memory for each byte of input.
 . "$(dirname "$0")/scratch.sh"
 proved_program
@@ -28,6 +28,12 @@ many_subscriptions() {
     print "client"; for (i = 0; i < s; i++) print "sub " i % 1000 " market any 10 1000" }'
 }
 
+many_inboxes() {
+  awk -v n="$1" 'BEGIN {
+    print "mama script 1"; print "queues 4"; print "topic \"T\""; print "publisher 0 1:bid:u32:0"
+    for (c = 0; c < 64; c++) { print "client"; for (i = 0; i < n / 64; i++) { print "inbox any"; print "ask i" c "." i " 0 1" } } }'
+}
+
 compare() {
   name=$1 make=$2 n=$3
   $make "$n" > "$scratch/script"; read -r first _ < <(play "$scratch/script")
@@ -39,3 +45,4 @@ compare() {
 compare 'updates of one publisher' one_publisher 100000
 compare 'publishers with 50 updates each' many_publishers 500
 compare 'subscriptions on 1,000 topics' many_subscriptions 5000
+compare 'inboxes that ask' many_inboxes 8192

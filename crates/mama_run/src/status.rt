@@ -1,3 +1,7 @@
+ghost use Rattle.std.specs.Prelude.{◌≡◌};
+ghost use Rattle.std.specs.Process.{exit_status};
+ghost use Rattle.mama_run.specs.Status.{exit_number};
+
 use std::fmt;
 use std::process::ExitCode;
 
@@ -22,7 +26,9 @@ pub enum Status {
 
 impl Status {
     /// The exit status of the program.
-    pub fn exit(self) -> ExitCode {
+    pub fn exit(self) -> ExitCode
+        ensures { exit_status result ≡ exit_number self }
+    {
         match self {
             Status::Ok => ExitCode::from(0),
             Status::BadWords => ExitCode::from(2),
