@@ -15,7 +15,7 @@ use Rattle.mama_event.specs.declared.to_queue.QueueNote.TheVariants as q
 use Rattle.mama_rules.specs.Timers.{TimersEvent, arms, disarms, now, clock, terms_in, arms_timer, disarms_timer, has_ending, is_armed, is_live, due_step, due_along, newly_armed, created_in, place_of}
 use Rattle.mama_timer.specs.declared.table.Row.{Row}
 use Rattle.mama_timer.specs.Rows.{laid_down}
-use Rattle.mama_timer.specs.Slots.{SlotData, in_use}
+use Rattle.mama_slots.specs.Slots.{SlotData, in_use}
 use Rattle.mama_timer.specs.Stands.{is_held, IsRow, AreListed, Stands}
 use Rattle.mama_timer.proofs.Lists.{puts-push, said_none, list_any-push}
 use Rattle.mama_timer.proofs.Orders.{same_timer-is, same_timer-itself}

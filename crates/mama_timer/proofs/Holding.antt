@@ -13,7 +13,8 @@ use Rattle.mama_timer.specs.Stands.{stands_at, is_held}
 use Rattle.mama_timer.proofs.Lists.{list_any-push, list_any-agree, list_any-flat_map, list_any-filter}
 use Rattle.mama_timer.proofs.Orders.{same_timer-is, same_timer-itself}
 use Rattle.mama_timer.proofs.Sorting.{any-in_order, any_members, any_never}
-use Rattle.mama_timer.proofs.Live.{all_armed, has-armed, least_free-is, least_free-free}
+use Rattle.mama_slots.proofs.Least.{least_free-is, least_free-free}
+use Rattle.mama_timer.proofs.Live.{all_armed, has-armed}
 
 -- where timers stand: each that was armed has a place, and no two live ones have one place
 pub record Facts (shape : Shape) (es : List TimersEvent) (sofar : List (ℕ × QueueNote)) : Type 0 where

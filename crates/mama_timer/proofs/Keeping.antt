@@ -25,7 +25,7 @@ use Rattle.mama_rules.specs.Ports.{timers_putter}
 use Rattle.mama_rules.specs.Timers.{TimersEvent, arms, disarms, now, client_done, bye, fin, no_event, put_by, heard, ends_client, ends_queue, is_fin, has_ending, arms_timer, is_armed, is_live, free_slot, clock, firing, fires_first, due, in_order, comes_first, live_timers, to_place, place_of, timers_reaction, timers_puts, timers_puts_at}
 use Rattle.mama_timer.specs.declared.table.Row.{Row}
 use Rattle.mama_timer.specs.Rows.{row_of, is_listed, laid_down}
-use Rattle.mama_timer.specs.Slots.{SlotData, in_use}
+use Rattle.mama_slots.specs.Slots.{SlotData, in_use}
 use Rattle.mama_timer.specs.Service.{Service, taken, every_bye}
 use Rattle.mama_timer.specs.Stands.{IsStill, IsNoWord, is_held, Stands, AreRolls, AreRows}
 use Rattle.mama_timer.specs.Kept.{Kept}
@@ -40,7 +40,7 @@ use Rattle.mama_timer.proofs.Changes.{stands_armed, stands_disarmed, stands_tick
 use Rattle.mama_timer.proofs.Holding.{Facts, free_slot-is, free_slot-free}
 use Rattle.mama_event.specs.declared.ids.ObjectId.{ObjectId}
 use Rattle.mama_timer.proofs.Pushes.{no_turn, armed_came, clock-small, clock-push}
-use Rattle.mama_timer.proofs.Reactions.{facts, made_none, held_by, now_no_end, late_slot, react_arm, react_disarm, react_no_disarm, no_ending, nothing_no_end, bye_no_end}
+use Rattle.mama_timer.proofs.Reactions.{facts, made_none, now_no_end, late_slot, react_arm, react_disarm, react_no_disarm, no_ending, nothing_no_end, bye_no_end}
 use Rattle.mama_timer.proofs.Standing.{stands_still}
 
 -- ---- one entry more, by its meaning
@@ -378,10 +378,6 @@ module _ (shape : Shape) (journal : List (ℕ × TimersNote)) (port : ℕ) (note
       slots_are yet of k ∙ ap (λ (p : ℕ × ℕ). in_use slots of k && not (of == p.0 && k == p.1)) same)
       kept.stands)
       (rolls_still shape es (disarms u) clients bridge queues (disarms_no_word u) kept.rolls)
-
-  pub slot_in_use : has_ending shape (heard shape journal) ≡ false → (queue slot : ℕ) → place_of u (timers_puts shape journal) ≡ Some (queue, slot) → in_use slots queue slot ≡ true
-  slot_in_use yet queue slot place = kept.stands.slots yet queue slot
-      ∙ held_by shape (heard shape journal) (timers_puts shape journal) u queue slot (and_from (is_armed u (heard shape journal)) (not (has_ending shape (heard shape journal))) armed (ap not yet)) place
 
 pub puts_disarm : (shape : Shape) (journal : List (ℕ × TimersNote)) (port : ℕ) (note : TimersNote) (u : TimerId) (queue slot : ℕ) → put_by (timers_putter shape port) note ≡ disarms u
     → is_armed u (heard shape journal) ≡ true → has_ending shape (heard shape journal) ≡ false → place_of u (timers_puts shape journal) ≡ Some (queue, slot)

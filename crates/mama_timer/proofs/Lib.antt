@@ -5,7 +5,6 @@ pub mod Lawfulness
 pub mod Lists
 pub mod Live
 pub mod Orders
-pub mod Places
 pub mod Pushes
 pub mod Reactions
 pub mod Rolls

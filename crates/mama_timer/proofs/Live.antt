@@ -1,17 +1,15 @@
 -- Which timers are live, where they stand, and which slots they hold.
 use Rattle.std.specs.Prelude.{None, Some, is_some}
 use Rattle.std.specs.List.{list_any, filter}
-use Rattle.std.proofs.Common.{◌≡◌, ℕ, zero, suc, ◌+◌, ◌≤◌, ◌<◌, ◌==◌, eqb, Bool, true, false, not, ◌&&◌, ◌||◌, cond, List, [], ◌∷◌, ◌++◌, length, refl, sym, ◌∙◌, ap, subst, arith, append-nil, ⊎_elim}
-use Rattle.std.proofs.lemmas.Bool.{and_parts, both_ways, or_left, false_from_ne_true, cases_eq}
-use Rattle.std.proofs.lemmas.Bool.Decides.{nat_tests}
+use Rattle.std.proofs.Common.{◌≡◌, ℕ, Bool, true, false, not, ◌&&◌, ◌||◌, cond, List, [], ◌∷◌, ◌++◌, refl, sym, ◌∙◌, ap, subst, append-nil}
+use Rattle.std.proofs.lemmas.Bool.{and_parts, or_left}
 use Rattle.std.proofs.lemmas.List.Folds.{list_any-append}
-use Rattle.std.proofs.lemmas.Map.Steps.{le-length_from_below}
-use Rattle.mama_journal.specs.Journal.{puts, least_from, least_free}
+use Rattle.mama_journal.specs.Journal.{puts}
 use Rattle.mama_event.specs.Object.{same_timer}
 use Rattle.mama_event.specs.declared.ids.TimerId.{TimerId}
 use Rattle.mama_event.specs.declared.shape.Shape.{Shape}
 use Rattle.mama_rules.specs.Timers.{TimersEvent, arms, disarms, now, client_done, bye, fin, no_event, arms_timer, has_ending, is_armed, is_live, newly_armed, comes_first, live_timers}
-use Rattle.mama_timer.proofs.Lists.{by_entries, puts-push, list_any-push, list_any-agree}
+use Rattle.mama_timer.proofs.Lists.{by_entries, puts-push, list_any-push}
 use Rattle.mama_timer.proofs.Orders.{same_timer-is}
 use Rattle.mama_timer.proofs.Pushes.{armed_came}
 use Rattle.mama_timer.proofs.Sorting.{has, IsAscending, AreApart, comes_first-order, ascending-in_order, has-in_order, has-filter, apart-filter, apart-push}
@@ -108,47 +106,3 @@ has-live shape t es =
 pub ascending-live : (shape : Shape) (es : List TimersEvent) → IsAscending comes_first (live_timers shape es)
 ascending-live shape es = ascending-in_order comes_first comes_first-order (filter (λ timer. is_live shape timer es) (all_armed es))
     (apart-filter (λ timer. is_live shape timer es) (all_armed es) (apart-armed es))
-
--- ---- the least free number
-
-in_both : (n k : ℕ) → (n == k) ≡ (k == n)
-in_both n k = grind (arith, nat_tests)
-
-sought : (used : List ℕ) (n fuel k : ℕ) → k ≤ n → n ≤ k + fuel → list_any (λ m. m == n) used ≡ false → ((j : ℕ) → j < n → list_any (λ m. m == j) used ≡ true) → least_from k fuel used ≡ n
-sought used n zero k low high free below = omega (arith, low, high)
-sought used n (suc fuel) k low high free below = ⊎_elim
-    (λ (e : k ≡ n). rw (ap (λ (j : ℕ). list_any (λ m. m == j) used) e ∙ free) e)
-    (λ (ne : k ≡ n → ⊥). let less : k < n = omega (arith, low, ne) in rw (below k less) (sought used n fuel (suc k) (omega (arith, less)) (omega (arith, high)) free below))
-    (cases_eq k n)
-
--- the least free number is free, and all below it are not
-pub least_free-is : (used : List ℕ) (n : ℕ) → list_any (λ m. m == n) used ≡ false → ((j : ℕ) → j < n → list_any (λ m. m == j) used ≡ true) → least_free used ≡ n
-least_free-is used n free below =
-    let few : n ≤ length used = le-length_from_below used n (λ j less. list_any-agree (λ m. eqb j m) (λ m. m == j) used (λ m. in_both j m) ∙ below j less) in
-    sought used n (length used) 0 (omega arith) (omega (arith, few)) free below
-
-sought_free : (used : List ℕ) (fuel k : ℕ) → ((j : ℕ) → j < k → list_any (λ m. m == j) used ≡ true) → list_any (λ m. m == least_from k fuel used) used ≡ true
-    → (least_from k fuel used ≡ k + fuel) × ((j : ℕ) → j < k + fuel → list_any (λ m. m == j) used ≡ true)
-sought_free used zero k below h = (omega arith, λ j less. below j (omega (arith, less)))
-sought_free used (suc fuel) k below h = by_case (sought_free used fuel (suc k)) (list_any (λ m. m == k) used) refl h
-  where
-    more : list_any (λ m. m == k) used ≡ true → (j : ℕ) → j < suc k → list_any (λ m. m == j) used ≡ true
-    more e j less = ⊎_elim (λ (s : j ≡ k). ap (λ (i : ℕ). list_any (λ m. m == i) used) s ∙ e) (λ (ne : j ≡ k → ⊥). below j (omega (arith, less, ne))) (cases_eq j k)
-
-    by_case : (((j : ℕ) → j < suc k → list_any (λ m. m == j) used ≡ true) → list_any (λ m. m == least_from (suc k) fuel used) used ≡ true
-        → (least_from (suc k) fuel used ≡ suc k + fuel) × ((j : ℕ) → j < suc k + fuel → list_any (λ m. m == j) used ≡ true))
-        → (b : Bool) → list_any (λ m. m == k) used ≡ b → list_any (λ m. m == cond b (least_from (suc k) fuel used) k) used ≡ true
-        → (cond b (least_from (suc k) fuel used) k ≡ k + suc fuel) × ((j : ℕ) → j < k + suc fuel → list_any (λ m. m == j) used ≡ true)
-    by_case next true e h = let rest = next (more e) h in (rest.0 ∙ omega arith, λ j less. rest.1 j (omega (arith, less)))
-    by_case next false e h = absurd (both_ways (list_any (λ m. m == k) used) e h)
-
--- the least free number is not in use
-pub least_free-free : (used : List ℕ) → list_any (λ m. m == least_free used) used ≡ false
-least_free-free used = false_from_ne_true (list_any (λ m. m == least_free used) used) (λ h.
-    let found = sought_free used (length used) 0 (λ j less. absurd (omega (arith, less))) h in
-    let full : (j : ℕ) → j < suc (length used) → list_any (λ m. m == j) used ≡ true = λ j less. ⊎_elim
-    (λ (s : j ≡ least_free used). ap (λ (i : ℕ). list_any (λ m. m == i) used) s ∙ h)
-    (λ (ne : j ≡ least_free used → ⊥). found.1 j (omega (arith, less, ne, found.0)))
-    (cases_eq j (least_free used)) in
-    let many : suc (length used) ≤ length used = le-length_from_below used (suc (length used)) (λ j less. list_any-agree (λ m. eqb j m) (λ m. m == j) used (λ m. in_both j m) ∙ full j less) in
-    omega (arith, many))

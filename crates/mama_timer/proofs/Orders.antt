@@ -1,6 +1,6 @@
 -- The orders of ids and of due moments are total, and only one id ties with an id.
-use Rattle.std.proofs.Common.{◌≡◌, ℕ, Bool, true, ◌&&◌, ◌==◌, refl, sym, ap, ◌∙◌, arith, Ordering, Less, Equal, Greater}
-use Rattle.std.specs.Ordering.{nat_cmp, ordering_then, is_eq}
+use Rattle.std.proofs.Common.{◌≡◌, ℕ, Bool, true, ◌&&◌, ◌==◌, sym, ap, ◌∙◌, arith}
+use Rattle.std.specs.Ordering.{nat_cmp, is_eq}
 use Rattle.std.specs.Cmp.{IsTotalOrder}
 use Rattle.std.proofs.lemmas.Bool.{and_parts, eqb-true}
 use Rattle.std.proofs.lemmas.Bool.Decides.{nat_tests}
@@ -8,24 +8,13 @@ use Rattle.std.proofs.lemmas.Cmp.{nat_cmp_total, on_total, then_total}
 use Rattle.mama_event.specs.declared.ids.TimerId.{TimerId}
 use Rattle.mama_event.specs.Object.{same_timer}
 use Rattle.mama_timer.specs.Order.{timer_cmp, due_cmp}
-use Rattle.mama_timer.specs.Slots.{place_cmp}
-
-pub is_eq-nat_cmp : (a c : ℕ) → is_eq (nat_cmp a c) ≡ (a == c)
-is_eq-nat_cmp a c = grind (arith, nat_tests)
-
-pub is_eq-then : (o p : Ordering) → is_eq (ordering_then o p) ≡ (is_eq o && is_eq p)
-is_eq-then Less p = refl
-is_eq-then Equal p = refl
-is_eq-then Greater p = refl
+use Rattle.mama_slots.proofs.Orders.{is_eq-nat_cmp, is_eq-then}
 
 pub timer_cmp_total : IsTotalOrder timer_cmp
 timer_cmp_total = then_total (on_total (λ (t : TimerId). t.client) nat_cmp_total) (on_total (λ (t : TimerId). t.number) nat_cmp_total)
 
 pub due_cmp_total : IsTotalOrder due_cmp
 due_cmp_total = then_total (on_total (λ (k : ℕ × TimerId). k.0) nat_cmp_total) (on_total (λ (k : ℕ × TimerId). k.1) timer_cmp_total)
-
-pub place_cmp_total : IsTotalOrder place_cmp
-place_cmp_total = then_total (on_total (λ (k : ℕ × ℕ). k.0) nat_cmp_total) (on_total (λ (k : ℕ × ℕ). k.1) nat_cmp_total)
 
 -- an id ties with itself alone
 pub timer_ties : (a c : TimerId) → is_eq (timer_cmp a c) ≡ same_timer a c
@@ -37,11 +26,6 @@ pub due_ties : (a c : ℕ × TimerId) → is_eq (due_cmp a c) ≡ ((a.0 == c.0) 
 due_ties a c = is_eq-then (nat_cmp a.0 c.0) (timer_cmp a.1 c.1)
     ∙ ap (λ (b : Bool). b && is_eq (timer_cmp a.1 c.1)) (is_eq-nat_cmp a.0 c.0)
     ∙ ap (λ (b : Bool). (a.0 == c.0) && b) (timer_ties a.1 c.1)
-
-pub place_ties : (a c : ℕ × ℕ) → is_eq (place_cmp a c) ≡ ((a.0 == c.0) && (a.1 == c.1))
-place_ties a c = is_eq-then (nat_cmp a.0 c.0) (nat_cmp a.1 c.1)
-    ∙ ap (λ (b : Bool). b && is_eq (nat_cmp a.1 c.1)) (is_eq-nat_cmp a.0 c.0)
-    ∙ ap (λ (b : Bool). (a.0 == c.0) && b) (is_eq-nat_cmp a.1 c.1)
 
 -- one timer is one id
 pub same_timer-is : (a c : TimerId) → same_timer a c ≡ true → a ≡ c

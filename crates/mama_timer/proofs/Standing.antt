@@ -10,7 +10,7 @@ use Rattle.mama_event.specs.declared.shape.Shape.{Shape}
 use Rattle.mama_event.specs.declared.to_queue.QueueNote.{QueueNote}
 use Rattle.mama_rules.specs.Timers.{TimersEvent, arms, disarms, client_done, bye, fin, no_event, clock, terms_in, arms_timer, disarms_timer, has_ending, is_armed, is_live, due_step, newly_armed, created_in, place_of}
 use Rattle.mama_timer.specs.declared.table.Row.{Row}
-use Rattle.mama_timer.specs.Slots.{SlotData}
+use Rattle.mama_slots.specs.Slots.{SlotData}
 use Rattle.mama_timer.specs.Stands.{IsStill, IsRow, Stands}
 use Rattle.mama_timer.proofs.Lists.{puts-push, said_still, said_none, list_any-push}
 use Rattle.mama_timer.proofs.Orders.{same_timer-is}

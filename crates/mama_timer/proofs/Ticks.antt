@@ -20,7 +20,7 @@ use Rattle.mama_timer.specs.declared.firing.Firing.{Firing}
 use Rattle.mama_timer.specs.Order.{timer_cmp, due_cmp}
 use Rattle.mama_timer.specs.Rows.{is_listed}
 use Rattle.mama_timer.specs.Firing.{fired, fired_row, firing_of, is_due_at, next_key, due_then, row_after, ticked}
-use Rattle.mama_timer.specs.Slots.{SlotData}
+use Rattle.mama_slots.specs.Slots.{SlotData}
 use Rattle.mama_timer.specs.Stands.{AreListed, Stands}
 use Rattle.mama_timer.proofs.Orders.{same_timer-is, same_timer-itself, due_tied, due_ties}
 use Rattle.mama_timer.proofs.Sorting.{has, by_number-order, Precedes, IsAscending, ascending_one, ascending-apart, ascending-in_order, apart-filter, has-in_order, has-filter, comes_first-order}

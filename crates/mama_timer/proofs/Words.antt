@@ -29,7 +29,7 @@ use Rattle.mama_timer.specs.declared.ending.Leaving.{Leaving}
 use Rattle.mama_timer.specs.declared.out.TimerOut.{TimerOut}
 use Rattle.mama_timer.specs.Order.{timer_cmp}
 use Rattle.mama_timer.specs.Rows.{row_of, is_listed}
-use Rattle.mama_timer.specs.Slots.{SlotData}
+use Rattle.mama_slots.specs.Slots.{SlotData}
 use Rattle.mama_timer.specs.Leaving.{leaving_of, place_left}
 use Rattle.std.specs.Prelude.{option_to_list}
 use Rattle.std.proofs.lemmas.Bool.{or_from}

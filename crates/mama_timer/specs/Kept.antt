@@ -6,7 +6,7 @@ use Rattle.mama_event.specs.declared.to_timers.TimersNote.{TimersNote}
 use Rattle.mama_rules.specs.Timers.{heard, timers_puts}
 use Rattle.mama_timer.specs.declared.table.Row.{Row}
 use Rattle.mama_timer.specs.Rows.{row_of, is_listed}
-use Rattle.mama_timer.specs.Slots.{SlotData}
+use Rattle.mama_slots.specs.Slots.{SlotData}
 use Rattle.mama_timer.specs.Stands.{Stands, AreRolls}
 
 pub record Kept (shape : Shape) (journal : List (ℕ × TimersNote)) (moment : ℕ) (rows : List (TimerId × Row)) (dues : List (ℕ × TimerId)) (slots : SlotData)

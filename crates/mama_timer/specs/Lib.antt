@@ -6,6 +6,5 @@ pub mod Order
 pub mod Out
 pub mod Rows
 pub mod Service
-pub mod Slots
 pub mod Stands
 pub mod Streams

@@ -8,7 +8,7 @@ use Rattle.mama_event.specs.declared.shape.Shape.{Shape}
 use Rattle.mama_event.specs.declared.to_queue.QueueNote.{QueueNote}
 use Rattle.mama_rules.specs.Timers.{TimersEvent, clock, arms_timer, ends_client, ends_queue, is_fin, has_ending, is_armed, is_live, due_step, due_along, newly_armed, moment_in, disarms_timer, place_of}
 use Rattle.mama_timer.specs.declared.table.Row.{Row}
-use Rattle.mama_timer.specs.Slots.{SlotData, in_use}
+use Rattle.mama_slots.specs.Slots.{SlotData, in_use}
 
 -- a place is this slot of this queue
 abbrev pub stands_at : ℕ → ℕ → Option (ℕ × ℕ) → Bool

@@ -16,7 +16,6 @@ mod heard;
 mod laws;
 mod out;
 mod roll;
-mod slots;
 mod table;
 mod timers;
 

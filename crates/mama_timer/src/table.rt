@@ -19,10 +19,10 @@ use crate::firing::{firings, list_next, reached, set_next, strike};
 use crate::heard::{Arming, Heard, hear};
 use crate::out::{TimerOut, put_ending, put_if_created, put_if_gone, put_ticks, reserve_ending};
 use crate::roll::Roll;
-use crate::slots::Slots;
 use mama_event::{Shape, Stream, Tagged, TimerId, TimersNote, ToTimers, Took, Topics};
 use mama_link::Outbox;
 use mama_memory::OutOfMemory;
+use mama_slots::Slots;
 use std::alloc::Global;
 use std::collections::{BTreeMap, BTreeSet};
 use std::marker::Model;
@@ -265,10 +265,7 @@ impl Table {
         ensures err { OnErr result (self.new ≡ self.old) }
     {
         self.journal.reserve(1)?;
-        self.slots.prepare(arming.queue)?;
-        let Some(slot) = self.slots.least(arming.queue) else {
-            return Err(OutOfMemory);
-        };
+        let slot = self.slots.next(arming.queue)?;
         let due = due_after(self.clock, arming.interval);
         self.dues.insert((due, arming.timer))?;
         let row = Row {

@@ -1,18 +1,9 @@
 use Rattle.std.proofs.Common.{ap, ◌∙◌}
 use Rattle.mama_rules.specs.Ports.{timers_putter}
-use Rattle.mama_rules.specs.Timers.{heard, put_by, has_ending, is_armed, place_of, timers_puts}
+use Rattle.mama_rules.specs.Timers.{heard, put_by, is_armed, place_of, timers_puts}
 use Rattle.mama_timer.specs.Service.{Service}
-use Rattle.mama_timer.proofs.Keeping.{kept_disarmed, slot_in_use}
+use Rattle.mama_timer.proofs.Keeping.{kept_disarmed}
 use Rattle.mama_timer.proofs.table.Table.disarm_live.Goals as goal
-
-pub release-requires : goal.release-requires
-release-requires c =
-    let i = c.self.inside in
-    let means = ap (λ (s : Service). put_by (timers_putter s.shape c.args.port) c.args.note) c.self.view_is ∙ c.requires.means in
-    let armed = ap (λ (s : Service). is_armed c.args.leaving.timer (heard s.shape s.journal)) c.self.view_is ∙ c.requires.armed in
-    let yet = ap (λ (s : Service). has_ending s.shape (heard s.shape s.journal)) c.self.view_is ∙ c.requires.yet in
-    let place = ap (λ (s : Service). place_of c.args.leaving.timer (timers_puts s.shape s.journal)) c.self.view_is ∙ c.requires.place in
-    slot_in_use i.shape i.journal.items c.args.port c.args.note c.args.leaving.timer i.clock i.timers.entries i.dues.keys i.slots i.clients_done i.bridge_done i.queues_done means armed c.self.invariant yet c.args.leaving.queue c.args.leaving.slot place
 
 pub invariant_of-self-2 : goal.invariant_of-self-2
 invariant_of-self-2 c =

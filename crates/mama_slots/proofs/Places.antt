@@ -3,10 +3,10 @@ use Rattle.std.proofs.Common.{◌≡◌, ℕ, ◌<◌, ◌≤◌, Bool, true, fa
 use Rattle.std.specs.Ordering.{is_gt, is_eq}
 use Rattle.std.specs.declared.ops.Bound.TheVariants.{Included}
 use Rattle.std.specs.BTreeSet.{BTreeSet, IsKeyRangeOf, contains}
-use Rattle.std.proofs.lemmas.Bool.{and_parts, eqb-true, both_ways, ltb-true, lt-ltb, false_from_ne_true}
+use Rattle.std.proofs.lemmas.Bool.{and_parts, eqb-true, both_ways, lt-ltb, false_from_ne_true}
 use Rattle.std.proofs.lemmas.Bool.Decides.{nat_tests}
-use Rattle.mama_timer.specs.Slots.{place_cmp, SlotData, IsBelowTops, is_freed, top_of, in_use}
-use Rattle.mama_timer.proofs.Orders.{place_ties}
+use Rattle.mama_slots.specs.Slots.{place_cmp, SlotData, IsBelowTops, is_freed, top_of, in_use}
+use Rattle.mama_slots.proofs.Orders.{place_ties}
 
 pub le_queue : (a b c d : ℕ) → is_gt (place_cmp (a, b) (c, d)) ≡ false → a ≤ c
 le_queue a b c d h = grind (arith, nat_tests)
@@ -93,14 +93,14 @@ pub below_still : (b was new : Bool) → new ≡ cond b false was → new ≡ tr
 below_still true was new e h = absurd (both_ways new e h)
 below_still false was new e h = sym e ∙ h
 
-pub below_with : (slots : SlotData) (queue slot : ℕ) → in_use slots queue slot ≡ true → IsBelowTops slots → (new : Bool) (of k : ℕ)
+pub below_with : (slots : SlotData) (queue slot : ℕ) → slot < top_of slots queue → IsBelowTops slots → (new : Bool) (of k : ℕ)
     → new ≡ cond (is_eq (place_cmp (queue, slot) (of, k))) true (is_freed slots of k) → new ≡ true → k < top_of slots of
-below_with slots queue slot used below new of k step h = by_case (is_eq (place_cmp (queue, slot) (of, k))) refl
+below_with slots queue slot low below new of k step h = by_case (is_eq (place_cmp (queue, slot) (of, k))) refl
   where
     by_case : (b : Bool) → is_eq (place_cmp (queue, slot) (of, k)) ≡ b → k < top_of slots of
     by_case true t =
         let same = tied queue slot of k t in
-        rw (same.0, same.1) (ltb-true slot (top_of slots queue) (and_parts (nat_lt slot (top_of slots queue)) (not (is_freed slots queue slot)) used).0)
+        rw (same.0, same.1) low
     by_case false apart = below.each of k (sym (step ∙ ap (λ (b : Bool). cond b true (is_freed slots of k)) apart) ∙ h)
 
 -- below the first slot that is free again all are in use

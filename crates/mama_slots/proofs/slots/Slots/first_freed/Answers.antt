@@ -1,7 +1,7 @@
 use Rattle.std.proofs.Common.{ap, sym, ◌∙◌}
-use Rattle.mama_timer.specs.Slots.{is_freed, SlotData}
-use Rattle.mama_timer.proofs.Places.{range_first, range_none}
-use Rattle.mama_timer.proofs.slots.Slots.first_freed.Goals as goal
+use Rattle.mama_slots.specs.Slots.{is_freed, SlotData}
+use Rattle.mama_slots.proofs.Places.{range_first, range_none}
+use Rattle.mama_slots.proofs.slots.Slots.first_freed.Goals as goal
 
 pub returns-in-Some-clause-least : goal.returns-in-Some-clause-least
 returns-in-Some-clause-least c = λ k less.

@@ -1,7 +1,7 @@
 use Rattle.std.proofs.Common.{◌||◌, ◌&&◌, ◌==◌, ap, sym, ◌∙◌}
-use Rattle.mama_timer.specs.Slots.{SlotData, in_use, is_freed}
-use Rattle.mama_timer.proofs.Places.{taken_again, below_still}
-use Rattle.mama_timer.proofs.slots.Slots.hold.Goals as goal
+use Rattle.mama_slots.specs.Slots.{SlotData, in_use, is_freed}
+use Rattle.mama_slots.proofs.Places.{taken_again, below_still}
+use Rattle.mama_slots.proofs.slots.Slots.hold.Goals as goal
 
 pub invariant_of-self : goal.invariant_of-self
 invariant_of-self c = record {

@@ -1,5 +1,7 @@
-ghost use Rattle.std.specs.Prelude.{◌≡◌, ℕ, ◌+◌, ◌<◌, ◌^◌, ◌==◌, ◌&&◌, ◌||◌, true, false, not, is_some, IfSome, IfNone, IfOk, OnOk, OnErr};
-ghost use Rattle.mama_timer.specs.Slots.{in_use, has_queue, is_freed, top_of};
+ghost use Rattle.std.specs.Prelude.{◌≡◌, ℕ, ◌+◌, ◌<◌, ◌^◌, ◌==◌, ◌&&◌, ◌||◌, true, false, not, is_some, List, IfSome, IfNone, IfOk, OnOk, OnErr};
+ghost use Rattle.std.specs.List.{list_any};
+ghost use Rattle.mama_journal.specs.Journal.{least_free};
+ghost use Rattle.mama_slots.specs.Slots.{in_use, has_queue, is_freed, top_of, IsNext};
 
 use mama_memory::OutOfMemory;
 use std::alloc::Global;
@@ -9,13 +11,13 @@ use std::ops::Bound;
 
 /// The slots of each queue: how many were ever in use, and which of those are free.
 #[derive(Drop)]
-pub(crate) struct Slots {
+pub struct Slots {
     tops: BTreeMap<u32, u32>,
     freed: BTreeSet<(u32, u32)>,
 }
 
 impl Model for Slots {
-    ghost use Rattle.mama_timer.specs.Slots.{SlotData, IsBelowTops};
+    ghost use Rattle.mama_slots.specs.Slots.{SlotData, IsBelowTops};
 
     ghost Value = { SlotData };
 
@@ -33,7 +35,7 @@ fn below_most(top: u32) -> Option<u32>
 
 impl Slots {
     /// All slots of all queues are free. It takes no memory.
-    pub(crate) fn new(alloc: Global) -> Slots
+    pub fn new(alloc: Global) -> Slots
         ensures { (queue slot : ℕ) → in_use result queue slot ≡ false }
     {
         Slots {
@@ -53,7 +55,7 @@ impl Slots {
     }
 
     /// The least slot of a queue that is free. None is left where 2^32 - 1 are in use.
-    pub(crate) fn least(&self, queue: u32) -> Option<u32>
+    fn least(&self, queue: u32) -> Option<u32>
         ensures free { IfSome result (λ slot. in_use self.now queue slot ≡ false) }
         ensures least { IfSome result (λ slot. (k : ℕ) → k < slot → in_use self.now queue k ≡ true) }
         ensures few { IfSome result (λ slot. slot + 1 < 2 ^ 32) }
@@ -82,7 +84,7 @@ impl Slots {
     }
 
     /// Makes room for one more slot of a queue.
-    pub(crate) fn prepare(&mut self, queue: u32) -> Result<(), OutOfMemory>
+    fn prepare(&mut self, queue: u32) -> Result<(), OutOfMemory>
         ensures same { (of slot : ℕ) → in_use self.new of slot ≡ in_use self.old of slot }
         ensures ready { OnOk result (has_queue self.new queue ≡ true) }
     {
@@ -92,12 +94,23 @@ impl Slots {
         Ok(())
     }
 
-    /// Puts the least free slot of a queue in use. There is room for it.
-    pub(crate) fn hold(&mut self, queue: u32, slot: u32)
-        requires ready { has_queue self.old queue ≡ true }
-        requires free { in_use self.old queue slot ≡ false }
-        requires least { (k : ℕ) → k < slot → in_use self.old queue k ≡ true }
-        requires few { slot + 1 < 2 ^ 32 }
+    /// Tells the least slot of a queue that is free, and makes room to hold it. The error is want of memory, or that
+    /// 2^32 - 1 are in use.
+    pub fn next(&mut self, queue: u32) -> Result<u32, OutOfMemory>
+        ensures next { IfOk result (λ slot. IsNext self.new queue slot) }
+        ensures least { IfOk result (λ slot. (used : List ℕ) → ((k : ℕ) → in_use self.old queue k ≡ list_any (λ n. n == k) used) → slot ≡ least_free used) }
+        ensures same { (of slot : ℕ) → in_use self.new of slot ≡ in_use self.old of slot }
+    {
+        self.prepare(queue)?;
+        match self.least(queue) {
+            Some(slot) => Ok(slot),
+            None => Err(OutOfMemory),
+        }
+    }
+
+    /// Puts the least free slot of a queue in use. There is room for it, so that it takes no memory.
+    pub fn hold(&mut self, queue: u32, slot: u32)
+        requires { IsNext self.old queue slot }
         ensures { (of k : ℕ) → in_use self.new of k ≡ (in_use self.old of k || (of == queue && k == slot)) }
     {
         if self.freed.remove(&(queue, slot)) {
@@ -108,13 +121,14 @@ impl Slots {
         }
     }
 
-    /// Lets a slot go that is in use.
-    pub(crate) fn release(&mut self, queue: u32, slot: u32) -> Result<(), OutOfMemory>
-        requires { in_use self.old queue slot ≡ true }
+    /// Lets a slot go. Nothing changes if it is free.
+    pub fn release(&mut self, queue: u32, slot: u32) -> Result<(), OutOfMemory>
         ensures ok { OnOk result ((of k : ℕ) → in_use self.new of k ≡ (in_use self.old of k && not (of == queue && k == slot))) }
         ensures err { OnErr result (self.new ≡ self.old) }
     {
-        self.freed.insert((queue, slot))?;
+        if slot < self.top(queue) {
+            self.freed.insert((queue, slot))?;
+        }
         Ok(())
     }
 }

@@ -1,7 +1,7 @@
 use Rattle.std.proofs.Common.{ap, sym, ◌∙◌}
-use Rattle.mama_timer.specs.Slots.{SlotData, in_use, is_freed}
-use Rattle.mama_timer.proofs.Places.{used_below}
-use Rattle.mama_timer.proofs.slots.Slots.least.Goals as goal
+use Rattle.mama_slots.specs.Slots.{SlotData, in_use, is_freed}
+use Rattle.mama_slots.proofs.Places.{used_below}
+use Rattle.mama_slots.proofs.slots.Slots.least.Goals as goal
 
 pub returns-in-Some-clause-least : goal.returns-in-Some-clause-least
 returns-in-Some-clause-least c = λ k less.

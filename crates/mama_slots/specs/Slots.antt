@@ -1,5 +1,5 @@
 -- Which slots of each queue are in use.
-use Rattle.std.specs.Prelude.{◌≡◌, ℕ, ◌<◌, Bool, true, not, ◌&&◌, nat_lt, List, unwrap_or, is_some}
+use Rattle.std.specs.Prelude.{◌≡◌, ℕ, ◌+◌, ◌<◌, ◌^◌, Bool, true, false, not, ◌&&◌, nat_lt, List, unwrap_or, is_some}
 use Rattle.std.specs.List.{list_any}
 use Rattle.std.specs.Map.{lookup}
 use Rattle.std.specs.Ordering.{nat_cmp, ordering_then}
@@ -33,3 +33,10 @@ has_queue slots queue = is_some (lookup (is_at (nat_cmp queue)) slots.tops)
 -- a slot that is free again was in use
 pub record IsBelowTops (slots : SlotData) : Type 0 where
   pub each : (queue slot : ℕ) → is_freed slots queue slot ≡ true → slot < top_of slots queue
+
+-- the slot of a queue to be put in use next: the least that is free, which may be written down
+pub record IsNext (slots : SlotData) (queue slot : ℕ) : Type 0 where
+  pub ready : has_queue slots queue ≡ true
+  pub free : in_use slots queue slot ≡ false
+  pub least : (k : ℕ) → k < slot → in_use slots queue k ≡ true
+  pub few : slot + 1 < 2 ^ 32
