@@ -78,7 +78,7 @@ module _ {L : Type 0} (tagged : L → ObjectId) where
       (h table stands sound)
 
   pub hears_opening : (shape : Shape) (i : InboxId) (terms : InboxTerms) (listener : L) (before after : Desk) (o0 o1 : List (BridgeOut L))
-      → Hears tagged shape (opens i terms (tagged listener)) before after o0 o1 (cond (is_inbox_among before.opened i) [] (listener ∷ []))
+      → Hears tagged shape (opens i terms (tagged listener)) before after o0 o1 (cond (is_inbox_among before.inboxes.opened i) [] (listener ∷ []))
       → HearsOf tagged shape (opens i terms (tagged listener)) (event.OpenInbox i terms listener) before after o0 o1
   hears_opening shape i terms listener before after o0 o1 h table stands sound =
       subst (λ (ls : List L). Heard tagged shape table (opens i terms (tagged listener)) after o0 o1 ls)
@@ -94,7 +94,7 @@ module _ {L : Type 0} (tagged : L → ObjectId) where
       (sym (eq-eqb s.client client own)) (hears_join shape s terms listener before after o0 o1 h)
 
   pub hears_opening_of : (shape : Shape) (client : ℕ) (i : InboxId) (terms : InboxTerms) (listener : L) (before after : Desk) (o0 o1 : List (BridgeOut L)) → i.client ≡ client
-      → Hears tagged shape (opens i terms (tagged listener)) before after o0 o1 (cond (is_inbox_among before.opened i) [] (listener ∷ []))
+      → Hears tagged shape (opens i terms (tagged listener)) before after o0 o1 (cond (is_inbox_among before.inboxes.opened i) [] (listener ∷ []))
       → HearsOf tagged shape (cond (i.client == client) (opens i terms (tagged listener)) no_event) (event.OpenInbox i terms listener) before after o0 o1
   hears_opening_of shape client i terms listener before after o0 o1 own h =
       subst (λ (b : Bool). HearsOf tagged shape (cond b (opens i terms (tagged listener)) no_event) (event.OpenInbox i terms listener) before after o0 o1)

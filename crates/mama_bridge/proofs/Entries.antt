@@ -1,11 +1,10 @@
 -- What is there of entries, some of which are empty.
 use Rattle.std.specs.Prelude.{option_to_list}
 use Rattle.std.specs.List.{list_any}
-use Rattle.std.proofs.Common.{◌≡◌, ℕ, zero, suc, ◌+◌, ◌<◌, ◌≤◌, Bool, true, false, ◌||◌, cond, List, [], ◌∷◌, ◌++◌, length, filter, get_or, set, take, drop, Option, None, Some, refl, sym, ◌∙◌, ap, arith, subst, inl, inr, ◌⊎◌, length-append}
+use Rattle.std.proofs.Common.{◌≡◌, ℕ, zero, suc, ◌+◌, ◌<◌, ◌≤◌, Bool, true, false, cond, List, [], ◌∷◌, ◌++◌, length, get_or, set, take, drop, Option, None, Some, refl, sym, ◌∙◌, ap, arith, subst, inl, inr, ◌⊎◌, length-append}
 use Rattle.std.proofs.lemmas.Bool.{false_from_ne_true}
-use Rattle.mama_bridge_rules.specs.Table.{without}
 use Rattle.mama_bridge.specs.Placed.{present, entry_passes, IsAt, IsOnlyAt}
-use Rattle.mama_bridge.proofs.TheOne.{none_taken, none_without}
+use Rattle.mama_bridge.proofs.TheOne.{none_taken, none_without, none_changed}
 
 module _ {X : Type 0} where
   -- what is there of one entry more, and of what follows it
@@ -58,6 +57,13 @@ module _ {X : Type 0} where
   emptied (e ∷ es) (suc i) zero x h = h
   emptied (e ∷ es) (suc i) (suc j) x h = emptied es i j x h
 
+  pub replaced : (entries : List (Option X)) (i j : ℕ) (new x : X) → get_or (set entries i (Some new)) j None ≡ Some x → (get_or entries j None ≡ Some x) ⊎ ((j ≡ i) × (new ≡ x))
+  replaced [] i j new x h = inl h
+  replaced (e ∷ es) zero zero new x h = inr (refl, (cc))
+  replaced (e ∷ es) zero (suc j) new x h = inl h
+  replaced (e ∷ es) (suc i) zero new x h = inl h
+  replaced (e ∷ es) (suc i) (suc j) new x h = elim (replaced es i j new x h) [ inl k ↦ inl k | inr k ↦ inr (ap suc k.0, k.1) ]
+
   module _ (test : X → Bool) where
     none_at : (entries : List (Option X)) → ((j : ℕ) (y : X) → get_or entries j None ≡ Some y → test y ≡ false) → list_any test (present entries) ≡ false
     none_at [] h = refl
@@ -70,14 +76,14 @@ module _ {X : Type 0} where
     only_at (Some z ∷ es) zero x h t only =
         let others : list_any test (present es) ≡ false = none_at es (λ j y k. false_from_ne_true (test y) (λ u. let bad : suc j ≡ zero = only (suc j) y k u in absurd (omega arith))) in
         let passes : test z ≡ true = subst (λ (e : Option X). entry_passes test e ≡ true) (sym h) t in
-        record { within = omega arith; only = rw passes (ap (λ (xs : List X). z ∷ xs) (none_taken test (present es) others)); rest = rw passes (sym (none_without test (present es) others)) }
+        record { within = omega arith; there = passes; only = rw passes (ap (λ (xs : List X). z ∷ xs) (none_taken test (present es) others)); rest = rw passes (sym (none_without test (present es) others)); put = λ y. rw passes (ap (λ (xs : List X). y ∷ xs) (sym (none_changed test (λ _. y) (present es) others))) }
     only_at (None ∷ es) (suc i) x h t only =
         let more = only_at es i x h t (λ j y k u. let e : suc j ≡ suc i = only (suc j) y k u in omega arith) in
-        record { within = omega (arith, more.within); only = more.only; rest = more.rest }
+        record { within = omega (arith, more.within); there = more.there; only = more.only; rest = more.rest; put = more.put }
     only_at (Some z ∷ es) (suc i) x h t only =
         let more = only_at es i x h t (λ j y k u. let e : suc j ≡ suc i = only (suc j) y k u in omega arith) in
         let other : test z ≡ false = false_from_ne_true (test z) (λ u. let bad : zero ≡ suc i = only zero z refl u in absurd (omega arith)) in
-        record { within = omega (arith, more.within); only = rw other more.only; rest = rw other (ap (λ (xs : List X). z ∷ xs) more.rest) }
+        record { within = omega (arith, more.within); there = more.there; only = rw other more.only; rest = rw other (ap (λ (xs : List X). z ∷ xs) more.rest); put = λ y. rw other (ap (λ (xs : List X). z ∷ xs) (more.put y)) }
 
     -- what is found by an index that each entry that passes has
     pub found_at : (entries : List (Option X)) (i : ℕ) (r : Option ℕ) → r ≡ cond (entry_passes test (get_or entries i None)) (Some i) None → ((j : ℕ) (y : X) → get_or entries j None ≡ Some y → test y ≡ true → j ≡ i) → IsAt test entries r

@@ -1,29 +1,21 @@
--- The link that is found by its id, for subscriptions and for inboxes.
+-- The link of a subscription that is found by its id.
 use Rattle.std.specs.Prelude.{position, remove}
-use Rattle.std.specs.List.{list_any, flat_map}
+use Rattle.std.specs.List.{flat_map}
 use Rattle.std.proofs.Common.{◌≡◌, ℕ, true, List, ◌++◌, map, filter, get_or, set, None, Some, ap}
 use Rattle.mama_event.specs.declared.ids.SubId.{SubId}
-use Rattle.mama_event.specs.declared.ids.InboxId.{InboxId}
-use Rattle.mama_event.specs.Object.{same_sub, same_inbox}
-use Rattle.mama_event.specs.EqualityLaws.{same_sub-Decides, same_inbox-Decides}
-use Rattle.mama_bridge_rules.specs.Table.{SubRow, InboxRow, of_sub, of_inbox, changed, without}
+use Rattle.mama_event.specs.Object.{same_sub}
+use Rattle.mama_event.specs.EqualityLaws.{same_sub-Decides}
+use Rattle.mama_bridge_rules.specs.Table.{SubRow, of_sub, changed, without}
 use Rattle.mama_bridge_rules.specs.Laws.{Alone}
 use Rattle.mama_bridge.specs.declared.subs.SubLink.{SubLink}
-use Rattle.mama_bridge.specs.declared.inboxes.InboxLink.{InboxLink}
-use Rattle.mama_bridge.specs.Links.{SubView, InboxView, sub_seen, sub_view, inbox_seen, inbox_view}
-use Rattle.mama_bridge.proofs.TheOne.{done_found, left_found, done_none, left_none, found_among}
+use Rattle.mama_bridge.specs.Links.{SubView, sub_seen, sub_view}
+use Rattle.mama_bridge.proofs.TheOne.{done_found, left_found, done_none, left_none}
 
 sub_decides : (a b : SubId) → same_sub a b ≡ true → a ≡ b
 sub_decides a b h = (same_sub-Decides a b).0 h
 
 sub_named : (a : SubLink) (r : SubRow) → sub_seen a ≡ sub_view r → a.sub ≡ r.sub
 sub_named a r h = ap (λ (v : SubView). v.sub) h
-
-inbox_decides : (a b : InboxId) → same_inbox a b ≡ true → a ≡ b
-inbox_decides a b h = (same_inbox-Decides a b).0 h
-
-inbox_named : (a : InboxLink) (r : InboxRow) → inbox_seen a ≡ inbox_view r → a.inbox ≡ r.inbox
-inbox_named a r h = ap (λ (v : InboxView). v.inbox) h
 
 pub sub_done : {O : Type 0} (f : SubRow → SubRow) (outs : SubRow → List O) (s : SubId) (links : List SubLink) (n : ℕ) (link new : SubLink) (o0 o1 : List O) → position (λ (a : SubLink). same_sub a.sub s) links ≡ Some n → link ≡ get_or links n link
     → ((row : SubRow) → sub_seen link ≡ sub_view row → (sub_seen new ≡ sub_view (f row)) × (o1 ≡ o0 ++ outs row))
@@ -46,28 +38,3 @@ pub sub_not_left : {O : Type 0} (outs : SubRow → List O) (s : SubId) (links : 
     → (rows : List SubRow) → map sub_seen links ≡ map sub_view rows → Alone same_sub (λ (row : SubRow). row.sub) rows
     → (map sub_seen links ≡ map sub_view (without (of_sub s) rows)) × (o ≡ o ++ flat_map outs (filter (of_sub s) rows))
 sub_not_left = left_none sub_seen sub_view (λ (a : SubLink). a.sub) (λ (r : SubRow). r.sub) same_sub sub_decides sub_named
-
-pub inbox_done : {O : Type 0} (f : InboxRow → InboxRow) (outs : InboxRow → List O) (s : InboxId) (links : List InboxLink) (n : ℕ) (link new : InboxLink) (o0 o1 : List O) → position (λ (a : InboxLink). same_inbox a.inbox s) links ≡ Some n → link ≡ get_or links n link
-    → ((row : InboxRow) → inbox_seen link ≡ inbox_view row → (inbox_seen new ≡ inbox_view (f row)) × (o1 ≡ o0 ++ outs row))
-    → (rows : List InboxRow) → map inbox_seen links ≡ map inbox_view rows → Alone same_inbox (λ (row : InboxRow). row.inbox) rows
-    → (map inbox_seen (set links n new) ≡ map inbox_view (changed (of_inbox s) f rows)) × (o1 ≡ o0 ++ flat_map outs (filter (of_inbox s) rows))
-inbox_done = done_found inbox_seen inbox_view (λ (a : InboxLink). a.inbox) (λ (r : InboxRow). r.inbox) same_inbox inbox_decides inbox_named
-
-pub inbox_left : {O : Type 0} (outs : InboxRow → List O) (s : InboxId) (links : List InboxLink) (n : ℕ) (link : InboxLink) (o0 o1 : List O) → position (λ (a : InboxLink). same_inbox a.inbox s) links ≡ Some n → link ≡ get_or links n link
-    → ((row : InboxRow) → inbox_seen link ≡ inbox_view row → o1 ≡ o0 ++ outs row)
-    → (rows : List InboxRow) → map inbox_seen links ≡ map inbox_view rows → Alone same_inbox (λ (row : InboxRow). row.inbox) rows
-    → (map inbox_seen (remove links n) ≡ map inbox_view (without (of_inbox s) rows)) × (o1 ≡ o0 ++ flat_map outs (filter (of_inbox s) rows))
-inbox_left = left_found inbox_seen inbox_view (λ (a : InboxLink). a.inbox) (λ (r : InboxRow). r.inbox) same_inbox inbox_decides inbox_named
-
-pub inbox_not_done : {O : Type 0} (f : InboxRow → InboxRow) (outs : InboxRow → List O) (s : InboxId) (links : List InboxLink) (o : List O) → position (λ (a : InboxLink). same_inbox a.inbox s) links ≡ None
-    → (rows : List InboxRow) → map inbox_seen links ≡ map inbox_view rows → Alone same_inbox (λ (row : InboxRow). row.inbox) rows
-    → (map inbox_seen links ≡ map inbox_view (changed (of_inbox s) f rows)) × (o ≡ o ++ flat_map outs (filter (of_inbox s) rows))
-inbox_not_done = done_none inbox_seen inbox_view (λ (a : InboxLink). a.inbox) (λ (r : InboxRow). r.inbox) same_inbox inbox_decides inbox_named
-
-pub inbox_not_left : {O : Type 0} (outs : InboxRow → List O) (s : InboxId) (links : List InboxLink) (o : List O) → position (λ (a : InboxLink). same_inbox a.inbox s) links ≡ None
-    → (rows : List InboxRow) → map inbox_seen links ≡ map inbox_view rows → Alone same_inbox (λ (row : InboxRow). row.inbox) rows
-    → (map inbox_seen links ≡ map inbox_view (without (of_inbox s) rows)) × (o ≡ o ++ flat_map outs (filter (of_inbox s) rows))
-inbox_not_left = left_none inbox_seen inbox_view (λ (a : InboxLink). a.inbox) (λ (r : InboxRow). r.inbox) same_inbox inbox_decides inbox_named
-
-pub inbox_found : (s : InboxId) (links : List InboxLink) (rows : List InboxRow) → map inbox_seen links ≡ map inbox_view rows → list_any (λ (a : InboxLink). same_inbox a.inbox s) links ≡ list_any (of_inbox s) rows
-inbox_found = found_among inbox_seen inbox_view (λ (a : InboxLink). a.inbox) (λ (r : InboxRow). r.inbox) same_inbox inbox_decides inbox_named

@@ -66,11 +66,11 @@ map_kept f true xs = refl
 map_kept f false xs = refl
 
 -- one link more stands for one row more
-pub seen_more : {A R V : Type 0} (seen : A → V) (view : R → V) (links old : List A) (rows : List R) (link : A) (row : R) (ended ended' : Bool)
-    → links ≡ old ++ kept ended (link ∷ []) → map seen old ≡ map view rows → seen link ≡ view row → ended ≡ ended' → map seen links ≡ map view (rows ++ kept ended' (row ∷ []))
-seen_more {A} {R} {V} seen view links old rows link row ended ended' h same one e =
-    ap (map seen) h ∙ map-append seen old (kept ended (link ∷ [])) ∙ ap (λ (vs : List V). vs ++ map seen (kept ended (link ∷ []))) same
-    ∙ ap (λ (vs : List V). map view rows ++ vs) (map_kept seen ended (link ∷ []) ∙ ap (λ b. kept b (seen link ∷ [])) e ∙ ap (λ v. kept ended' (v ∷ [])) one ∙ sym (map_kept view ended' (row ∷ [])))
+pub seen_more : {R V : Type 0} (view : R → V) (seen old : List V) (rows : List R) (one : V) (row : R) (ended ended' : Bool)
+    → seen ≡ old ++ kept ended (one ∷ []) → old ≡ map view rows → one ≡ view row → ended ≡ ended' → seen ≡ map view (rows ++ kept ended' (row ∷ []))
+seen_more {R} {V} view seen old rows one row ended ended' h same is e =
+    h ∙ ap (λ (vs : List V). vs ++ kept ended (one ∷ [])) same
+    ∙ ap (λ (vs : List V). map view rows ++ vs) (ap (λ b. kept b (one ∷ [])) e ∙ ap (λ v. kept ended' (v ∷ [])) is ∙ sym (map_kept view ended' (row ∷ [])))
     ∙ sym (map-append view rows (kept ended' (row ∷ [])))
 
 module _ {L : Type 0} (tagged : L → ObjectId) where

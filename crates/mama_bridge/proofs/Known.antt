@@ -1,7 +1,7 @@
 -- Which ids are among those that are kept.
 use Rattle.std.specs.List.{list_any}
 use Rattle.std.specs.Ordering.{nat_cmp, ordering_then, is_eq}
-use Rattle.std.proofs.Common.{◌≡◌, ℕ, Bool, true, false, ◌&&◌, ◌||◌, ◌==◌, cond, List, [], ◌∷◌, ◌++◌, refl, sym, ap, ◌∙◌, arith, Ordering, Less, Equal, Greater}
+use Rattle.std.proofs.Common.{◌≡◌, ℕ, Bool, true, false, ◌&&◌, ◌||◌, ◌==◌, List, [], ◌∷◌, ◌++◌, refl, sym, ap, ◌∙◌, arith, Ordering, Less, Equal, Greater}
 use Rattle.std.proofs.lemmas.Bool.Decides.{nat_tests}
 use Rattle.std.proofs.lemmas.List.Folds.{list_any-append}
 use Rattle.mama_event.specs.declared.ids.SubId.{SubId}
@@ -22,19 +22,10 @@ sub_ties a c = is_eq-then (nat_cmp a.client c.client) (nat_cmp a.number c.number
     ∙ ap (λ (b : Bool). b && is_eq (nat_cmp a.number c.number)) (is_eq-nat_cmp a.client c.client)
     ∙ ap (λ (b : Bool). (a.client == c.client) && b) (is_eq-nat_cmp a.number c.number)
 
-inbox_ties : (a c : InboxId) → is_eq (inbox_cmp a c) ≡ same_inbox a c
+pub inbox_ties : (a c : InboxId) → is_eq (inbox_cmp a c) ≡ same_inbox a c
 inbox_ties a c = is_eq-then (nat_cmp a.client c.client) (nat_cmp a.number c.number)
     ∙ ap (λ (b : Bool). b && is_eq (nat_cmp a.number c.number)) (is_eq-nat_cmp a.client c.client)
     ∙ ap (λ (b : Bool). (a.client == c.client) && b) (is_eq-nat_cmp a.number c.number)
-
-pub or_else : (b old : Bool) → cond b true old ≡ (old || b)
-or_else true true = refl
-or_else true false = refl
-or_else false true = refl
-or_else false false = refl
-
-pub inbox_added : (inbox one : InboxId) (old new : Bool) → new ≡ cond (is_eq (inbox_cmp inbox one)) true old → new ≡ (old || same_inbox inbox one)
-inbox_added inbox one old new h = h ∙ ap (λ (b : Bool). cond b true old) (inbox_ties inbox one) ∙ or_else (same_inbox inbox one) old
 
 or_false : (b : Bool) → (b || false) ≡ b
 or_false true = refl
@@ -49,7 +40,7 @@ pub sub_joined : (sub : SubId) (old mid after : List SubId) (joined : List SubId
 sub_joined sub old mid after joined h e k one =
     ap (λ (known : List SubId). is_sub_among known one) e ∙ h one ∙ ap (λ (b : Bool). b || same_sub sub one) (k one) ∙ sym (any_more (λ (r : SubId). same_sub r one) joined sub)
 
-pub inbox_opened : (inbox : InboxId) (old mid after : List InboxId) (opened : List InboxId) → ((one : InboxId) → is_inbox_among mid one ≡ (is_inbox_among old one || same_inbox inbox one)) → after ≡ mid
+pub inbox_opened : (inbox : InboxId) (old after : List InboxId) (opened : List InboxId) → ((one : InboxId) → is_inbox_among after one ≡ (is_inbox_among old one || same_inbox inbox one))
     → ((one : InboxId) → is_inbox_among old one ≡ list_any (λ (r : InboxId). same_inbox r one) opened) → (one : InboxId) → is_inbox_among after one ≡ list_any (λ (r : InboxId). same_inbox r one) (opened ++ inbox ∷ [])
-inbox_opened inbox old mid after opened h e k one =
-    ap (λ (known : List InboxId). is_inbox_among known one) e ∙ h one ∙ ap (λ (b : Bool). b || same_inbox inbox one) (k one) ∙ sym (any_more (λ (r : InboxId). same_inbox r one) opened inbox)
+inbox_opened inbox old after opened h k one =
+    h one ∙ ap (λ (b : Bool). b || same_inbox inbox one) (k one) ∙ sym (any_more (λ (r : InboxId). same_inbox r one) opened inbox)

@@ -12,6 +12,8 @@ pub mod Brought
 pub mod Keeping
 pub mod Known
 pub mod Entries
+pub mod IndexLemmas
 pub mod PlaceLemmas
+pub mod InboxLemmas
 pub mod ByTopic
 pub mod InOrder

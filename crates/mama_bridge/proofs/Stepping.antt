@@ -1,7 +1,7 @@
 -- Steps over the links of a bridge, one after another.
-use Rattle.std.specs.Prelude.{sum_by}
+use Rattle.std.specs.Prelude.{sum_by, option_to_list}
 use Rattle.std.specs.List.{flat_map}
-use Rattle.std.proofs.Common.{◌≡◌, ℕ, zero, suc, ◌+◌, ◌<◌, ◌≤◌, Bool, true, false, cond, List, [], ◌∷◌, ◌++◌, length, map, filter, take, drop, get_or, set, refl, sym, ◌∙◌, ap, arith, append-nil, append_assoc, subst, add-zero}
+use Rattle.std.proofs.Common.{◌≡◌, ℕ, zero, suc, ◌+◌, ◌<◌, ◌≤◌, Bool, true, false, cond, List, [], ◌∷◌, ◌++◌, length, map, filter, take, drop, get_or, set, Option, None, Some, refl, sym, ◌∙◌, ap, arith, append-nil, append_assoc, subst, add-zero}
 use Rattle.std.proofs.lemmas.List.{map-append, take_all, get_or-drop, length-map}
 use Rattle.std.proofs.lemmas.List.Concat.{flat_map-append}
 use Rattle.std.proofs.lemmas.List.Elements.{filter-append}
@@ -165,6 +165,21 @@ inbox_end_more {L} links link m0 m1 m2 o0 o1 o2 steps step rows same none =
 pub inbox_end_none : {L : Type 0} (m0 : List (List FieldData)) (o0 : List (BridgeOut L)) → InboxEndSteps [] m0 m0 o0 o0
 inbox_end_none {L} m0 o0 [] same none = (sym (append-nil o0), none)
 inbox_end_none {L} m0 o0 (row ∷ rows) same none = cc
+
+pub inbox_end_one : {L : Type 0} (link : InboxLink) (m0 m1 : List (List FieldData)) (o0 o1 : List (BridgeOut L)) → InboxEndStep link m0 m1 o0 o1 → InboxEndSteps (link ∷ []) m0 m1 o0 o1
+inbox_end_one {L} link m0 m1 o0 o1 step = inbox_end_more [] link m0 m0 m1 o0 o0 o1 (inbox_end_none m0 o0) step
+
+-- the link of one entry more, if it is not empty
+pub entry_end_more : {L : Type 0} (links links' : List InboxLink) (entry : Option InboxLink) (m0 m1 m2 : List (List FieldData)) (o0 o1 o2 : List (BridgeOut L)) → links' ≡ links ++ option_to_list entry
+    → InboxEndSteps links m0 m1 o0 o1 → InboxEndSteps (option_to_list entry) m1 m2 o1 o2 → InboxEndSteps links' m0 m2 o0 o2
+entry_end_more {L} links links' None m0 m1 m2 o0 o1 o2 h steps step rows same none =
+    let before = steps rows (ap (map inbox_seen) (sym (h ∙ append-nil links)) ∙ same) none in
+    let now = step [] refl before.1 in
+    (now.0 ∙ append-nil o1 ∙ before.0, now.1)
+entry_end_more {L} links links' (Some link) m0 m1 m2 o0 o1 o2 h steps step rows same none =
+    inbox_end_more links link m0 m1 m2 o0 o1 o2 steps (λ row same' none'.
+    let now = step (row ∷ []) (ap (λ (v : InboxView). v ∷ []) same') none' in
+    (now.0 ∙ ap (λ (os : List (BridgeOut L)). o1 ++ os) (append-nil (inbox_end_outs row)), now.1)) rows (ap (map inbox_seen) (sym h) ∙ same) none
 
 -- what a link puts out at its end
 pub ends_with : {L : Type 0} (seen : SubView) (held : ℕ) (m0 m1 m2 : List MarketMsg) (o0 o1 o2 : List (BridgeOut L)) → held ≡ length seen.link.held

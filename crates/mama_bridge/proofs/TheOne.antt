@@ -51,7 +51,7 @@ module _ {R : Type 0} (test : R → Bool) where
   none_without [] h = refl
   none_without (row ∷ rows) h = rw (or_first (test row) (list_any test rows) h) (ap (λ rs. row ∷ rs) (none_without rows (or_rest (test row) (list_any test rows) h)))
 
-  any_of_taken : (rows : List R) (row : R) (more : List R) → filter test rows ≡ row ∷ more → list_any test rows ≡ true
+  pub any_of_taken : (rows : List R) (row : R) (more : List R) → filter test rows ≡ row ∷ more → list_any test rows ≡ true
   any_of_taken [] row more h = cc
   any_of_taken (r ∷ rows) row more h = at (test r) h (any_of_taken rows row more)
     where
@@ -171,6 +171,3 @@ module _ {A R V I : Type 0} (seen : A → V) (view : R → V) (name : A → I) (
   left_none {O} outs i links o at rows h alone =
       let none = no_one i links rows h at in
       (h ∙ sym (ap (map view) (none_without (λ r. same (key r) i) rows none)), sym (ap (λ rs. o ++ flat_map outs rs) (none_taken (λ r. same (key r) i) rows none) ∙ append-nil o))
-
-  pub found_among : (i : I) (links : List A) (rows : List R) → map seen links ≡ map view rows → list_any (λ a. same (name a) i) links ≡ list_any (λ r. same (key r) i) rows
-  found_among i links rows h = any_same links rows i h

@@ -20,9 +20,9 @@ use Rattle.mama_bridge.specs.Live.{IsLive}
 
 -- what is kept stands for a table
 pub record Stands (table : Table) (desk : Desk) : Type 0 where
-  pub opened : (i : InboxId) → is_inbox_among desk.opened i ≡ list_any (λ (r : InboxId). same_inbox r i) table.opened
+  pub opened : (i : InboxId) → is_inbox_among desk.inboxes.opened i ≡ list_any (λ (r : InboxId). same_inbox r i) table.opened
   pub subs : IsLive table.joined table.subs desk.subs
-  pub inboxes : map inbox_seen desk.inboxes.items ≡ map inbox_view table.inboxes
+  pub inboxes : map inbox_seen desk.inboxes.links ≡ map inbox_view table.inboxes
   pub clients : desk.clients ≡ table.clients
   pub sends : desk.sends ≡ table.sends
   pub settled : desk.settled ≡ table.settled
@@ -52,8 +52,8 @@ AsBefore before after = (table : Table) → Stands table before → Stands table
 
 -- only who joined, and the links of subscriptions, may have changed
 pub record AllBut (before after : Desk) : Type 0 where
-  pub opened : after.opened ≡ before.opened
-  pub inboxes : after.inboxes.items ≡ before.inboxes.items
+  pub opened : after.inboxes.opened ≡ before.inboxes.opened
+  pub inboxes : after.inboxes.links ≡ before.inboxes.links
   pub clients : after.clients ≡ before.clients
   pub sends : after.sends ≡ before.sends
   pub settled : after.settled ≡ before.settled
@@ -69,7 +69,7 @@ pub record AllButInboxes (before after : Desk) : Type 0 where
 
 -- only links may have changed
 pub record AllButLinks (before after : Desk) : Type 0 where
-  pub opened : after.opened ≡ before.opened
+  pub opened : after.inboxes.opened ≡ before.inboxes.opened
   pub clients : after.clients ≡ before.clients
   pub sends : after.sends ≡ before.sends
   pub settled : after.settled ≡ before.settled
@@ -77,9 +77,9 @@ pub record AllButLinks (before after : Desk) : Type 0 where
 
 -- only who said Bye may have changed
 pub record AllButByes (before after : Desk) : Type 0 where
-  pub opened : after.opened ≡ before.opened
+  pub opened : after.inboxes.opened ≡ before.inboxes.opened
   pub subs : after.subs ≡ before.subs
-  pub inboxes : after.inboxes.items ≡ before.inboxes.items
+  pub inboxes : after.inboxes.links ≡ before.inboxes.links
   pub clients : after.clients ≡ before.clients
   pub sends : after.sends ≡ before.sends
   pub settled : after.settled ≡ before.settled

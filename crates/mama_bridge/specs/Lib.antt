@@ -6,4 +6,5 @@ pub mod Putters
 pub mod Marks
 pub mod Ids
 pub mod Placed
+pub mod Opened
 pub mod Live

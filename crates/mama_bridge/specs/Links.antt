@@ -1,5 +1,5 @@
 -- What contracts see of the links that a bridge keeps, and what ties them to rows.
-use Rattle.std.specs.Prelude.{◌≡◌, ℕ, ◌+◌, ◌-◌, Bool, true, ◌==◌, nat_lt, List, [], ◌∷◌, ◌++◌, length, map, filter, sum_by, Option, None, Some, if◌then◌else◌}
+use Rattle.std.specs.Prelude.{◌≡◌, ℕ, ◌+◌, ◌-◌, Bool, true, ◌==◌, nat_lt, List, [], ◌∷◌, ◌++◌, length, map, filter, sum_by, Option, None, Some, option_to_list, if◌then◌else◌}
 use Rattle.std.specs.List.{flat_map}
 use Rattle.mama_msg.specs.Field.{FieldData}
 use Rattle.mama_link.specs.Link.{Standing, standing_after, StandsFor, emit}
@@ -10,7 +10,7 @@ use Rattle.mama_event.specs.declared.market.MarketMsg.{MarketMsg}
 use Rattle.mama_event.specs.declared.ids.ObjectId.TheVariants.{Sub, Inbox}
 use Rattle.mama_event.specs.declared.to_queue.ToQueue.TheVariants as queued
 use Rattle.mama_link.specs.Link.{rest}
-use Rattle.mama_event.specs.Object.{same_sub, same_inbox}
+use Rattle.mama_event.specs.Object.{same_sub}
 use Rattle.mama_event.specs.declared.market.MsgKind.TheVariants.{Recap}
 use Rattle.mama_event.specs.declared.market.SubKind.{SubKind}
 use Rattle.mama_event.specs.declared.market.SubKind.TheVariants.{Market, Snapshot, Basic}
@@ -179,12 +179,21 @@ module _ {L : Type 0} where
       → (map sub_seen new ≡ map sub_view (changed (of_sub s) wished_once rows)) × (outs' ≡ outs ++ flat_map (wish_outs sender) (filter (of_sub s) rows))
 
   abbrev pub InboxPass : InboxId → List FieldData → List InboxLink → List InboxLink → List (BridgeOut L) → List (BridgeOut L) → Type 0
-  InboxPass i body old new outs outs' = (rows : List InboxRow) → map inbox_seen old ≡ map inbox_view rows → Alone same_inbox (λ (row : InboxRow). row.inbox) rows
+  InboxPass i body old new outs outs' = (rows : List InboxRow) → map inbox_seen old ≡ map inbox_view rows
       → (map inbox_seen new ≡ map inbox_view (changed (of_inbox i) (inbox_passed body) rows)) × (outs' ≡ outs ++ flat_map (inbox_emit_outs body) (filter (of_inbox i) rows))
 
   abbrev pub InboxCloses : InboxId → List InboxLink → List InboxLink → List (BridgeOut L) → List (BridgeOut L) → Type 0
-  InboxCloses i old new outs outs' = (rows : List InboxRow) → map inbox_seen old ≡ map inbox_view rows → Alone same_inbox (λ (row : InboxRow). row.inbox) rows
+  InboxCloses i old new outs outs' = (rows : List InboxRow) → map inbox_seen old ≡ map inbox_view rows
       → (map inbox_seen new ≡ map inbox_view (without (of_inbox i) rows)) × (outs' ≡ outs ++ flat_map inbox_end_outs (filter (of_inbox i) rows))
+
+  -- a reply passes through the link of an entry, if it is not empty
+  abbrev pub EntryAnswers : List FieldData → Option InboxLink → Option InboxLink → List (BridgeOut L) → List (BridgeOut L) → Type 0
+  EntryAnswers body old new outs outs' = (rows : List InboxRow) → map inbox_seen (option_to_list old) ≡ map inbox_view rows
+      → (map inbox_seen (option_to_list new) ≡ map inbox_view (map (inbox_passed body) rows)) × (outs' ≡ outs ++ flat_map (inbox_emit_outs body) rows)
+
+  -- the entry is empty, and the end of the link that was there is put out
+  abbrev pub EntryCloses : Option InboxLink → Option InboxLink → List (BridgeOut L) → List (BridgeOut L) → Type 0
+  EntryCloses old new outs outs' = (new ≡ None) × ((rows : List InboxRow) → map inbox_seen (option_to_list old) ≡ map inbox_view rows → outs' ≡ outs ++ flat_map inbox_end_outs rows)
 
 -- the slots of a queue that links have
 abbrev pub link_slot : ℕ → ℕ → ℕ → List ℕ

@@ -13,17 +13,15 @@ ghost use Rattle.mama_bridge.specs.Putters.{actor_of, HasFlags};
 ghost use Rattle.mama_bridge.specs.Links.{sub_seen, inbox_seen, first_outs, image_outs, settle_outs, inbox_held, inbox_link_slots};
 ghost use Rattle.mama_bridge.specs.Live.{place_slots, all_held, StaysLive, HasRoomOn, Awaits, Gains, KeepsLive, EndsLive};
 
-use crate::ending::{end_all, held_by_inboxes, room, settle_if};
+use crate::ending::{end_all, room, settle_if};
 use crate::flags::Flags;
-use crate::ids::InboxIds;
-use crate::inboxes::InboxLink;
+use crate::inboxes::Inboxes;
 use crate::live::Live;
 use crate::out::BridgeOut;
 use crate::places::Place;
 use crate::putter::Putter;
 use crate::slots::free_slot;
 use crate::subs::SubLink;
-use crate::{inboxes, routes};
 use mama_event::{
     BridgeNote, Fids, InboxId, InboxTerms, Make, MarketMsg, MsgKind, ObjectId, Shape, SubId,
     SubKind, SubTerms, Tagged, ToPublisher, ToQueue,
@@ -37,9 +35,8 @@ use std::alloc::Global;
 #[derive(Drop)]
 pub(crate) struct Desk {
     alloc: Global,
-    opened: InboxIds,
     subs: Live,
-    inboxes: Vec<InboxLink>,
+    inboxes: Inboxes,
     clients: Flags,
     sends: Flags,
     settled: Flags,
@@ -53,9 +50,8 @@ impl Desk {
         let publishers = shape.publisher_topics.len();
         Ok(Desk {
             alloc,
-            opened: InboxIds::new(alloc),
             subs: Live::new(alloc),
-            inboxes: Vec::new(alloc),
+            inboxes: Inboxes::new(alloc),
             clients: Flags::new(alloc, shape.clients as usize)?,
             sends: Flags::new(alloc, publishers)?,
             settled: Flags::new(alloc, publishers)?,
@@ -98,7 +94,7 @@ impl Desk {
         ensures same { OnErr result (AsBefore self.old self.new) }
         ensures err { OnErr result (out.new.items ≡ out.old.items) }
     {
-        routes::close(self.alloc, &mut self.inboxes, inbox, out)
+        self.inboxes.close(self.alloc, inbox, out)
     }
 
     pub(crate) fn image<L: Tagged>(
@@ -124,7 +120,7 @@ impl Desk {
         ensures same { OnErr result (AsBefore self.old self.new) }
         ensures err { OnErr result (out.new.items ≡ out.old.items) }
     {
-        routes::reply(self.alloc, &mut self.inboxes, inbox, body, out)
+        self.inboxes.reply(self.alloc, inbox, body, out)
     }
 
     pub(crate) fn publish<L: Tagged>(
@@ -174,7 +170,7 @@ impl Desk {
         ensures err { OnErr result (out.new.items ≡ out.old.items) }
     {
         out.reserve(1)?;
-        let may = may_ask(inboxes::has(&self.inboxes, inbox), self.is_settling());
+        let may = may_ask(self.inboxes.is_open(inbox), self.is_settling());
         put_first_if(may, shape, topic, ToPublisher::Ask { inbox, fids }, out);
         Ok(())
     }
@@ -189,7 +185,7 @@ impl Desk {
         out: &mut Outbox<BridgeOut<L>>,
     ) -> Result<u32, OutOfMemory>
         requires { is_sub_among self.old.subs.places.joined sub ≡ false }
-        ensures slot { IfOk result (λ slot. slot ≡ least_free (place_slots queue self.old.subs.places.live ++ inbox_link_slots queue self.old.inboxes.items)) }
+        ensures slot { IfOk result (λ slot. slot ≡ least_free (place_slots queue self.old.subs.places.live ++ inbox_link_slots queue self.old.inboxes.links)) }
         ensures room_links { OnOk result (HasRoomOn self.new.subs.topics topic) }
         ensures room_out { OnOk result (1 < out.new.spare) }
         ensures subs { IfOk result (λ slot. Awaits ended (record { sub = sub; topic = topic; queue = queue; slot = slot }) self.old.subs self.new.subs) }
@@ -361,18 +357,18 @@ impl Desk {
         requires no_links { links.items ≡ [] }
         requires links { length self.old.subs.places.live ≤ vec_capacity links }
         requires msgs { all_held self.old.subs.topics ≤ msgs.old.spare }
-        requires bodies { sum_by inbox_held self.old.inboxes.items ≤ bodies.old.spare }
-        requires out { all_held self.old.subs.topics + length self.old.subs.places.live + (sum_by inbox_held self.old.inboxes.items + length self.old.inboxes.items) + (queues + publishers + 1) ≤ out.old.spare }
+        requires bodies { sum_by inbox_held self.old.inboxes.links ≤ bodies.old.spare }
+        requires out { all_held self.old.subs.topics + length self.old.subs.places.live + (sum_by inbox_held self.old.inboxes.links + length self.old.inboxes.links) + (queues + publishers + 1) ≤ out.old.spare }
         requires no_msgs { msgs.old.items ≡ [] }
         requires no_bodies { bodies.old.items ≡ [] }
         ensures subs { KeepsLive ends self.old.subs self.new.subs }
-        ensures inboxes { self.new.inboxes.items ≡ kept ends self.old.inboxes.items }
-        ensures out { EndsLive ends publishers queues self.old.subs self.old.inboxes.items out.old.items out.new.items }
+        ensures inboxes { self.new.inboxes.links ≡ kept ends self.old.inboxes.links }
+        ensures out { EndsLive ends publishers queues self.old.subs self.old.inboxes.links out.old.items out.new.items }
         ensures rest { AllButLinks self.old self.new }
     {
         if ends {
             self.subs.take_all(&mut links);
-            let inboxes = std::mem::replace(&mut self.inboxes, Vec::new(self.alloc));
+            let inboxes = self.inboxes.take_all(self.alloc);
             end_all(links, inboxes, publishers, queues, msgs, bodies, out);
         }
     }
@@ -387,17 +383,17 @@ impl Desk {
         out: &mut Outbox<BridgeOut<L>>,
     ) -> Result<(), OutOfMemory>
         ensures subs { OnOk result (KeepsLive ends self.old.subs self.new.subs) }
-        ensures inboxes { OnOk result (self.new.inboxes.items ≡ kept ends self.old.inboxes.items) }
-        ensures out { OnOk result (EndsLive ends publishers queues self.old.subs self.old.inboxes.items (out.old.items ++ (if settles then settle_outs publishers else [])) out.new.items) }
+        ensures inboxes { OnOk result (self.new.inboxes.links ≡ kept ends self.old.inboxes.links) }
+        ensures out { OnOk result (EndsLive ends publishers queues self.old.subs self.old.inboxes.links (out.old.items ++ (if settles then settle_outs publishers else [])) out.new.items) }
         ensures rest { AllButLinks self.old self.new }
         ensures same_subs { OnErr result (self.new.subs ≡ self.old.subs) }
-        ensures same_inboxes { OnErr result (self.new.inboxes.items ≡ self.old.inboxes.items) }
+        ensures same_inboxes { OnErr result (self.new.inboxes.links ≡ self.old.inboxes.links) }
         ensures err { OnErr result (out.new.items ≡ out.old.items) }
     {
         let held = self.subs.held()?;
         let count = self.subs.count();
-        let replies = held_by_inboxes(&self.inboxes)?;
-        let opened = self.inboxes.len();
+        let replies = self.inboxes.held()?;
+        let opened = self.inboxes.count();
         let more = room(held, count, replies, opened, publishers, queues)?;
         out.reserve(more)?;
         let mut links = Vec::new(self.alloc);
@@ -421,11 +417,11 @@ impl Desk {
         out: &mut Outbox<BridgeOut<L>>,
     ) -> Result<(), OutOfMemory>
         ensures subs { OnOk result (KeepsLive ends self.old.subs self.new.subs) }
-        ensures inboxes { OnOk result (self.new.inboxes.items ≡ kept ends self.old.inboxes.items) }
-        ensures out { OnOk result (EndsLive ends publishers queues self.old.subs self.old.inboxes.items (out.old.items ++ (if settles then settle_outs publishers else [])) out.new.items) }
+        ensures inboxes { OnOk result (self.new.inboxes.links ≡ kept ends self.old.inboxes.links) }
+        ensures out { OnOk result (EndsLive ends publishers queues self.old.subs self.old.inboxes.links (out.old.items ++ (if settles then settle_outs publishers else [])) out.new.items) }
         ensures rest { AllButLinks self.old self.new }
         ensures same_subs { OnErr result (self.new.subs ≡ self.old.subs) }
-        ensures same_inboxes { OnErr result (self.new.inboxes.items ≡ self.old.inboxes.items) }
+        ensures same_inboxes { OnErr result (self.new.inboxes.links ≡ self.old.inboxes.links) }
         ensures err { OnErr result (out.new.items ≡ out.old.items) }
     {
         if !settles && !ends {
@@ -441,22 +437,24 @@ impl Desk {
         listener: L,
         out: &mut Outbox<BridgeOut<L>>,
     ) -> Result<(), (InboxTerms, L)>
-        ensures ok { OnOk result ((shape : Shape) → Hears L.tagged shape (opens inbox terms (L.tagged listener)) self.old self.new out.old.items out.new.items (if is_inbox_among self.old.opened inbox then [] else listener ∷ [])) }
+        ensures ok { OnOk result ((shape : Shape) → Hears L.tagged shape (opens inbox terms (L.tagged listener)) self.old self.new out.old.items out.new.items (if is_inbox_among self.old.inboxes.opened inbox then [] else listener ∷ [])) }
         ensures back { IfErr result (λ given. given ≡ (terms, listener)) }
         ensures same { OnErr result (AsBefore self.old self.new) }
         ensures err { OnErr result (out.new.items ≡ out.old.items) }
     {
-        if self.opened.has(inbox) {
+        if self.inboxes.has_opened(inbox) {
             return Ok(());
         }
-        let slot = match self.ready_inbox(inbox, terms.queue, out) {
+        let queue = terms.queue;
+        let slot = match self.ready_slot(queue, out) {
             Ok(slot) => slot,
             Err(_) => return Err((terms, listener)),
         };
         let ended = self.is_ended();
-        let InboxTerms { queue, faults } = terms;
-        let link = new_inbox_link(self.alloc, inbox, queue, slot, faults);
-        self.add_inbox(ended, link);
+        match self.inboxes.open(self.alloc, ended, inbox, slot, terms) {
+            Ok(()) => {}
+            Err(terms) => return Err((terms, listener)),
+        }
         let object = ObjectId::Inbox(inbox);
         let make = Make::Inbox;
         out.push_reserved(BridgeOut::Queue(
@@ -471,38 +469,14 @@ impl Desk {
         Ok(())
     }
 
-    /// Keeps the link of a new inbox, unless the ending has come.
-    fn add_inbox(&mut self, ended: bool, link: InboxLink)
-        requires { vec_len self.old.inboxes < vec_capacity self.old.inboxes }
-        ensures opened { self.new.opened ≡ self.old.opened }
-        ensures inboxes { self.new.inboxes.items ≡ self.old.inboxes.items ++ kept ended (link ∷ []) }
-        ensures rest { AllButInboxes self.old self.new }
-    {
-        if !ended {
-            self.inboxes.push_reserved(link);
-        }
-    }
-
-    /// Notes that an inbox was opened, makes the room that it takes, and tells its slot.
-    fn ready_inbox<L>(
-        &mut self,
-        inbox: InboxId,
-        queue: u32,
-        out: &mut Outbox<BridgeOut<L>>,
-    ) -> Result<u32, OutOfMemory>
-        ensures slot { IfOk result (λ slot. slot ≡ least_free (place_slots queue self.old.subs.places.live ++ inbox_link_slots queue self.old.inboxes.items)) }
-        ensures room_inboxes { OnOk result (vec_len self.new.inboxes < vec_capacity self.new.inboxes) }
-        ensures room_out { OnOk result (0 < out.new.spare) }
-        ensures opened { OnOk result ((one : Inbox) → is_inbox_among self.new.opened one ≡ (is_inbox_among self.old.opened one || same_inbox inbox one)) }
-        ensures not_opened { OnErr result (self.new.opened ≡ self.old.opened) }
-        ensures inboxes { self.new.inboxes.items ≡ self.old.inboxes.items }
-        ensures rest { AllButInboxes self.old self.new }
+    /// Finds the slot of a new inbox, and makes room for its Create.
+    fn ready_slot<L>(&self, queue: u32, out: &mut Outbox<BridgeOut<L>>) -> Result<u32, OutOfMemory>
+        ensures slot { IfOk result (λ slot. slot ≡ least_free (place_slots queue self.now.subs.places.live ++ inbox_link_slots queue self.now.inboxes.links)) }
+        ensures room { OnOk result (0 < out.new.spare) }
         ensures out { out.new.items ≡ out.old.items }
     {
         let slot = free_slot(self.alloc, &self.subs.places, &self.inboxes, queue)?;
-        self.inboxes.reserve(1)?;
         out.reserve(1)?;
-        self.opened.add(inbox)?;
         Ok(slot)
     }
 
@@ -621,18 +595,6 @@ fn want_first<L>(shape: &Shape, sub: SubId, topic: u32, out: &mut Outbox<BridgeO
 {
     let kind = MsgKind::Initial;
     put_first(shape, topic, ToPublisher::Want { sub, kind }, out);
-}
-
-/// A link that no reply has passed.
-fn new_inbox_link(alloc: Global, inbox: InboxId, queue: u32, slot: u32, faults: Faults) -> InboxLink
-    ensures { inbox_seen result ≡ record { inbox = inbox; queue = queue; slot = slot; link = standing_after faults [] } }
-{
-    InboxLink {
-        inbox,
-        queue,
-        slot,
-        link: Link::new(alloc, faults),
-    }
 }
 
 /// Whether both hold.

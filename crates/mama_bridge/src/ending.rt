@@ -1,27 +1,16 @@
 ghost use Rattle.std.specs.Prelude.{◌≡◌, ◌+◌, ◌≤◌, ◌++◌, [], map, length, sum_by, IfOk, if◌then◌else◌};
 ghost use Rattle.mama_journal.specs.Journal.{numbers_below};
+ghost use Rattle.mama_bridge.specs.Placed.{present};
 ghost use Rattle.mama_bridge.specs.Links.{sub_held, inbox_held, EndSteps, InboxEndSteps, Ends, settle_outs};
 
 use crate::ends::plus;
-use crate::inboxes::InboxLink;
+use crate::inboxes::{InboxLink, end_entry};
 use crate::out::BridgeOut;
-use crate::subs::SubLink;
-use crate::{inboxes, subs};
+use crate::subs::{self, SubLink};
 use mama_event::{MarketMsg, ToPublisher, ToQueue, ToTimers};
 use mama_link::Outbox;
 use mama_memory::OutOfMemory;
 use mama_msg::Msg;
-
-/// How many replies the links of inboxes still hold.
-pub(crate) fn held_by_inboxes(links: &Vec<InboxLink>) -> Result<usize, OutOfMemory>
-    ensures { IfOk result (λ n. n ≡ sum_by inbox_held links.now.items) }
-{
-    let mut total: usize = 0;
-    for link in links {
-        total = plus(total, link.link.held())?;
-    }
-    Ok(total)
-}
 
 /// Ends the links of subscriptions in order, into outboxes with room.
 pub(crate) fn end_subs<L>(
@@ -41,17 +30,17 @@ pub(crate) fn end_subs<L>(
 
 /// Ends the links of inboxes in order, into outboxes with room.
 pub(crate) fn end_inboxes<L>(
-    links: Vec<InboxLink>,
+    entries: Vec<Option<InboxLink>>,
     bodies: &mut Outbox<Msg>,
     out: &mut Outbox<BridgeOut<L>>,
 )
-    requires bodies { sum_by inbox_held links.items ≤ bodies.old.spare }
-    requires out { sum_by inbox_held links.items + length links.items ≤ out.old.spare }
-    ensures ends { InboxEndSteps links.items bodies.old.items bodies.new.items out.old.items out.new.items }
-    ensures spare { out.old.spare ≤ out.new.spare + (sum_by inbox_held links.items + length links.items) }
+    requires bodies { sum_by inbox_held (present entries.items) ≤ bodies.old.spare }
+    requires out { sum_by inbox_held (present entries.items) + length (present entries.items) ≤ out.old.spare }
+    ensures ends { InboxEndSteps (present entries.items) bodies.old.items bodies.new.items out.old.items out.new.items }
+    ensures spare { out.old.spare ≤ out.new.spare + (sum_by inbox_held (present entries.items) + length (present entries.items)) }
 {
-    for link in links {
-        inboxes::end(link, bodies, out);
+    for entry in entries {
+        end_entry(entry, bodies, out);
     }
 }
 
@@ -105,7 +94,7 @@ pub(crate) fn settle_if<L>(settles: bool, publishers: u32, out: &mut Outbox<Brid
 /// Ends all links, subscriptions first, and then says the end to all, into outboxes with room.
 pub(crate) fn end_all<L>(
     links: Vec<SubLink>,
-    inboxes: Vec<InboxLink>,
+    inboxes: Vec<Option<InboxLink>>,
     publishers: u32,
     queues: u32,
     msgs: &mut Outbox<MarketMsg>,
@@ -113,11 +102,11 @@ pub(crate) fn end_all<L>(
     out: &mut Outbox<BridgeOut<L>>,
 )
     requires msgs { sum_by sub_held links.items ≤ msgs.old.spare }
-    requires bodies { sum_by inbox_held inboxes.items ≤ bodies.old.spare }
-    requires out { sum_by sub_held links.items + length links.items + (sum_by inbox_held inboxes.items + length inboxes.items) + (queues + publishers + 1) ≤ out.old.spare }
+    requires bodies { sum_by inbox_held (present inboxes.items) ≤ bodies.old.spare }
+    requires out { sum_by sub_held links.items + length links.items + (sum_by inbox_held (present inboxes.items) + length (present inboxes.items)) + (queues + publishers + 1) ≤ out.old.spare }
     requires no_msgs { msgs.old.items ≡ [] }
     requires no_bodies { bodies.old.items ≡ [] }
-    ensures { Ends publishers queues links.items inboxes.items out.old.items out.new.items }
+    ensures { Ends publishers queues links.items (present inboxes.items) out.old.items out.new.items }
 {
     end_subs(links, msgs, out);
     end_inboxes(inboxes, bodies, out);

@@ -7,10 +7,12 @@
 //!
 //! A bridge keeps a link for each live subscription and each open inbox, and not what it heard. The links of
 //! subscriptions stand by topic: a publish costs the links of its topic, what comes out of them, and a logarithm of the
-//! topics. An image, a wish and a Leave cost the links of one topic, and a logarithm of all that joined before. A Join
-//! costs that logarithm too, and a look at the place of each that ever was live and at the inboxes; a reply, an Ask and
-//! the end of an inbox cost the inboxes. All links and places are looked at where settling begins and where the ending
-//! comes. Want of memory leaves the bridge and the outbox as they were.
+//! topics. An image, a wish and a Leave cost the links of one topic, and a logarithm of all that joined before. A reply
+//! and the end of an inbox cost what comes out of its link, and a logarithm of all inboxes that were opened before; an
+//! Ask costs that logarithm, and a look for the first publisher of its topic. A Join and the opening of an inbox cost
+//! such a logarithm too, and a look at the place of each subscription and inbox that ever was. All links and places are
+//! looked at where settling begins and where the ending comes. Want of memory leaves the bridge and the outbox as they
+//! were.
 #![tactic(auto)]
 
 mod bridge;
@@ -19,7 +21,6 @@ mod ending;
 mod ends;
 mod flags;
 mod hearing;
-mod ids;
 mod inboxes;
 mod live;
 mod out;
@@ -28,6 +29,7 @@ mod putter;
 mod routes;
 mod slots;
 mod subs;
+mod tally;
 
 pub use bridge::MemoryBridge;
 pub use out::BridgeOut;

@@ -1,10 +1,11 @@
-ghost use Rattle.std.specs.Prelude.{◌≡◌, ◌≤◌, ◌||◌, ◌++◌, [], ◌∷◌, false, length, filter, option_to_list, OnOk, OnErr, None, Some, slice_index_or, if◌then◌else◌};
+ghost use Rattle.std.specs.Prelude.{◌≡◌, ◌||◌, ◌++◌, [], ◌∷◌, false, length, filter, option_to_list, OnOk, OnErr, None, Some, slice_index_or, if◌then◌else◌};
 ghost use Rattle.mama_event.specs.Object.{same_sub};
 ghost use Rattle.mama_event.specs.declared.ids.SubId.{SubId as Sub};
 ghost use Rattle.mama_bridge_rules.specs.Table.{without, kept};
 ghost use Rattle.mama_bridge.specs.Ids.{is_sub_among};
 ghost use Rattle.mama_bridge.specs.Placed.{Indexed, IsAt, entry_passes, is_place_of, present};
 
+use crate::tally::count;
 use mama_event::SubId;
 use mama_memory::OutOfMemory;
 use std::alloc::Global;
@@ -75,28 +76,6 @@ fn index_of(
         Some(i) => own_index(entries, *i, sub),
         None => None,
     }
-}
-
-/// How many places an entry is: one or none.
-fn size(entry: Option<Place>) -> usize
-    ensures len { result ≡ length (option_to_list entry) }
-    ensures small { result ≤ 1 }
-{
-    match entry {
-        Some(_) => 1,
-        None => 0,
-    }
-}
-
-/// How many entries are not empty.
-fn count(entries: &Vec<Option<Place>>) -> usize
-    ensures { result ≡ length (present entries.now.items) }
-{
-    let mut count: usize = 0;
-    for i in 0..entries.len() {
-        count += size(entries[i]);
-    }
-    count
 }
 
 impl Places {

@@ -1,16 +1,13 @@
 ghost use Rattle.std.specs.Prelude.{◌≡◌, ◌<◌, ◌++◌, map, nat_lt, OnOk, OnErr, if◌then◌else◌};
-ghost use Rattle.mama_bridge_rules.specs.Table.{SubRow, InboxRow, of_sub, sub_passed, inbox_passed, sub_wished};
-ghost use Rattle.mama_bridge.specs.Links.{sub_seen, sub_view, inbox_seen, inbox_view, emit_outs, inbox_emit_outs, row_is_on, wish_outs, SubsPass, SubLeaves, SubWishes, InboxPass, InboxCloses};
+ghost use Rattle.mama_bridge_rules.specs.Table.{SubRow, of_sub, sub_passed, sub_wished};
+ghost use Rattle.mama_bridge.specs.Links.{sub_seen, sub_view, emit_outs, row_is_on, wish_outs, SubsPass, SubLeaves, SubWishes};
 
 use crate::ends::plus;
-use crate::inboxes::InboxLink;
 use crate::out::BridgeOut;
-use crate::subs::SubLink;
-use crate::{inboxes, subs};
-use mama_event::{InboxId, MarketMsg, MsgKind, SubId, ToPublisher};
+use crate::subs::{self, SubLink};
+use mama_event::{MarketMsg, MsgKind, SubId, ToPublisher};
 use mama_link::Outbox;
 use mama_memory::OutOfMemory;
-use mama_msg::Msg;
 use std::alloc::Global;
 use std::collections::VecDeque;
 
@@ -133,69 +130,6 @@ pub(crate) fn wish<L>(
 {
     match subs::find(links, sub) {
         Some(i) => wish_one(&mut links[i], sender, out),
-        None => Ok(()),
-    }
-}
-
-/// Passes a reply through one inbox's link.
-fn answer<L>(
-    alloc: Global,
-    link: &mut InboxLink,
-    body: &Msg,
-    out: &mut Outbox<BridgeOut<L>>,
-) -> Result<(), OutOfMemory>
-    ensures ok { OnOk result ((row : InboxRow) → inbox_seen link.old ≡ inbox_view row → (inbox_seen link.new ≡ inbox_view (inbox_passed body.now row)) × (out.new.items ≡ out.old.items ++ inbox_emit_outs body.now row)) }
-    ensures seen { OnErr result (inbox_seen link.new ≡ inbox_seen link.old) }
-    ensures err { OnErr result (out.new.items ≡ out.old.items) }
-{
-    let prepared = link.link.prepare(body)?;
-    let total = prepared.len();
-    out.reserve(total)?;
-    let mut bodies = Outbox::new(alloc);
-    bodies.reserve(total)?;
-    inboxes::pass(link, prepared, &mut bodies, out);
-    Ok(())
-}
-
-/// Passes a reply through an inbox's link, if it is open.
-pub(crate) fn reply<L>(
-    alloc: Global,
-    links: &mut Vec<InboxLink>,
-    inbox: InboxId,
-    body: &Msg,
-    out: &mut Outbox<BridgeOut<L>>,
-) -> Result<(), OutOfMemory>
-    ensures ok { OnOk result (InboxPass inbox body.now links.old.items links.new.items out.old.items out.new.items) }
-    ensures seen { OnErr result (map inbox_seen links.new.items ≡ map inbox_seen links.old.items) }
-    ensures err { OnErr result (out.new.items ≡ out.old.items) }
-{
-    match inboxes::find(links, inbox) {
-        Some(i) => answer(alloc, &mut links[i], body, out),
-        None => Ok(()),
-    }
-}
-
-/// Ends an inbox's link, if it is open.
-pub(crate) fn close<L>(
-    alloc: Global,
-    links: &mut Vec<InboxLink>,
-    inbox: InboxId,
-    out: &mut Outbox<BridgeOut<L>>,
-) -> Result<(), OutOfMemory>
-    ensures ok { OnOk result (InboxCloses inbox links.old.items links.new.items out.old.items out.new.items) }
-    ensures seen { OnErr result (links.new.items ≡ links.old.items) }
-    ensures err { OnErr result (out.new.items ≡ out.old.items) }
-{
-    match inboxes::find(links, inbox) {
-        Some(i) => {
-            let held = links[i].link.held();
-            out.reserve(plus(held, 1)?)?;
-            let mut bodies = Outbox::new(alloc);
-            bodies.reserve(held)?;
-            let link = links.remove(i);
-            inboxes::end(link, &mut bodies, out);
-            Ok(())
-        }
         None => Ok(()),
     }
 }

@@ -5,7 +5,7 @@ ghost use Rattle.mama_bridge.specs.Live.{place_slots};
 ghost use Rattle.mama_bridge.specs.Placed.{present};
 ghost use Rattle.mama_bridge.specs.Marks.{marked_by};
 
-use crate::inboxes::InboxLink;
+use crate::inboxes::{InboxLink, Inboxes};
 use crate::places::{Place, Places};
 use mama_memory::OutOfMemory;
 use std::alloc::Global;
@@ -43,11 +43,25 @@ fn note_places(
     Ok(())
 }
 
-fn note_inboxes(used: &mut Vec<u32>, links: &Vec<InboxLink>, queue: u32) -> Result<(), OutOfMemory>
-    ensures { OnOk result (used.new.items ≡ used.old.items ++ inbox_link_slots queue links.now.items) }
+/// Notes the slot of an inbox's link, if there is one.
+fn note_inbox(used: &mut Vec<u32>, queue: u32, link: &Option<InboxLink>) -> Result<(), OutOfMemory>
+    ensures { OnOk result (used.new.items ≡ used.old.items ++ inbox_link_slots queue (option_to_list link.now)) }
 {
-    for link in links {
-        note(used, queue, link.queue, link.slot)?;
+    match link {
+        Some(link) => note(used, queue, link.queue, link.slot),
+        None => Ok(()),
+    }
+}
+
+fn note_inboxes(
+    used: &mut Vec<u32>,
+    links: &Vec<Option<InboxLink>>,
+    queue: u32,
+) -> Result<(), OutOfMemory>
+    ensures { OnOk result (used.new.items ≡ used.old.items ++ inbox_link_slots queue (present links.now.items)) }
+{
+    for i in 0..links.len() {
+        note_inbox(used, queue, &links[i])?;
     }
     Ok(())
 }
@@ -107,13 +121,13 @@ fn first_free(alloc: Global, used: &Vec<u32>) -> Result<u32, OutOfMemory>
 pub(crate) fn free_slot(
     alloc: Global,
     places: &Places,
-    inboxes: &Vec<InboxLink>,
+    inboxes: &Inboxes,
     queue: u32,
 ) -> Result<u32, OutOfMemory>
-    ensures { IfOk result (λ slot. slot ≡ least_free (place_slots queue places.now.live ++ inbox_link_slots queue inboxes.now.items)) }
+    ensures { IfOk result (λ slot. slot ≡ least_free (place_slots queue places.now.live ++ inbox_link_slots queue inboxes.now.links)) }
 {
     let mut used = Vec::new(alloc);
     note_places(&mut used, places.entries(), queue)?;
-    note_inboxes(&mut used, inboxes, queue)?;
+    note_inboxes(&mut used, inboxes.entries(), queue)?;
     first_free(alloc, &used)
 }

@@ -1,11 +1,14 @@
 use Rattle.std.proofs.Common.{◌≡◌, ◌++◌, List, [], ◌∷◌, rules, arith, append_assoc, sym, ◌∙◌, ap}
-use Rattle.mama_bridge.specs.Links.{inbox_held}
+use Rattle.std.specs.declared.option.Option.{Option}
+use Rattle.mama_bridge.specs.Placed.{present}
 use Rattle.mama_bridge.specs.declared.inboxes.InboxLink.{InboxLink}
-use Rattle.mama_bridge.proofs.Stepping.{inbox_end_none, inbox_end_more, sum_rest}
+use Rattle.mama_bridge.proofs.Entries.{present_push}
+use Rattle.mama_bridge.proofs.InboxLemmas.{held_rest}
+use Rattle.mama_bridge.proofs.Stepping.{inbox_end_none, entry_end_more}
 use Rattle.mama_bridge.proofs.ending.end_inboxes.Goals as goal
 
-pub loop-link-init : goal.loop-link-init
-loop-link-init g c = record {
+pub loop-entry-init : goal.loop-entry-init
+loop-entry-init g c = record {
   done = inbox_end_none c.args.bodies.now.items c.args.out.now.items;
   whole = search rules;
   bodies = search rules;
@@ -13,14 +16,20 @@ loop-link-init g c = record {
   spare = search rules;
 }
 
-pub loop-link-preserved : goal.loop-link-preserved
-loop-link-preserved g c =
-    let first : c.loop-link.link-iterator.rest.items ≡ c.in-Some.link ∷ c.next.new.self.rest.items = search rules in
-    let sums = sum_rest inbox_held c.in-Some.link c.next.new.self.rest.items c.loop-link.link-iterator.rest.items first in
+pub end_entry-requires : goal.end_entry-requires
+end_entry-requires g c =
+    let first : c.loop-entry.entry-iterator.rest.items ≡ c.in-Some.entry ∷ c.next.new.self.rest.items = search rules in
+    let sums = held_rest c.in-Some.entry c.next.new.self.rest.items c.loop-entry.entry-iterator.rest.items first in
+    record { bodies = omega (arith, sums.0); out = omega (arith, sums.0, sums.1) }
+
+pub loop-entry-preserved : goal.loop-entry-preserved
+loop-entry-preserved g c =
+    let first : c.loop-entry.entry-iterator.rest.items ≡ c.in-Some.entry ∷ c.next.new.self.rest.items = search rules in
+    let sums = held_rest c.in-Some.entry c.next.new.self.rest.items c.loop-entry.entry-iterator.rest.items first in
     record {
-      done = inbox_end_more c.loop-link.yielded c.in-Some.link _ _ _ _ _ _ c.loop-link.invariant.done c.end.ensures.step;
-      whole = append_assoc c.loop-link.yielded (c.in-Some.link ∷ []) c.next.new.self.rest.items ∙ ap (λ (xs : List InboxLink). c.loop-link.yielded ++ xs) (sym first) ∙ c.loop-link.invariant.whole;
-      bodies = omega (arith, sums.0, sums.1);
-      out = omega (arith, sums.0, sums.1);
-      spare = omega (arith, sums.0, sums.1);
+      done = entry_end_more (present c.loop-entry.yielded) (present (c.loop-entry.yielded ++ c.in-Some.entry ∷ [])) c.in-Some.entry _ _ _ _ _ _ (present_push c.loop-entry.yielded c.in-Some.entry) c.loop-entry.invariant.done c.end_entry.ensures.ends;
+      whole = append_assoc c.loop-entry.yielded (c.in-Some.entry ∷ []) c.next.new.self.rest.items ∙ ap (λ (xs : List (Option InboxLink)). c.loop-entry.yielded ++ xs) (sym first) ∙ c.loop-entry.invariant.whole;
+      bodies = omega (arith, sums.0, sums.1, c.end_entry.ensures.bodies_spare);
+      out = omega (arith, sums.0, sums.1, c.end_entry.ensures.out_spare);
+      spare = omega (arith, sums.0, sums.1, c.end_entry.ensures.out_spare);
     }

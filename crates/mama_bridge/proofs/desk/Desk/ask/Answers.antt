@@ -7,7 +7,7 @@ use Rattle.mama_rules.specs.Bridge.{to_first}
 use Rattle.mama_bridge_rules.specs.Table.{of_inbox, all_set, settling_now}
 use Rattle.mama_bridge.specs.Links.{first_outs}
 use Rattle.mama_bridge.proofs.Adding.{adds_said}
-use Rattle.mama_bridge.proofs.Found.{inbox_found}
+use Rattle.mama_bridge.proofs.InboxLemmas.{open_same}
 use Rattle.mama_bridge.proofs.Wishing.{says_first, says_if}
 use Rattle.mama_bridge.proofs.desk.Desk.ask.Goals as goal
 
@@ -15,7 +15,7 @@ pub returns-clause-ok : goal.returns-clause-ok
 returns-clause-ok g c table s sound =
     let settling : c.is_settling.result ≡ settling_now table = c.is_settling.ensures ∙ ap (λ flags. all_set flags && all_set c.args.self.now.sends) s.clients ∙ ap (λ flags. all_set table.clients && all_set flags) s.sends in
     let may : c.may_ask-may.result ≡ (list_any (of_inbox c.args.inbox) table.inboxes && not (settling_now table)) =
-    c.may_ask-may.ensures ∙ ap (λ b. b && not c.is_settling.result) (c.has.ensures ∙ inbox_found c.args.inbox c.args.self.now.inboxes.items table.inboxes s.inboxes) ∙ ap (λ b. list_any (of_inbox c.args.inbox) table.inboxes && not b) settling in
+    c.may_ask-may.ensures ∙ ap (λ b. b && not c.is_settling.result) (c.is_open.ensures ∙ open_same c.args.inbox c.args.self.now.inboxes.links table.inboxes s.inboxes) ∙ ap (λ b. list_any (of_inbox c.args.inbox) table.inboxes && not b) settling in
     let found = position (λ t. t == c.args.topic) c.args.shape.now.publisher_topics in
     record {
       stands = record { opened = s.opened; subs = s.subs; inboxes = s.inboxes; clients = s.clients; sends = s.sends; settled = s.settled; byes = s.byes };

@@ -1,7 +1,9 @@
 use Rattle.std.specs.List.{flat_map}
-use Rattle.std.proofs.Common.{◌∙◌, ap, map, filter}
+use Rattle.std.proofs.Common.{List, ◌∙◌, ap, map, filter}
 use Rattle.std.proofs.lemmas.Result.{on_ok_weaker, on_err_weaker}
+use Rattle.mama_event.specs.declared.ids.InboxId.{InboxId}
 use Rattle.mama_bridge_rules.specs.Table.{of_inbox, inbox_ends}
+use Rattle.mama_bridge.specs.Ids.{is_inbox_among}
 use Rattle.mama_bridge.specs.Links.{inbox_seen, inbox_end_outs}
 use Rattle.mama_bridge.proofs.Adding.{says_inbox_ends, adds_said}
 use Rattle.mama_bridge.proofs.desk.Desk.close.Goals as goal
@@ -10,9 +12,9 @@ pub returns-clause-ok : goal.returns-clause-ok
 returns-clause-ok g c =
     on_ok_weaker c.close.result
     (λ done. λ shape table s sound.
-    let both = done table.inboxes s.inboxes sound.inboxes_once in
+    let both = done table.inboxes s.inboxes in
     record {
-      stands = record { opened = s.opened; subs = s.subs; inboxes = both.0; clients = s.clients; sends = s.sends; settled = s.settled; byes = s.byes };
+      stands = record { opened = λ one. ap (λ (ids : List InboxId). is_inbox_among ids one) c.close.ensures.opened ∙ s.opened one; subs = s.subs; inboxes = both.0; clients = s.clients; sends = s.sends; settled = s.settled; byes = s.byes };
       adds = adds_said g.L.Tagged.tagged c.args.out.now.items c.close.new.out.items (flat_map inbox_end_outs (filter (of_inbox c.args.inbox) table.inboxes)) (flat_map inbox_ends (filter (of_inbox c.args.inbox) table.inboxes)) both.1 (says_inbox_ends g.L.Tagged.tagged (filter (of_inbox c.args.inbox) table.inboxes));
     })
     c.close.ensures.ok
@@ -20,5 +22,5 @@ returns-clause-ok g c =
 pub returns-clause-same : goal.returns-clause-same
 returns-clause-same g c =
     on_err_weaker c.close.result
-    (λ same. λ table s. record { opened = s.opened; subs = s.subs; inboxes = ap (map inbox_seen) same ∙ s.inboxes; clients = s.clients; sends = s.sends; settled = s.settled; byes = s.byes })
-    c.close.ensures.seen
+    (λ same. λ table s. record { opened = λ one. ap (λ (ids : List InboxId). is_inbox_among ids one) c.close.ensures.opened ∙ s.opened one; subs = s.subs; inboxes = ap (map inbox_seen) same ∙ s.inboxes; clients = s.clients; sends = s.sends; settled = s.settled; byes = s.byes })
+    c.close.ensures.same

@@ -22,7 +22,7 @@ returns-clause-ok g c table s sound =
     let last = c.add_sub.ensures.rest in
     let had : is_sub_among before.subs.places.joined c.args.sub ≡ false = sym c.if-has_joined.ensures in
     let new : has_joined c.args.sub table ≡ false = sym (s.subs.known c.args.sub) ∙ had in
-    let slot : c.in-Ok.slot ≡ slot_for c.args.terms.queue table = c.in-Ok.ensures.slot ∙ slot_same c.args.terms.queue before.subs.places.live before.inboxes.items table.subs table.inboxes s.subs.places s.inboxes in
+    let slot : c.in-Ok.slot ≡ slot_for c.args.terms.queue table = c.in-Ok.ensures.slot ∙ slot_same c.args.terms.queue before.subs.places.live before.inboxes.links table.subs table.inboxes s.subs.places s.inboxes in
     let ended : c.is_ended-ended.result ≡ ended_now table = c.is_ended-ended.ensures ∙ ended_same _ _ _ _ _ _ s.clients s.sends s.settled in
     let link : sub_seen c.new_link-link.result ≡ sub_view (new_sub table c.args.sub c.args.terms) =
     c.new_link-link.ensures ∙ ap {B = SubView} (λ n. record { sub = c.args.sub; topic = c.args.terms.topic; queue = c.args.terms.queue; slot = n; recaps = c.args.terms.recaps; wished = 0; link = standing_after c.args.terms.faults [] }) slot in

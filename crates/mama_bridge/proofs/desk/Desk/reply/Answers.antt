@@ -1,7 +1,9 @@
 use Rattle.std.specs.List.{flat_map}
-use Rattle.std.proofs.Common.{◌∙◌, filter}
+use Rattle.std.proofs.Common.{List, ap, ◌∙◌, filter}
 use Rattle.std.proofs.lemmas.Result.{on_ok_weaker, on_err_weaker}
+use Rattle.mama_event.specs.declared.ids.InboxId.{InboxId}
 use Rattle.mama_bridge_rules.specs.Table.{of_inbox, inbox_emits}
+use Rattle.mama_bridge.specs.Ids.{is_inbox_among}
 use Rattle.mama_bridge.specs.Links.{inbox_emit_outs}
 use Rattle.mama_bridge.proofs.Adding.{says_inbox_emits, adds_said}
 use Rattle.mama_bridge.proofs.desk.Desk.reply.Goals as goal
@@ -10,9 +12,9 @@ pub returns-clause-ok : goal.returns-clause-ok
 returns-clause-ok g c =
     on_ok_weaker c.reply.result
     (λ done. λ shape table s sound.
-    let both = done table.inboxes s.inboxes sound.inboxes_once in
+    let both = done table.inboxes s.inboxes in
     record {
-      stands = record { opened = s.opened; subs = s.subs; inboxes = both.0; clients = s.clients; sends = s.sends; settled = s.settled; byes = s.byes };
+      stands = record { opened = λ one. ap (λ (ids : List InboxId). is_inbox_among ids one) c.reply.ensures.opened ∙ s.opened one; subs = s.subs; inboxes = both.0; clients = s.clients; sends = s.sends; settled = s.settled; byes = s.byes };
       adds = adds_said g.L.Tagged.tagged c.args.out.now.items c.reply.new.out.items (flat_map (inbox_emit_outs c.args.body.now) (filter (of_inbox c.args.inbox) table.inboxes)) (flat_map (inbox_emits c.args.body.now) (filter (of_inbox c.args.inbox) table.inboxes)) both.1 (says_inbox_emits g.L.Tagged.tagged c.args.body.now (filter (of_inbox c.args.inbox) table.inboxes));
     })
     c.reply.ensures.ok
@@ -20,5 +22,5 @@ returns-clause-ok g c =
 pub returns-clause-same : goal.returns-clause-same
 returns-clause-same g c =
     on_err_weaker c.reply.result
-    (λ same. λ table s. record { opened = s.opened; subs = s.subs; inboxes = same ∙ s.inboxes; clients = s.clients; sends = s.sends; settled = s.settled; byes = s.byes })
+    (λ same. λ table s. record { opened = λ one. ap (λ (ids : List InboxId). is_inbox_among ids one) c.reply.ensures.opened ∙ s.opened one; subs = s.subs; inboxes = same ∙ s.inboxes; clients = s.clients; sends = s.sends; settled = s.settled; byes = s.byes })
     c.reply.ensures.seen

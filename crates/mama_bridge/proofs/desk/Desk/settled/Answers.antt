@@ -16,16 +16,16 @@ returns-clause-ok g c table s sound =
     let turned = c.in_ok-turn.ensures in
     let rest = turned.rest in
     let before = c.args.self.now in
-    let out = subst (λ (n : ℕ). EndsLive {L = g.row.L.Denot} c.begins-ends.result n (queues_of c.args.shape.now) before.subs before.inboxes.items (c.args.out.now.items ++ cond c.begins-settles.result (settle_outs n) []) c.turn.new.out.items) c.requires.publishers turned.out in
+    let out = subst (λ (n : ℕ). EndsLive {L = g.row.L.Denot} c.begins-ends.result n (queues_of c.args.shape.now) before.subs before.inboxes.links (c.args.out.now.items ++ cond c.begins-settles.result (settle_outs n) []) c.turn.new.out.items) c.requires.publishers turned.out in
     record {
       stands = record {
         opened = λ one. ap (λ (known : List InboxId). is_inbox_among known one) rest.opened ∙ s.opened one;
         subs = subst (λ (b : Bool). IsLive table.joined (kept b table.subs) c.turn.new.self.subs) ends (turned.subs table.joined table.subs s.subs);
-        inboxes = seen_kept inbox_seen inbox_view c.turn.new.self.inboxes.items before.inboxes.items table.inboxes c.begins-ends.result (begins_ending table (settled c.args.publisher)) turned.inboxes s.inboxes ends;
+        inboxes = seen_kept inbox_seen inbox_view c.turn.new.self.inboxes.links before.inboxes.links table.inboxes c.begins-ends.result (begins_ending table (settled c.args.publisher)) turned.inboxes s.inboxes ends;
         clients = rest.clients ∙ s.clients;
         sends = rest.sends ∙ s.sends;
         settled = c.set.ensures ∙ ap (λ (flags : List Bool). set flags c.args.publisher true) (rest.settled ∙ s.settled);
         byes = rest.byes ∙ s.byes;
       };
-      adds = adds_closing g.L.Tagged.tagged c.args.shape.now table (settled c.args.publisher) before.subs before.inboxes.items c.args.out.now.items c.turn.new.out.items c.begins-settles.result c.begins-ends.result s.subs s.inboxes out settles ends;
+      adds = adds_closing g.L.Tagged.tagged c.args.shape.now table (settled c.args.publisher) before.subs before.inboxes.links c.args.out.now.items c.turn.new.out.items c.begins-settles.result c.begins-ends.result s.subs s.inboxes out settles ends;
     }

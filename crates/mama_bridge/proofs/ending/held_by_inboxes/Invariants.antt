@@ -1,6 +1,0 @@
-use Rattle.std.proofs.Common.{◌≡◌, take, sum_by}
-use Rattle.mama_bridge.specs.Links.{inbox_held}
-use Rattle.mama_bridge.proofs.ending.held_by_inboxes.Given as goal
-
-abbrev pub invariant-loop-link : goal.invariant-loop-link
-invariant-loop-link l = l.total ≡ sum_by inbox_held (take l.link-index l.links.items)
