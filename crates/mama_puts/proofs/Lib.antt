@@ -1,2 +1,4 @@
 pub mod Lists
 pub mod TimerSteps
+pub mod BridgeSteps
+pub mod SenderSteps

@@ -1,6 +1,7 @@
 -- Lists that grow entry by entry.
 use Rattle.std.proofs.Common.{◌≡◌, ℕ, suc, ◌+◌, ◌<◌, ◌≤◌, inl, inr, take, List, [], ◌∷◌, ◌++◌, length, map, get_or, refl, ap, sym, subst, ◌∙◌, append_assoc, arith, zero, add-one, below_more}
 use Rattle.std.specs.Prelude.{◌==◌, slice_index_or, slice_set}
+use Rattle.std.specs.Prelude.{Result, Ok, Err, OnOk}
 use Rattle.std.specs.List.{flat_map}
 use Rattle.std.proofs.lemmas.Bool.{cond-true, cond-false, eq-eqb, ne_eqb, cases_eq}
 use Rattle.std.proofs.lemmas.List.{append-nil, length-set, length-take-le, get_or-set_same, get_or-set_other, get_or-map, map-append, map-set, length-map, length-append}
@@ -9,6 +10,11 @@ use Rattle.std.proofs.Math.ListN.{get_or-eq_default}
 use Rattle.mama_order.specs.Numbered.{from_entry, numbered, parted}
 use Rattle.mama_order.proofs.Numbered.{parted_push}
 use Rattle.mama_puts.specs.Puts.{AreLists, Grow, one_for}
+
+-- what a call promises where it succeeds may be said in other words
+pub on_ok : {T E P Q : Type 0} (r : Result T E) → (P → Q) → OnOk r P → OnOk r Q
+on_ok (Ok x) f h = f h
+on_ok (Err e) f h = h
 
 -- what one entry put, in two parts
 pub entry_append : {P : Type 0} (n : ℕ) (ps qs : List P) → from_entry n (ps ++ qs) ≡ from_entry n ps ++ from_entry n qs

@@ -1,1 +1,3 @@
 pub mod Puts
+pub mod Bridge
+pub mod Sender

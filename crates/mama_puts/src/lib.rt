@@ -8,11 +8,15 @@
 //! One pass over a journal; memory by its length and by what it puts.
 #![tactic(auto)]
 
+mod bridge;
 mod dealing;
 mod notes;
+mod publisher;
 mod timers;
 
+pub use bridge::{BridgePuts, puts_of_bridge};
 pub use mama_memory::OutOfMemory;
+pub use publisher::puts_of_publisher;
 pub use timers::puts_of_timers;
 
 #[cfg(test)]
