@@ -1,0 +1,4 @@
+pub mod Options
+pub mod PutLemmas
+pub mod ServeLemmas
+pub mod RecordLemmas

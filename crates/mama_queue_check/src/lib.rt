@@ -1,0 +1,29 @@
+//! What a queue put, called back and left, by its journal and the plans of its objects, for those that judge a record.
+//!
+//! The journal may be any list of entries, since it comes from a log that may be wrong. [`serve`] serves it again, with
+//! listeners that give the orders of their plans: `AreTurns` says when each entry may come after those before it, and
+//! then a [`ServedQueue`] tells what was put, each event with the number of the entry that put it, and the callbacks and
+//! the last image of each object. [`serve_all`] does it for all queues, and [`have_calls`] and [`have_images`] compare all of these with what was recorded.
+#![tactic(auto)]
+
+mod calls;
+mod images;
+mod planning;
+mod puts;
+mod same;
+mod served;
+mod serving;
+
+pub use calls::have_calls;
+pub use images::have_images;
+pub use mama_event::{
+    BridgeNote, CallNote, ImageHead, ObjectId, PlanRow, QueueNote, SubId, TimersNote,
+};
+pub use mama_memory::OutOfMemory;
+pub use mama_msg::Msg;
+pub use mama_queue_seat::{PlannedObject, Plans};
+pub use served::ServedQueue;
+pub use serving::{serve, serve_all};
+
+#[cfg(test)]
+mod tests;
