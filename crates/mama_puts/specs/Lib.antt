@@ -1,3 +1,4 @@
 pub mod Puts
 pub mod Bridge
 pub mod Sender
+pub mod Client

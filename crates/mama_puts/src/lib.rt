@@ -9,12 +9,15 @@
 #![tactic(auto)]
 
 mod bridge;
+mod client;
 mod dealing;
+mod names;
 mod notes;
 mod publisher;
 mod timers;
 
 pub use bridge::{BridgePuts, puts_of_bridge};
+pub use client::{ClientPuts, puts_of_client};
 pub use mama_memory::OutOfMemory;
 pub use publisher::puts_of_publisher;
 pub use timers::puts_of_timers;

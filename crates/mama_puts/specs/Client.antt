@@ -1,0 +1,49 @@
+-- A client that does its lines again.
+use Rattle.std.specs.Prelude.{◌≡◌, ℕ, List, [], ◌∷◌, ◌++◌}
+use Rattle.mama_event.specs.declared.to_bridge.BridgeNote.{BridgeNote}
+use Rattle.mama_event.specs.declared.to_timers.TimersNote.{TimersNote}
+use Rattle.mama_script.specs.declared.client.ClientLine.{ClientLine}
+use Rattle.mama_queue_rules.specs.Queue.{QueuePut, to_bridge, to_timers}
+use Rattle.mama_order.specs.Numbered.{parted, steps_numbered, steps_numbered_from}
+use Rattle.mama_rounds.specs.Client.{Standing, line_steps, after_line, steps_from, client_steps, bridge_part, timers_part}
+use Rattle.mama_puts.specs.declared.names.Names.{Names}
+use Rattle.mama_puts.specs.declared.names.Put.{Put}
+use Rattle.mama_puts.specs.declared.names.Put.TheVariants as p
+use Rattle.mama_puts.specs.declared.client.Teller.{Teller}
+
+-- what the client of a number put to the bridge and to the timer service, each event with the number of its step
+
+abbrev pub client_put_to_bridge : ℕ → ℕ → List ℕ → List ClientLine → List (ℕ × BridgeNote)
+client_put_to_bridge queues number moments lines = parted bridge_part (steps_numbered (client_steps queues number moments lines))
+
+abbrev pub client_put_to_timers : ℕ → ℕ → List ℕ → List ClientLine → List (ℕ × TimersNote)
+client_put_to_timers queues number moments lines = parted timers_part (steps_numbered (client_steps queues number moments lines))
+
+abbrev pub put_of : Put → QueuePut
+put_of (p.Bridge note) = to_bridge note
+put_of (p.Timers note) = to_timers note
+
+abbrev pub standing_of : Names → List ℕ → Standing
+standing_of n moments = record { subs = n.subs; timers = n.timers; inboxes = n.inboxes; turns = n.turns; moments = moments }
+
+-- The line takes one step, which puts this event; whatever the clock tells later, the client stands then as its names do.
+pub record DoesLine (queues number : ℕ) (old new : Names) (line : ClientLine) (put : QueuePut) : Type 0 where
+  pub step : (moments : List ℕ) → line_steps queues number (standing_of old moments) line ≡ (put ∷ []) ∷ []
+  pub after : (moments : List ℕ) → after_line (standing_of old moments) line ≡ standing_of new moments
+
+-- what it has still to put by these lines
+abbrev pub still : Teller → List ClientLine → List (ℕ × QueuePut)
+still t lines = steps_numbered_from t.step (steps_from t.queues t.number (standing_of t.names t.moments.now) lines)
+
+-- what it put, and what it has still to put by these lines
+
+abbrev pub to_bridge_in_all : Teller → List ClientLine → List (ℕ × BridgeNote)
+to_bridge_in_all t lines = t.puts.to_bridge.items ++ parted bridge_part (still t lines)
+
+abbrev pub to_timers_in_all : Teller → List ClientLine → List (ℕ × TimersNote)
+to_timers_in_all t lines = t.puts.to_timers.items ++ parted timers_part (still t lines)
+
+-- It did a line, whatever lines come after it.
+pub record Tells (old new : Teller) (line : ClientLine) : Type 0 where
+  pub bridge : (lines : List ClientLine) → to_bridge_in_all new lines ≡ to_bridge_in_all old (line ∷ lines)
+  pub timers : (lines : List ClientLine) → to_timers_in_all new lines ≡ to_timers_in_all old (line ∷ lines)
