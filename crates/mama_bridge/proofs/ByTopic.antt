@@ -10,8 +10,9 @@ use Rattle.std.proofs.lemmas.List.{map-append}
 use Rattle.std.proofs.lemmas.List.Elements.{filter-append}
 use Rattle.mama_event.specs.Object.{same_sub}
 use Rattle.mama_event.specs.declared.ids.SubId.{SubId}
+use Rattle.mama_event.specs.declared.market.MarketMsg.{MarketMsg}
 use Rattle.mama_bridge_rules.specs.Laws.{Alone}
-use Rattle.mama_bridge_rules.specs.Table.{SubRow, of_sub, sub_wished, changed, without, kept}
+use Rattle.mama_bridge_rules.specs.Table.{sub_passed, SubRow, of_sub, sub_wished, changed, without}
 use Rattle.mama_bridge.specs.declared.live.Live.{Live}
 use Rattle.mama_bridge.specs.declared.places.Place.{Place}
 use Rattle.mama_bridge.specs.declared.out.BridgeOut.{BridgeOut}
@@ -303,6 +304,9 @@ none_done test f put o (row ∷ rows) h alone = cc
 pub none_left : {L : Type 0} (s : SubId) (o : List (BridgeOut L)) → SubLeaves {L = L} s [] [] o o
 none_left s o [] h alone = (refl, sym (append-nil o))
 none_left s o (row ∷ rows) h alone = cc
+
+pub pass_keeps_places : (m : MarketMsg) → KeepsPlaces (sub_passed m)
+pass_keeps_places m row = refl
 
 pub wish_keeps_places : KeepsPlaces wished_once
 wish_keeps_places row = at (nat_lt row.wished row.terms.recaps)

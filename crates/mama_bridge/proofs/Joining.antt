@@ -4,7 +4,7 @@ use Rattle.std.specs.List.{flat_map}
 use Rattle.std.proofs.Common.{◌≡◌, ℕ, Bool, true, false, ◌==◌, cond, List, [], ◌∷◌, ◌++◌, map, Some, refl, sym, ◌∙◌, ap, append-nil, append_assoc}
 use Rattle.std.proofs.lemmas.List.{map-append}
 use Rattle.std.proofs.lemmas.List.Concat.{flat_map-append}
-use Rattle.mama_journal.specs.Journal.{numbers_below, least_free}
+use Rattle.mama_journal.specs.Journal.{numbers_below}
 use Rattle.mama_event.specs.declared.ids.ObjectId.{ObjectId}
 use Rattle.mama_event.specs.declared.ids.SubId.{SubId}
 use Rattle.mama_event.specs.declared.market.MsgKind.TheVariants.{Initial}
@@ -20,14 +20,12 @@ use Rattle.mama_event.specs.declared.to_timers.ToTimers.TheVariants as timed
 use Rattle.mama_event.specs.declared.to_timers.TimersNote.TheVariants as t
 use Rattle.mama_event.specs.Ports.{publishers_of, queues_of}
 use Rattle.mama_rules.specs.Bridge.{BridgePut, to_publisher, to_queue, to_timers, slot_on, wants_image}
-use Rattle.mama_bridge_rules.specs.Table.{SubRow, InboxRow, Table, sub_slots, inbox_slots, is_ended_by, is_settling_by, kept, sub_ends, inbox_ends, settles_all, ends_all}
+use Rattle.mama_bridge_rules.specs.Table.{InboxRow, Table, inbox_slots, is_ended_by, is_settling_by, kept, sub_ends, inbox_ends, settles_all, ends_all}
 use Rattle.mama_bridge.specs.declared.out.BridgeOut.{BridgeOut}
 use Rattle.mama_bridge.specs.declared.out.BridgeOut.TheVariants as out
-use Rattle.mama_bridge.specs.declared.places.Place.{Place}
 use Rattle.mama_bridge.specs.declared.inboxes.InboxLink.{InboxLink}
 use Rattle.mama_bridge.specs.Outs.{put_note, listeners, listener_in, Adds}
 use Rattle.mama_bridge.specs.Links.{InboxView, inbox_seen, inbox_view, inbox_link_slots, first_outs, image_outs, end_outs, inbox_end_outs, settle_outs, fin_outs}
-use Rattle.mama_bridge.specs.Live.{place_of, place_slots}
 use Rattle.mama_bridge.proofs.Adding.{Says, says_none, says_append, says_map, says_ends, says_inbox_ends}
 use Rattle.mama_bridge.proofs.Wishing.{says_first}
 
@@ -37,10 +35,6 @@ heads e = cc
 tails : {V : Type 0} {v w : V} {vs ws : List V} → v ∷ vs ≡ w ∷ ws → vs ≡ ws
 tails e = cc
 
-pub place_slots_same : (queue : ℕ) (rows : List SubRow) → place_slots queue (map place_of rows) ≡ sub_slots queue rows
-place_slots_same queue [] = refl
-place_slots_same queue (row ∷ rows) = ap (λ xs. slot_on queue (Some (row.terms.queue, row.slot)) ++ xs) (place_slots_same queue rows)
-
 pub inbox_slots_same : (queue : ℕ) (links : List InboxLink) (rows : List InboxRow) → map inbox_seen links ≡ map inbox_view rows → inbox_link_slots queue links ≡ inbox_slots queue rows
 inbox_slots_same queue [] [] h = refl
 inbox_slots_same queue [] (row ∷ rows) h = cc
@@ -48,12 +42,6 @@ inbox_slots_same queue (link ∷ links) [] h = cc
 inbox_slots_same queue (link ∷ links) (row ∷ rows) h =
     ap (λ (v : InboxView). cond (v.queue == queue) (v.slot ∷ []) [] ++ inbox_link_slots queue links) (heads h)
     ∙ ap (λ xs. slot_on queue (Some (row.terms.queue, row.slot)) ++ xs) (inbox_slots_same queue links rows (tails h))
-
--- the least slot that no link has is the one that no row has
-pub slot_same : (queue : ℕ) (places : List Place) (inboxes : List InboxLink) (rows : List SubRow) (others : List InboxRow) → places ≡ map place_of rows → map inbox_seen inboxes ≡ map inbox_view others
-    → least_free (place_slots queue places ++ inbox_link_slots queue inboxes) ≡ least_free (sub_slots queue rows ++ inbox_slots queue others)
-slot_same queue places inboxes rows others h k =
-    ap (λ xs. least_free (xs ++ inbox_link_slots queue inboxes)) (ap (place_slots queue) h ∙ place_slots_same queue rows) ∙ ap (λ xs. least_free (sub_slots queue rows ++ xs)) (inbox_slots_same queue inboxes others k)
 
 pub ended_same : (a b c a' b' c' : List Bool) → a ≡ a' → b ≡ b' → c ≡ c' → is_ended_by a b c ≡ is_ended_by a' b' c'
 ended_same a b c a' b' c' x y z = ap (λ f. is_ended_by f b c) x ∙ ap (λ f. is_ended_by a' f c) y ∙ ap (λ f. is_ended_by a' b' f) z

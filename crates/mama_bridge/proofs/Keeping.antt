@@ -18,6 +18,8 @@ use Rattle.mama_bridge.specs.Putters.{actor_of, IsThere, HasFlags}
 use Rattle.mama_bridge.specs.Routing.{is_last_bye}
 use Rattle.mama_bridge.specs.Desk.{Stands, Sound, AllButByes, IsKept}
 use Rattle.mama_bridge.specs.Links.{inbox_seen}
+use Rattle.mama_slots.specs.Slots.{SlotData}
+use Rattle.mama_bridge.specs.Held.{AreHeld}
 use Rattle.mama_bridge.specs.Live.{IsLive}
 use Rattle.mama_bridge.specs.declared.live.Live.{Live}
 
@@ -100,6 +102,7 @@ stood table desk desk' s h rest = record {
   opened = λ one. ap (λ (known : List InboxId). is_inbox_among known one) rest.opened ∙ s.opened one;
   subs = subst (λ (live : Live). IsLive table.joined table.subs live) (sym rest.subs) s.subs;
   inboxes = ap (λ xs. map inbox_seen xs) rest.inboxes ∙ s.inboxes;
+  slots = subst (λ (slots : SlotData). AreHeld slots table.subs table.inboxes) (sym rest.slots) s.slots;
   clients = rest.clients ∙ s.clients;
   sends = rest.sends ∙ s.sends;
   settled = rest.settled ∙ s.settled;
@@ -115,6 +118,7 @@ bye_stands shape table desk desk' (putter.Queue n) s h rest = record {
   opened = λ one. ap (λ (known : List InboxId). is_inbox_among known one) rest.opened ∙ s.opened one;
   subs = subst (λ (live : Live). IsLive table.joined table.subs live) (sym rest.subs) s.subs;
   inboxes = ap (λ xs. map inbox_seen xs) rest.inboxes ∙ s.inboxes;
+  slots = subst (λ (slots : SlotData). AreHeld slots table.subs table.inboxes) (sym rest.slots) s.slots;
   clients = rest.clients ∙ s.clients;
   sends = rest.sends ∙ s.sends;
   settled = rest.settled ∙ s.settled;

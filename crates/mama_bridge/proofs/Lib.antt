@@ -3,7 +3,7 @@ pub mod Moving
 pub mod Stepping
 pub mod TheOne
 pub mod Found
-pub mod SlotLemmas
+pub mod HeldLemmas
 pub mod Adding
 pub mod Wishing
 pub mod Joining

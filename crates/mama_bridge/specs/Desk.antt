@@ -16,6 +16,7 @@ use Rattle.mama_bridge.specs.declared.desk.Desk.{Desk}
 use Rattle.mama_bridge.specs.Outs.{Adds, brought, is_create}
 use Rattle.mama_bridge.specs.Ids.{is_inbox_among}
 use Rattle.mama_bridge.specs.Links.{inbox_seen, inbox_view}
+use Rattle.mama_bridge.specs.Held.{AreHeld}
 use Rattle.mama_bridge.specs.Live.{IsLive}
 
 -- what is kept stands for a table
@@ -23,6 +24,7 @@ pub record Stands (table : Table) (desk : Desk) : Type 0 where
   pub opened : (i : InboxId) → is_inbox_among desk.inboxes.opened i ≡ list_any (λ (r : InboxId). same_inbox r i) table.opened
   pub subs : IsLive table.joined table.subs desk.subs
   pub inboxes : map inbox_seen desk.inboxes.links ≡ map inbox_view table.inboxes
+  pub slots : AreHeld desk.slots table.subs table.inboxes
   pub clients : desk.clients ≡ table.clients
   pub sends : desk.sends ≡ table.sends
   pub settled : desk.settled ≡ table.settled
@@ -50,7 +52,7 @@ HearsOf tagged shape e event before after old new = (table : Table) → Stands t
 abbrev pub AsBefore : Desk → Desk → Type 0
 AsBefore before after = (table : Table) → Stands table before → Stands table after
 
--- only who joined, and the links of subscriptions, may have changed
+-- only who joined, the links of subscriptions, and slots may have changed
 pub record AllBut (before after : Desk) : Type 0 where
   pub opened : after.inboxes.opened ≡ before.inboxes.opened
   pub inboxes : after.inboxes.links ≡ before.inboxes.links
@@ -67,7 +69,7 @@ pub record AllButInboxes (before after : Desk) : Type 0 where
   pub settled : after.settled ≡ before.settled
   pub byes : after.byes ≡ before.byes
 
--- only links may have changed
+-- only links and slots may have changed
 pub record AllButLinks (before after : Desk) : Type 0 where
   pub opened : after.inboxes.opened ≡ before.inboxes.opened
   pub clients : after.clients ≡ before.clients
@@ -80,6 +82,7 @@ pub record AllButByes (before after : Desk) : Type 0 where
   pub opened : after.inboxes.opened ≡ before.inboxes.opened
   pub subs : after.subs ≡ before.subs
   pub inboxes : after.inboxes.links ≡ before.inboxes.links
+  pub slots : after.slots ≡ before.slots
   pub clients : after.clients ≡ before.clients
   pub sends : after.sends ≡ before.sends
   pub settled : after.settled ≡ before.settled

@@ -3,7 +3,7 @@ pub mod Links
 pub mod Desk
 pub mod Routing
 pub mod Putters
-pub mod Marks
+pub mod Held
 pub mod Ids
 pub mod Placed
 pub mod Opened

@@ -19,7 +19,9 @@ use Rattle.mama_event.specs.declared.to_publisher.ToPublisher.TheVariants as ask
 use Rattle.mama_event.specs.declared.to_timers.ToTimers.TheVariants as timed
 use Rattle.mama_journal.specs.Journal.{numbers_below}
 use Rattle.mama_bridge_rules.specs.Laws.{Alone}
-use Rattle.mama_bridge_rules.specs.Table.{SubRow, InboxRow, of_sub, of_inbox, sub_passed, inbox_passed, sub_wished, changed, without}
+use Rattle.mama_bridge_rules.specs.Table.{SubRow, InboxRow, of_sub, of_inbox, sub_passed, inbox_passed, sub_wished, changed, without, inbox_slots}
+use Rattle.mama_slots.specs.Slots.{SlotData}
+use Rattle.mama_bridge.specs.Held.{Frees}
 use Rattle.mama_bridge.specs.declared.out.BridgeOut.{BridgeOut}
 use Rattle.mama_bridge.specs.declared.out.BridgeOut.TheVariants as out
 use Rattle.mama_bridge.specs.declared.subs.SubLink.{SubLink}
@@ -201,6 +203,10 @@ link_slot queue of_queue slot = if of_queue == queue then slot ∷ [] else []
 
 abbrev pub inbox_link_slots : ℕ → List InboxLink → List ℕ
 inbox_link_slots queue links = flat_map (λ (link : InboxLink). link_slot queue link.queue link.slot) links
+
+-- the slots of an inbox's rows are free
+abbrev pub InboxFrees : InboxId → List InboxLink → SlotData → SlotData → Type 0
+InboxFrees i links old new = (rows : List InboxRow) → map inbox_seen links ≡ map inbox_view rows → Frees (λ queue. inbox_slots queue (filter (of_inbox i) rows)) old new
 
 -- what the ending puts out by links that stand for these rows
 module _ {L : Type 0} where

@@ -1,5 +1,5 @@
 -- The links of the live subscriptions by topic, and their places in order of joining.
-use Rattle.std.specs.Prelude.{◌≡◌, ℕ, ◌<◌, Bool, true, false, ◌==◌, List, [], ◌∷◌, ◌++◌, ◌||◌, map, filter, sum_by, Option, None, Some, option_to_list, IfNone, if◌then◌else◌}
+use Rattle.std.specs.Prelude.{◌≡◌, ℕ, ◌<◌, Bool, false, ◌==◌, List, [], ◌∷◌, ◌++◌, ◌||◌, map, filter, sum_by, Option, None, Some, option_to_list, IfNone, if◌then◌else◌}
 use Rattle.std.specs.List.{list_any, flat_map}
 use Rattle.std.specs.Ordering.{nat_cmp}
 use Rattle.std.specs.BTreeMap.{BTreeMap, get, values}
@@ -8,14 +8,16 @@ use Rattle.std.specs.declared.collections.VecDeque.{VecDeque}
 use Rattle.mama_event.specs.Object.{same_sub}
 use Rattle.mama_event.specs.declared.ids.SubId.{SubId}
 use Rattle.mama_bridge_rules.specs.Laws.{Alone}
-use Rattle.mama_bridge_rules.specs.Table.{SubRow, InboxRow, of_sub, changed, without, kept}
+use Rattle.mama_bridge_rules.specs.Table.{SubRow, InboxRow, of_sub, sub_slots, changed, without, kept}
+use Rattle.mama_slots.specs.Slots.{SlotData}
+use Rattle.mama_bridge.specs.Held.{Frees}
 use Rattle.mama_bridge.specs.declared.live.Live.{Live}
 use Rattle.mama_bridge.specs.declared.places.Place.{Place}
 use Rattle.mama_bridge.specs.declared.inboxes.InboxLink.{InboxLink}
 use Rattle.mama_bridge.specs.declared.out.BridgeOut.{BridgeOut}
 use Rattle.mama_bridge.specs.declared.subs.SubLink.{SubLink}
 use Rattle.mama_bridge.specs.Ids.{is_sub_among}
-use Rattle.mama_bridge.specs.Links.{sub_seen, sub_view, sub_held, inbox_seen, inbox_view, row_is_on, link_slot, end_outs, inbox_end_outs, fin_outs}
+use Rattle.mama_bridge.specs.Links.{sub_seen, sub_view, sub_held, inbox_seen, inbox_view, row_is_on, end_outs, inbox_end_outs, fin_outs}
 
 -- the links in a queue of links, which are none where there is none
 abbrev pub links_in : {A : Type 0} → Option (VecDeque SubLink A) → List SubLink
@@ -83,9 +85,9 @@ module _ {L : Type 0} where
 abbrev pub KeepsLive : Bool → Live → Live → Type 0
 KeepsLive ends old new = (joined : List SubId) (rows : List SubRow) → IsLive joined rows old → IsLive joined (kept ends rows) new
 
--- the slots of a queue that places have
-abbrev pub place_slots : ℕ → List Place → List ℕ
-place_slots queue places = flat_map (λ (place : Place). link_slot queue place.queue place.slot) places
+-- the slots of a subscription's rows are free
+abbrev pub LiveFrees : SubId → Live → SlotData → SlotData → Type 0
+LiveFrees s live old new = (joined : List SubId) (rows : List SubRow) → IsLive joined rows live → Frees (λ queue. sub_slots queue (filter (of_sub s) rows)) old new
 
 -- one subscription more joined, and its link is still to come
 pub record Awaits (ended : Bool) (place : Place) (old new : Live) : Type 0 where

@@ -1,4 +1,5 @@
-ghost use Rattle.std.specs.Prelude.{◌≡◌, ◌+◌, ◌<◌, ◌≤◌, ◌^◌, ◌==◌, ◌&&◌, ◌||◌, ◌++◌, [], ◌∷◌, List, not, nat_lt, nat_le, slice_set, true, false, length, position, sum_by, vec_len, IfOk, IfErr, OnOk, OnErr, if◌then◌else◌};
+ghost use Rattle.std.specs.Prelude.{◌≡◌, ◌+◌, ◌<◌, ◌≤◌, ◌^◌, ◌==◌, ◌&&◌, ◌||◌, ◌++◌, [], ◌∷◌, List, ℕ, not, nat_lt, nat_le, slice_set, true, false, length, position, sum_by, vec_len, IfOk, IfErr, OnOk, OnErr, if◌then◌else◌};
+ghost use Rattle.std.specs.List.{list_any};
 ghost use Rattle.std.specs.Vec.{vec_capacity};
 ghost use Rattle.mama_journal.specs.Journal.{least_free};
 ghost use Rattle.mama_link.specs.Link.{standing_after};
@@ -10,8 +11,10 @@ ghost use Rattle.mama_bridge_rules.specs.Table.{empty_table, all_set, marked, le
 ghost use Rattle.mama_bridge.specs.Desk.{Stands, Hears, AsBefore, AllBut, AllButInboxes, AllButLinks, AllButByes};
 ghost use Rattle.mama_bridge.specs.Ids.{is_sub_among, is_inbox_among};
 ghost use Rattle.mama_bridge.specs.Putters.{actor_of, HasFlags};
-ghost use Rattle.mama_bridge.specs.Links.{sub_seen, inbox_seen, first_outs, image_outs, settle_outs, inbox_held, inbox_link_slots};
-ghost use Rattle.mama_bridge.specs.Live.{place_slots, all_held, StaysLive, HasRoomOn, Awaits, Gains, KeepsLive, EndsLive};
+ghost use Rattle.mama_bridge.specs.Links.{sub_seen, inbox_seen, first_outs, image_outs, settle_outs, inbox_held};
+ghost use Rattle.mama_slots.specs.Slots.{in_use, IsNext};
+ghost use Rattle.mama_bridge.specs.Held.{StayHeld, KeepsHeld};
+ghost use Rattle.mama_bridge.specs.Live.{all_held, StaysLive, HasRoomOn, Awaits, Gains, KeepsLive, EndsLive};
 
 use crate::ending::{end_all, room, settle_if};
 use crate::flags::Flags;
@@ -20,7 +23,6 @@ use crate::live::Live;
 use crate::out::BridgeOut;
 use crate::places::Place;
 use crate::putter::Putter;
-use crate::slots::free_slot;
 use crate::subs::SubLink;
 use mama_event::{
     BridgeNote, Fids, InboxId, InboxTerms, Make, MarketMsg, MsgKind, ObjectId, Shape, SubId,
@@ -29,6 +31,7 @@ use mama_event::{
 use mama_link::{Faults, Link, Outbox};
 use mama_memory::OutOfMemory;
 use mama_msg::Msg;
+use mama_slots::Slots;
 use std::alloc::Global;
 
 /// What a bridge keeps: who joined and opened, the links in order, and who is done.
@@ -37,6 +40,7 @@ pub(crate) struct Desk {
     alloc: Global,
     subs: Live,
     inboxes: Inboxes,
+    slots: Slots,
     clients: Flags,
     sends: Flags,
     settled: Flags,
@@ -52,6 +56,7 @@ impl Desk {
             alloc,
             subs: Live::new(alloc),
             inboxes: Inboxes::new(alloc),
+            slots: Slots::new(alloc),
             clients: Flags::new(alloc, shape.clients as usize)?,
             sends: Flags::new(alloc, publishers)?,
             settled: Flags::new(alloc, publishers)?,
@@ -82,7 +87,7 @@ impl Desk {
         ensures same { OnErr result (AsBefore self.old self.new) }
         ensures err { OnErr result (out.new.items ≡ out.old.items) }
     {
-        self.subs.leave(self.alloc, sub, out)
+        self.subs.leave(self.alloc, sub, &mut self.slots, out)
     }
 
     pub(crate) fn close<L: Tagged>(
@@ -94,7 +99,7 @@ impl Desk {
         ensures same { OnErr result (AsBefore self.old self.new) }
         ensures err { OnErr result (out.new.items ≡ out.old.items) }
     {
-        self.inboxes.close(self.alloc, inbox, out)
+        self.inboxes.close(self.alloc, inbox, &mut self.slots, out)
     }
 
     pub(crate) fn image<L: Tagged>(
@@ -185,7 +190,9 @@ impl Desk {
         out: &mut Outbox<BridgeOut<L>>,
     ) -> Result<u32, OutOfMemory>
         requires { is_sub_among self.old.subs.places.joined sub ≡ false }
-        ensures slot { IfOk result (λ slot. slot ≡ least_free (place_slots queue self.old.subs.places.live ++ inbox_link_slots queue self.old.inboxes.links)) }
+        ensures next { IfOk result (λ slot. IsNext self.new.slots queue slot) }
+        ensures least { IfOk result (λ slot. (used : List ℕ) → ((k : ℕ) → in_use self.old.slots queue k ≡ list_any (λ n. n == k) used) → slot ≡ least_free used) }
+        ensures held { StayHeld self.old.slots self.new.slots }
         ensures room_links { OnOk result (HasRoomOn self.new.subs.topics topic) }
         ensures room_out { OnOk result (1 < out.new.spare) }
         ensures subs { IfOk result (λ slot. Awaits ended (record { sub = sub; topic = topic; queue = queue; slot = slot }) self.old.subs self.new.subs) }
@@ -193,7 +200,7 @@ impl Desk {
         ensures rest { AllBut self.old self.new }
         ensures out { out.new.items ≡ out.old.items }
     {
-        let slot = free_slot(self.alloc, &self.subs.places, &self.inboxes, queue)?;
+        let slot = self.slots.next(queue)?;
         out.reserve(2)?;
         let place = Place {
             sub,
@@ -237,6 +244,7 @@ impl Desk {
         } = terms;
         let link = new_link(self.alloc, sub, topic, queue, slot, recaps, faults);
         self.add_sub(ended, link);
+        hold_unless(ended, &mut self.slots, queue, slot);
         let object = ObjectId::Sub(sub);
         let make = Make::Sub { kind, cache };
         out.push_reserved(BridgeOut::Queue(
@@ -363,12 +371,14 @@ impl Desk {
         requires no_bodies { bodies.old.items ≡ [] }
         ensures subs { KeepsLive ends self.old.subs self.new.subs }
         ensures inboxes { self.new.inboxes.links ≡ kept ends self.old.inboxes.links }
+        ensures slots { KeepsHeld ends self.old.slots self.new.slots }
         ensures out { EndsLive ends publishers queues self.old.subs self.old.inboxes.links out.old.items out.new.items }
         ensures rest { AllButLinks self.old self.new }
     {
         if ends {
             self.subs.take_all(&mut links);
             let inboxes = self.inboxes.take_all(self.alloc);
+            self.slots = Slots::new(self.alloc);
             end_all(links, inboxes, publishers, queues, msgs, bodies, out);
         }
     }
@@ -384,10 +394,12 @@ impl Desk {
     ) -> Result<(), OutOfMemory>
         ensures subs { OnOk result (KeepsLive ends self.old.subs self.new.subs) }
         ensures inboxes { OnOk result (self.new.inboxes.links ≡ kept ends self.old.inboxes.links) }
+        ensures slots { OnOk result (KeepsHeld ends self.old.slots self.new.slots) }
         ensures out { OnOk result (EndsLive ends publishers queues self.old.subs self.old.inboxes.links (out.old.items ++ (if settles then settle_outs publishers else [])) out.new.items) }
         ensures rest { AllButLinks self.old self.new }
         ensures same_subs { OnErr result (self.new.subs ≡ self.old.subs) }
         ensures same_inboxes { OnErr result (self.new.inboxes.links ≡ self.old.inboxes.links) }
+        ensures same_slots { OnErr result (self.new.slots ≡ self.old.slots) }
         ensures err { OnErr result (out.new.items ≡ out.old.items) }
     {
         let held = self.subs.held()?;
@@ -418,10 +430,12 @@ impl Desk {
     ) -> Result<(), OutOfMemory>
         ensures subs { OnOk result (KeepsLive ends self.old.subs self.new.subs) }
         ensures inboxes { OnOk result (self.new.inboxes.links ≡ kept ends self.old.inboxes.links) }
+        ensures slots { OnOk result (KeepsHeld ends self.old.slots self.new.slots) }
         ensures out { OnOk result (EndsLive ends publishers queues self.old.subs self.old.inboxes.links (out.old.items ++ (if settles then settle_outs publishers else [])) out.new.items) }
         ensures rest { AllButLinks self.old self.new }
         ensures same_subs { OnErr result (self.new.subs ≡ self.old.subs) }
         ensures same_inboxes { OnErr result (self.new.inboxes.links ≡ self.old.inboxes.links) }
+        ensures same_slots { OnErr result (self.new.slots ≡ self.old.slots) }
         ensures err { OnErr result (out.new.items ≡ out.old.items) }
     {
         if !settles && !ends {
@@ -446,7 +460,7 @@ impl Desk {
             return Ok(());
         }
         let queue = terms.queue;
-        let slot = match self.ready_slot(queue, out) {
+        let slot = match ready_slot(&mut self.slots, queue, out) {
             Ok(slot) => slot,
             Err(_) => return Err((terms, listener)),
         };
@@ -455,6 +469,7 @@ impl Desk {
             Ok(()) => {}
             Err(terms) => return Err((terms, listener)),
         }
+        hold_unless(ended, &mut self.slots, queue, slot);
         let object = ObjectId::Inbox(inbox);
         let make = Make::Inbox;
         out.push_reserved(BridgeOut::Queue(
@@ -469,26 +484,43 @@ impl Desk {
         Ok(())
     }
 
-    /// Finds the slot of a new inbox, and makes room for its Create.
-    fn ready_slot<L>(&self, queue: u32, out: &mut Outbox<BridgeOut<L>>) -> Result<u32, OutOfMemory>
-        ensures slot { IfOk result (λ slot. slot ≡ least_free (place_slots queue self.now.subs.places.live ++ inbox_link_slots queue self.now.inboxes.links)) }
-        ensures room { OnOk result (0 < out.new.spare) }
-        ensures out { out.new.items ≡ out.old.items }
-    {
-        let slot = free_slot(self.alloc, &self.subs.places, &self.inboxes, queue)?;
-        out.reserve(1)?;
-        Ok(slot)
-    }
-
     /// Keeps the link of a new subscription, unless the ending has come.
     fn add_sub(&mut self, ended: bool, link: SubLink)
         requires { HasRoomOn self.old.subs.topics link.topic }
         ensures subs { Gains ended link self.old.subs self.new.subs }
+        ensures slots { self.new.slots ≡ self.old.slots }
         ensures rest { AllBut self.old self.new }
     {
         if !ended {
             self.subs.add(link);
         }
+    }
+}
+
+/// Tells the next slot of a queue, and makes room to hold it and for a Create.
+fn ready_slot<L>(
+    slots: &mut Slots,
+    queue: u32,
+    out: &mut Outbox<BridgeOut<L>>,
+) -> Result<u32, OutOfMemory>
+    ensures next { IfOk result (λ slot. IsNext slots.new queue slot) }
+    ensures least { IfOk result (λ slot. (used : List ℕ) → ((k : ℕ) → in_use slots.old queue k ≡ list_any (λ n. n == k) used) → slot ≡ least_free used) }
+    ensures held { StayHeld slots.old slots.new }
+    ensures room { OnOk result (0 < out.new.spare) }
+    ensures out { out.new.items ≡ out.old.items }
+{
+    let slot = slots.next(queue)?;
+    out.reserve(1)?;
+    Ok(slot)
+}
+
+/// Holds the next slot of a queue, unless the ending has come.
+fn hold_unless(ended: bool, slots: &mut Slots, queue: u32, slot: u32)
+    requires { IsNext slots.old queue slot }
+    ensures { (of k : ℕ) → in_use slots.new of k ≡ (in_use slots.old of k || (not ended && (of == queue && k == slot))) }
+{
+    if !ended {
+        slots.hold(queue, slot);
     }
 }
 

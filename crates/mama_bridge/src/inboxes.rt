@@ -8,7 +8,8 @@ ghost use Rattle.mama_event.specs.Object.{same_inbox};
 ghost use Rattle.mama_event.specs.declared.ids.InboxId.{InboxId as Inbox};
 ghost use Rattle.mama_bridge_rules.specs.Table.{InboxRow, inbox_passed, kept};
 ghost use Rattle.mama_bridge.specs.Ids.{inbox_cmp, is_inbox_among};
-ghost use Rattle.mama_bridge.specs.Links.{inbox_seen, inbox_view, InboxReadyFor, inbox_emit_outs, inbox_end_outs, InboxEndStep, InboxEndSteps, inbox_held, InboxPass, InboxCloses, EntryAnswers, EntryCloses};
+ghost use Rattle.mama_bridge.specs.Links.{inbox_seen, inbox_view, InboxReadyFor, inbox_emit_outs, inbox_end_outs, InboxEndStep, InboxEndSteps, inbox_held, InboxPass, InboxCloses, InboxFrees, inbox_link_slots, EntryAnswers, EntryCloses};
+ghost use Rattle.mama_bridge.specs.Held.{Frees};
 ghost use Rattle.mama_bridge.specs.Placed.{IsAt, entry_passes, present};
 ghost use Rattle.mama_bridge.specs.Opened.{LinksIndexed, is_link_of, new_inbox_view};
 
@@ -19,6 +20,7 @@ use mama_event::{InboxId, InboxTerms, ObjectId};
 use mama_link::{Faults, Link, Outbox, Prepared};
 use mama_memory::OutOfMemory;
 use mama_msg::Msg;
+use mama_slots::Slots;
 use std::alloc::Global;
 use std::collections::BTreeMap;
 use std::marker::Model;
@@ -159,21 +161,36 @@ pub(crate) fn end_entry<L>(
     }
 }
 
-/// Empties an entry, and ends the link that was there.
+/// Lets the slot of an entry go, if it is not empty.
+fn release_of(entry: &Option<InboxLink>, slots: &mut Slots) -> Result<(), OutOfMemory>
+    ensures ok { OnOk result (Frees (λ queue. inbox_link_slots queue (option_to_list entry.now)) slots.old slots.new) }
+    ensures err { OnErr result (slots.new ≡ slots.old) }
+{
+    match entry {
+        Some(link) => slots.release(link.queue, link.slot),
+        None => Ok(()),
+    }
+}
+
+/// Empties an entry, lets its slot go, and ends the link that was there.
 fn close_entry<L>(
     alloc: Global,
     entry: &mut Option<InboxLink>,
+    slots: &mut Slots,
     out: &mut Outbox<BridgeOut<L>>,
 ) -> Result<(), OutOfMemory>
     ensures less { (link : InboxLink) → entry.new ≡ Some link → entry.old ≡ Some link }
     ensures ok { OnOk result (EntryCloses entry.old entry.new out.old.items out.new.items) }
+    ensures frees { OnOk result (Frees (λ queue. inbox_link_slots queue (option_to_list entry.old)) slots.old slots.new) }
     ensures same { OnErr result (entry.new ≡ entry.old) }
+    ensures held { OnErr result (slots.new ≡ slots.old) }
     ensures err { OnErr result (out.new.items ≡ out.old.items) }
 {
     let held = held(entry);
     out.reserve(plus(held, 1)?)?;
     let mut bodies = Outbox::new(alloc);
     bodies.reserve(held)?;
+    release_of(entry, slots)?;
     end_entry(entry.take(), &mut bodies, out);
     Ok(())
 }
@@ -325,20 +342,23 @@ impl Inboxes {
         }
     }
 
-    /// Ends an inbox's link, if it is open.
+    /// Ends an inbox's link and lets its slot go, if it is open.
     pub(crate) fn close<L>(
         &mut self,
         alloc: Global,
         inbox: InboxId,
+        slots: &mut Slots,
         out: &mut Outbox<BridgeOut<L>>,
     ) -> Result<(), OutOfMemory>
         ensures opened { self.new.opened ≡ self.old.opened }
         ensures ok { OnOk result (InboxCloses inbox self.old.links self.new.links out.old.items out.new.items) }
+        ensures frees { OnOk result (InboxFrees inbox self.old.links slots.old slots.new) }
         ensures same { OnErr result (self.new.links ≡ self.old.links) }
+        ensures held { OnErr result (slots.new ≡ slots.old) }
         ensures err { OnErr result (out.new.items ≡ out.old.items) }
     {
         match index_of(&self.indexes, &self.entries, inbox) {
-            Some(i) => close_entry(alloc, &mut self.entries[i], out),
+            Some(i) => close_entry(alloc, &mut self.entries[i], slots, out),
             None => Ok(()),
         }
     }
@@ -364,12 +384,5 @@ impl Inboxes {
         ensures none { self.new.links ≡ [] }
     {
         std::mem::replace(&mut self.entries, Vec::new(alloc))
-    }
-
-    /// The links in order, among them an empty entry for each inbox that was closed.
-    pub(crate) fn entries(&self) -> &Vec<Option<InboxLink>>
-        ensures { present result.now.items ≡ self.now.links }
-    {
-        &self.entries
     }
 }

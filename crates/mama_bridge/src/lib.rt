@@ -9,10 +9,9 @@
 //! subscriptions stand by topic: a publish costs the links of its topic, what comes out of them, and a logarithm of the
 //! topics. An image, a wish and a Leave cost the links of one topic, and a logarithm of all that joined before. A reply
 //! and the end of an inbox cost what comes out of its link, and a logarithm of all inboxes that were opened before; an
-//! Ask costs that logarithm, and a look for the first publisher of its topic. A Join and the opening of an inbox cost
-//! such a logarithm too, and a look at the place of each subscription and inbox that ever was. All links and places are
-//! looked at where settling begins and where the ending comes. Want of memory leaves the bridge and the outbox as they
-//! were.
+//! Ask costs that logarithm, and a look for the first publisher of its topic, and so does a Join. The opening of an inbox
+//! costs such a logarithm too. All links and places are looked at where settling begins and where the ending comes. Want
+//! of memory leaves the bridge and the outbox as they were.
 #![tactic(auto)]
 
 mod bridge;
@@ -27,7 +26,6 @@ mod out;
 mod places;
 mod putter;
 mod routes;
-mod slots;
 mod subs;
 mod tally;
 

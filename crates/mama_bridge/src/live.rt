@@ -1,12 +1,13 @@
-ghost use Rattle.std.specs.Prelude.{◌≡◌, ◌+◌, ◌<◌, ◌≤◌, ◌++◌, [], ◌∷◌, List, ℕ, false, map, filter, length, sum_by, vec_len, option_to_list, take, drop, IfOk, IfNone, OnOk, OnErr, ◌==◌, if◌then◌else◌};
+ghost use Rattle.std.specs.Prelude.{◌≡◌, ◌+◌, ◌<◌, ◌≤◌, ◌++◌, [], ◌∷◌, List, ℕ, false, map, filter, length, sum_by, vec_len, option_to_list, take, drop, IfOk, IfNone, OnOk, OnErr, ◌==◌, ◌&&◌, not, if◌then◌else◌};
 ghost use Rattle.std.specs.Vec.{vec_capacity};
+ghost use Rattle.mama_slots.specs.Slots.{in_use};
 ghost use Rattle.mama_event.specs.declared.ids.SubId.{SubId as Sub};
 ghost use Rattle.mama_event.specs.declared.market.MarketMsg.{MarketMsg};
 ghost use Rattle.mama_bridge_rules.specs.Table.{SubRow, of_sub, sub_passed};
 ghost use Rattle.mama_bridge.specs.Links.{sub_seen, sub_view, sub_held, row_is_on, emit_outs, end_outs, wish_outs, wished_once, SubsPass, SubLeaves, SubWishes};
 ghost use Rattle.mama_bridge.specs.Ids.{is_sub_among};
 ghost use Rattle.mama_bridge.specs.Placed.{present};
-ghost use Rattle.mama_bridge.specs.Live.{links_on, links_held, all_held, place_of, HasRoomOn, OnTopic, IsLive, StaysLive, LiveDoes, LiveLeaves, Awaits, TakesNext, IsTaken};
+ghost use Rattle.mama_bridge.specs.Live.{links_on, links_held, all_held, place_of, HasRoomOn, OnTopic, IsLive, StaysLive, LiveDoes, LiveLeaves, LiveFrees, Awaits, TakesNext, IsTaken};
 
 use crate::ends::plus;
 use crate::out::BridgeOut;
@@ -16,6 +17,7 @@ use crate::subs::SubLink;
 use mama_event::{MarketMsg, SubId};
 use mama_link::Outbox;
 use mama_memory::OutOfMemory;
+use mama_slots::Slots;
 use std::alloc::Global;
 use std::collections::{BTreeMap, VecDeque};
 
@@ -85,21 +87,24 @@ fn wish_on<L>(
     }
 }
 
-/// Ends a subscription's link, if it is on the topic.
+/// Ends a subscription's link, if it is on the topic of its place, and lets the place go.
 fn leave_on<L>(
     alloc: Global,
     topics: &mut ByTopic,
-    topic: u32,
     sub: SubId,
+    place: Place,
+    slots: &mut Slots,
     out: &mut Outbox<BridgeOut<L>>,
 ) -> Result<(), OutOfMemory>
-    ensures ok { OnOk result (OnTopic topic (λ old new. SubLeaves sub old new out.old.items out.new.items) topics.old topics.new) }
-    ensures seen { OnErr result (OnTopic topic (λ old new. map sub_seen new ≡ map sub_seen old) topics.old topics.new) }
+    ensures ok { OnOk result (OnTopic place.topic (λ old new. SubLeaves sub old new out.old.items out.new.items) topics.old topics.new) }
+    ensures frees { OnOk result ((of k : ℕ) → in_use slots.new of k ≡ (in_use slots.old of k && not (of == place.queue && k == place.slot))) }
+    ensures seen { OnErr result (OnTopic place.topic (λ old new. map sub_seen new ≡ map sub_seen old) topics.old topics.new) }
+    ensures held { OnErr result (slots.new ≡ slots.old) }
     ensures err { OnErr result (out.new.items ≡ out.old.items) }
 {
-    match topics.get_mut(&topic) {
-        Some(links) => routes::leave(alloc, links, sub, out),
-        None => Ok(()),
+    match topics.get_mut(&place.topic) {
+        Some(links) => routes::leave(alloc, links, sub, place, slots, out),
+        None => slots.release(place.queue, place.slot),
     }
 }
 
@@ -292,20 +297,23 @@ impl Live {
         }
     }
 
-    /// Ends a subscription's link, if it is live.
+    /// Ends a subscription's link and lets its slot go, if it is live.
     pub(crate) fn leave<L>(
         &mut self,
         alloc: Global,
         sub: SubId,
+        slots: &mut Slots,
         out: &mut Outbox<BridgeOut<L>>,
     ) -> Result<(), OutOfMemory>
         ensures ok { OnOk result (LiveLeaves sub self.old self.new out.old.items out.new.items) }
+        ensures frees { OnOk result (LiveFrees sub self.old slots.old slots.new) }
         ensures same { OnErr result (StaysLive self.old self.new) }
+        ensures held { OnErr result (slots.new ≡ slots.old) }
         ensures err { OnErr result (out.new.items ≡ out.old.items) }
     {
         match self.find(sub) {
             Some(place) => {
-                leave_on(alloc, &mut self.topics, place.topic, sub, out)?;
+                leave_on(alloc, &mut self.topics, sub, place, slots, out)?;
                 self.places.leave(sub);
                 Ok(())
             }

@@ -1,13 +1,16 @@
-ghost use Rattle.std.specs.Prelude.{◌≡◌, ◌<◌, ◌++◌, map, nat_lt, OnOk, OnErr, if◌then◌else◌};
+ghost use Rattle.std.specs.Prelude.{◌≡◌, ℕ, ◌<◌, ◌++◌, ◌==◌, ◌&&◌, not, map, nat_lt, OnOk, OnErr, if◌then◌else◌};
+ghost use Rattle.mama_slots.specs.Slots.{in_use};
 ghost use Rattle.mama_bridge_rules.specs.Table.{SubRow, of_sub, sub_passed, sub_wished};
 ghost use Rattle.mama_bridge.specs.Links.{sub_seen, sub_view, emit_outs, row_is_on, wish_outs, SubsPass, SubLeaves, SubWishes};
 
 use crate::ends::plus;
 use crate::out::BridgeOut;
+use crate::places::Place;
 use crate::subs::{self, SubLink};
 use mama_event::{MarketMsg, MsgKind, SubId, ToPublisher};
 use mama_link::Outbox;
 use mama_memory::OutOfMemory;
+use mama_slots::Slots;
 use std::alloc::Global;
 use std::collections::VecDeque;
 
@@ -68,15 +71,19 @@ pub(crate) fn image<L>(
     }
 }
 
-/// Ends a subscription's link, if it is live.
+/// Ends a subscription's link, if it is live, and lets its place go.
 pub(crate) fn leave<L>(
     alloc: Global,
     links: &mut VecDeque<SubLink>,
     sub: SubId,
+    place: Place,
+    slots: &mut Slots,
     out: &mut Outbox<BridgeOut<L>>,
 ) -> Result<(), OutOfMemory>
     ensures ok { OnOk result (SubLeaves sub links.old.items links.new.items out.old.items out.new.items) }
+    ensures frees { OnOk result ((of k : ℕ) → in_use slots.new of k ≡ (in_use slots.old of k && not (of == place.queue && k == place.slot))) }
     ensures seen { OnErr result (links.new.items ≡ links.old.items) }
+    ensures held { OnErr result (slots.new ≡ slots.old) }
     ensures err { OnErr result (out.new.items ≡ out.old.items) }
 {
     match subs::find(links, sub) {
@@ -85,11 +92,12 @@ pub(crate) fn leave<L>(
             out.reserve(plus(held, 1)?)?;
             let mut msgs = Outbox::new(alloc);
             msgs.reserve(held)?;
+            slots.release(place.queue, place.slot)?;
             let link = subs::remove_at(links, i);
             subs::end(link, &mut msgs, out);
             Ok(())
         }
-        None => Ok(()),
+        None => slots.release(place.queue, place.slot),
     }
 }
 

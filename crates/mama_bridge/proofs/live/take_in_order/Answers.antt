@@ -1,5 +1,4 @@
-use Rattle.std.specs.Prelude.{option_to_list}
-use Rattle.std.proofs.Common.{◌≡◌, ◌<◌, ◌≤◌, ◌+◌, ◌++◌, List, length, take, drop, arith, ap, sym, ◌∙◌, subst}
+use Rattle.std.proofs.Common.{◌<◌, ◌≤◌, ◌+◌, ◌++◌, List, length, take, drop, arith, ap, sym, ◌∙◌, subst}
 use Rattle.std.proofs.lemmas.List.{take_all}
 use Rattle.mama_bridge.specs.Placed.{present}
 use Rattle.mama_bridge.specs.declared.places.Place.{Place}

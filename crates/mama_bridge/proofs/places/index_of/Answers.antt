@@ -1,6 +1,5 @@
-use Rattle.std.proofs.Common.{◌≡◌, ℕ, None, Some, sym, ◌∙◌}
+use Rattle.std.proofs.Common.{sym, ◌∙◌}
 use Rattle.std.proofs.lemmas.Option.{same_Some, none-some}
-use Rattle.std.specs.declared.option.Option.{Option}
 use Rattle.mama_bridge.specs.Placed.{is_place_of}
 use Rattle.mama_bridge.proofs.Entries.{found_at, not_at}
 use Rattle.mama_bridge.proofs.PlaceLemmas.{is_noted}

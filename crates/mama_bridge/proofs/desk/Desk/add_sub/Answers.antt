@@ -1,4 +1,4 @@
-use Rattle.std.proofs.Common.{◌≡◌, Bool, false, List, [], ◌∷◌, ◌++◌, refl, rules, subst, sym}
+use Rattle.std.proofs.Common.{◌≡◌, Bool, false, [], ◌∷◌, ◌++◌, refl, rules, subst, sym}
 use Rattle.mama_bridge_rules.specs.Table.{kept}
 use Rattle.mama_bridge.specs.Live.{IsLive, Awaits, place_of}
 use Rattle.mama_bridge.proofs.ByTopic.{live_gains}

@@ -5,7 +5,9 @@ use Rattle.mama_rules.specs.Bridge.{client_done}
 use Rattle.mama_bridge_rules.specs.Table.{kept, begins_settling, begins_ending}
 use Rattle.mama_bridge.specs.Ids.{is_inbox_among}
 use Rattle.mama_bridge.specs.Links.{inbox_seen, inbox_view, settle_outs}
+use Rattle.mama_bridge.specs.Held.{KeepsHeld}
 use Rattle.mama_bridge.specs.Live.{IsLive, EndsLive}
+use Rattle.mama_bridge.proofs.HeldLemmas.{held_kept}
 use Rattle.mama_bridge.proofs.Closing.{seen_kept, adds_closing}
 use Rattle.mama_bridge.proofs.desk.Desk.client_done.Goals as goal
 
@@ -22,6 +24,7 @@ returns-clause-ok g c table s sound =
         opened = λ one. ap (λ (known : List InboxId). is_inbox_among known one) rest.opened ∙ s.opened one;
         subs = subst (λ (b : Bool). IsLive table.joined (kept b table.subs) c.turn.new.self.subs) ends (turned.subs table.joined table.subs s.subs);
         inboxes = seen_kept inbox_seen inbox_view c.turn.new.self.inboxes.links before.inboxes.links table.inboxes c.begins-ends.result (begins_ending table (client_done c.args.client)) turned.inboxes s.inboxes ends;
+        slots = held_kept (begins_ending table (client_done c.args.client)) table.subs table.inboxes before.slots c.turn.new.self.slots s.slots (subst (λ (b : Bool). KeepsHeld b before.slots c.turn.new.self.slots) ends turned.slots);
         clients = c.set.ensures ∙ ap (λ (flags : List Bool). set flags c.args.client true) (rest.clients ∙ s.clients);
         sends = rest.sends ∙ s.sends;
         settled = rest.settled ∙ s.settled;

@@ -3,6 +3,7 @@ use Rattle.std.proofs.Common.{◌≡◌, Bool, cond, [], ◌++◌, map, sym, sub
 use Rattle.mama_bridge_rules.specs.Table.{kept}
 use Rattle.mama_bridge.specs.Links.{inbox_seen, inbox_view, end_outs, inbox_end_outs, fin_outs}
 use Rattle.mama_bridge.specs.Placed.{present}
+use Rattle.mama_bridge.specs.Held.{KeepsHeld}
 use Rattle.mama_bridge.specs.Live.{IsLive}
 use Rattle.mama_bridge.proofs.desk.Desk.end_if.Goals as goal
 
@@ -15,3 +16,6 @@ returns-then-ends-clause-out g c joined rows others live seen =
     let still : map inbox_seen (present c.take_all-inboxes.result.items) ≡ map inbox_view others = cc in
     subst (λ (b : Bool). c.end_all.new.out.items ≡ c.args.out.now.items ++ cond b (flat_map end_outs rows ++ flat_map inbox_end_outs others ++ fin_outs c.args.publishers c.args.queues) []) (sym c.if-ends.true)
     (c.end_all.ensures rows others (c.take_all.ensures.seen joined rows live) still)
+
+pub returns-then-ends-clause-slots : goal.returns-then-ends-clause-slots
+returns-then-ends-clause-slots g c = subst (λ (b : Bool). KeepsHeld b c.args.self.now.slots c.new.result) (sym c.if-ends.true) c.new.ensures

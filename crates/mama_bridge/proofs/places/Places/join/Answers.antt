@@ -1,4 +1,4 @@
-use Rattle.std.proofs.Common.{rules, ◌≡◌, ℕ, ◌||◌, Bool, false, sym, ◌∙◌, ap, List, ◌++◌, ◌∷◌, [], Some, subst, length}
+use Rattle.std.proofs.Common.{rules, ◌||◌, sym, ◌∙◌, ap, List, ◌++◌, ◌∷◌, [], Some, subst}
 use Rattle.mama_event.specs.Object.{same_sub}
 use Rattle.mama_bridge.specs.Placed.{Placed, Indexed}
 use Rattle.mama_bridge.specs.Ids.{is_sub_among}
