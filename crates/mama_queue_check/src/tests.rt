@@ -182,6 +182,7 @@ fn callbacks_are_compared_with_the_record(rt: HostRuntime) -> Result<(), Fail> {
     let journals = [journal(alloc)?];
     let served = serve_all(alloc, &plans, &journals[..])?.ok_or("turns")?;
     let mut calls = recorded(alloc)?;
+    assert_eq!(rt; calls.len(), 2);
     assert!(rt; have_calls(alloc, &plans, &served, &calls)?);
     assert!(rt; !have_calls(alloc, &plans, &served, &calls[..1])?);
     assert!(rt; !have_calls(alloc, &plans, &served, &calls[1..])?);

@@ -1,5 +1,5 @@
 use Rattle.std.specs.Prelude.{is_some}
-use Rattle.std.proofs.Common.{ℕ, ◌+◌, List, take, ap, sym, subst, ◌∙◌, true≢false}
+use Rattle.std.proofs.Common.{ℕ, List, take, ap, sym, subst, ◌∙◌, true≢false}
 use Rattle.mama_event.specs.declared.to_queue.QueueNote.{QueueNote}
 use Rattle.mama_record.specs.RunView.{events_of}
 use Rattle.mama_dispatch.specs.Streams.{AreTurns}
