@@ -7,12 +7,12 @@
 mod planning;
 mod plans;
 mod put;
-mod puts;
 mod queue_seat;
 
+pub use mama_dispatch::QueueOut;
 pub use mama_event::{CallNote, ImageHead, ObjectId, PlanRow, QueueNote, SubId, ToQueue};
 pub use mama_link::Outbox;
 pub use mama_memory::OutOfMemory;
 pub use plans::{PlannedObject, Plans};
-pub use put::{Put, put_of};
+pub use put::put_of;
 pub use queue_seat::QueueSeat;

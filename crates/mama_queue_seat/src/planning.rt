@@ -1,4 +1,5 @@
-ghost use Rattle.std.specs.Prelude.{◌≡◌, Some, IfOk};
+ghost use Rattle.std.specs.Prelude.{◌≡◌, Some, IfOk, IfErr};
+ghost use Rattle.mama_event.specs.declared.to_queue.ToQueue.TheVariants as event;
 ghost use Rattle.mama_event.specs.declared.to_queue.QueueNote.TheVariants as note;
 ghost use Rattle.mama_event.specs.ToQueue.{note_of};
 ghost use Rattle.mama_dispatch.specs.Keeping.{brought, ListensAs, ComesPlanned};
@@ -7,7 +8,7 @@ ghost use Rattle.mama_queue_seat.specs.Server.{orders_in};
 ghost use Rattle.mama_queue_seat.specs.Listening.{tag_of, data_of};
 
 use crate::plans::Plans;
-use mama_event::{Make, ObjectId, ToQueue};
+use mama_event::{Make, ObjectId, Tagged, ToQueue};
 use mama_listener::{PlanListener, has_few_rows};
 use mama_memory::OutOfMemory;
 use std::alloc::Global;
@@ -30,7 +31,7 @@ fn listener_of(
     Ok(PlanListener::new(alloc, tag, plan))
 }
 
-/// The event of a created object with the listener that gives the orders of its plan.
+/// The event of a created object with the listener that gives the orders of its plan, or the tag that came.
 fn created(
     alloc: Global,
     plans: &Plans,
@@ -38,27 +39,37 @@ fn created(
     object: ObjectId,
     make: Make,
     tag: ObjectId,
-) -> Result<ToQueue<PlanListener>, OutOfMemory>
+) -> Result<ToQueue<PlanListener>, ToQueue<ObjectId>>
     ensures noted { IfOk result (λ given. note_of tag_of given ≡ note.Create slot object make tag) }
     ensures planned { IfOk result (λ given. ComesPlanned (orders_in plans.now) (brought data_of given)) }
+    ensures back { IfErr result (λ given. given ≡ event.Create slot object make tag) }
 {
-    let listener = listener_of(alloc, plans, &object, tag)?;
-    Ok(ToQueue::Create {
-        slot,
-        object,
-        make,
-        listener,
-    })
+    match listener_of(alloc, plans, &object, tag) {
+        Ok(listener) => Ok(ToQueue::Create {
+            slot,
+            object,
+            make,
+            listener,
+        }),
+        Err(_) => Err(ToQueue::Create {
+            slot,
+            object,
+            make,
+            listener: tag,
+        }),
+    }
 }
 
-/// The same event, where a listener that comes gives the orders of its object's plan.
+/// The same event, where a listener that comes gives the orders of its object's plan; or the event, where no memory is
+/// found for the listener.
 pub(crate) fn with_plan(
     alloc: Global,
     plans: &Plans,
     event: ToQueue<ObjectId>,
-) -> Result<ToQueue<PlanListener>, OutOfMemory>
+) -> Result<ToQueue<PlanListener>, ToQueue<ObjectId>>
     ensures noted { IfOk result (λ given. note_of tag_of given ≡ note_of own_tag event) }
     ensures planned { IfOk result (λ given. ComesPlanned (orders_in plans.now) (brought data_of given)) }
+    ensures back { IfErr result (λ given. given ≡ event) }
 {
     match event {
         ToQueue::Create {
@@ -80,5 +91,37 @@ pub(crate) fn with_plan(
         }),
         ToQueue::Gone { slot, object } => Ok(ToQueue::Gone { slot, object }),
         ToQueue::Fin => Ok(ToQueue::Fin),
+    }
+}
+
+/// The same event, where a listener that came is its tag again.
+pub(crate) fn without_plan(event: ToQueue<PlanListener>) -> ToQueue<ObjectId>
+    ensures { note_of own_tag result ≡ note_of tag_of event }
+{
+    match event {
+        ToQueue::Create {
+            slot,
+            object,
+            make,
+            listener,
+        } => ToQueue::Create {
+            slot,
+            object,
+            make,
+            listener: listener.tag(),
+        },
+        ToQueue::Deliver { slot, sub, msg } => ToQueue::Deliver { slot, sub, msg },
+        ToQueue::Reply { slot, inbox, body } => ToQueue::Reply { slot, inbox, body },
+        ToQueue::Tick {
+            slot,
+            timer,
+            moment,
+        } => ToQueue::Tick {
+            slot,
+            timer,
+            moment,
+        },
+        ToQueue::Gone { slot, object } => ToQueue::Gone { slot, object },
+        ToQueue::Fin => ToQueue::Fin,
     }
 }

@@ -1,16 +1,15 @@
-ghost use Rattle.std.specs.Prelude.{◌≡◌, ◌++◌, ◌∷◌, [], OnOk, IfOk, map};
+ghost use Rattle.std.specs.Prelude.{◌≡◌, ◌++◌, ◌∷◌, [], OnOk, OnErr, IfOk, IfErr, map};
 ghost use Rattle.mama_event.specs.ToQueue.{note_of};
 ghost use Rattle.mama_queue_rules.specs.Queue.{deeds, calls_of, queue_puts_at};
+ghost use Rattle.mama_dispatch.specs.Keeping.{ArePlanned};
 ghost use Rattle.mama_rounds.specs.World.{is_empty};
 ghost use Rattle.mama_rounds.specs.Round.{noted};
 ghost use Rattle.mama_queue_seat.specs.Put.{own_tag, notes_of};
 ghost use Rattle.mama_queue_seat.specs.Server.{served, served_puts, orders_in};
 ghost use Rattle.mama_queue_seat.specs.Image.{found_image, image_of};
 
-use crate::planning::with_plan;
+use crate::planning::{with_plan, without_plan};
 use crate::plans::Plans;
-use crate::put::Put;
-use crate::puts::puts_from;
 use mama_dispatch::{QueueOut, Serving};
 use mama_event::{CallNote, ImageHead, ObjectId, QueueNote, SubId, ToQueue};
 use mama_link::Outbox;
@@ -64,43 +63,39 @@ impl<'a> QueueSeat<'a> {
         self.lane.is_empty()
     }
 
-    /// Puts an event of a port at the end of the lane.
-    pub fn put(&mut self, port: u32, event: ToQueue<ObjectId>) -> Result<(), OutOfMemory>
+    /// Puts an event of a port at the end of the lane. Where no memory is found the event is given back, and all is as
+    /// before.
+    pub fn put(&mut self, port: u32, event: ToQueue<ObjectId>) -> Result<(), ToQueue<ObjectId>>
         ensures lane { OnOk result (self.new ≡ record self.old { lane = self.old.lane ++ (port, note_of own_tag event) ∷ [] }) }
         ensures objects { self.new.objects ≡ self.old.objects }
+        ensures back { IfErr result (λ given. given ≡ event) }
+        ensures err { OnErr result (self.new ≡ self.old) }
     {
-        self.lane.push_back((port, event))?;
-        Ok(())
+        match self.lane.push_back((port, event)) {
+            Ok(()) => Ok(()),
+            Err(failed) => Err(failed.value.1),
+        }
     }
 
     /// Takes the first event of the lane, if there is one, makes its callbacks, and gives what they put. The error is
-    /// want of memory, or an event that may not come, which no run has.
-    pub fn turn(&mut self) -> Result<Outbox<Put>, OutOfMemory>
+    /// want of memory, or an event that may not come, which no run has; then all is as before.
+    pub fn turn(&mut self) -> Result<Outbox<QueueOut<ObjectId>>, OutOfMemory>
         ensures seat { OnOk result (self.new ≡ served self.old self.old.lane) }
         ensures puts { IfOk result (λ out. notes_of out.items ≡ served_puts self.old self.old.lane) }
         ensures objects { self.new.objects ≡ self.old.objects }
+        ensures err { OnErr result (self.new ≡ self.old) }
     {
-        match self.lane.pop_front() {
-            Some((port, event)) => self.take(port, event),
-            None => Ok(Outbox::new(self.alloc)),
+        let Some((port, event)) = self.lane.pop_front() else {
+            return Ok(Outbox::new(self.alloc));
+        };
+        match serve(self.alloc, self.plans, &mut self.serving, port, event) {
+            Ok(out) => Ok(out),
+            Err(event) => {
+                // There is room for it since it was taken.
+                self.lane.push_front_reserved((port, event));
+                Err(OutOfMemory)
+            }
         }
-    }
-
-    /// Takes an event that was the first of the lane.
-    fn take(&mut self, port: u32, event: ToQueue<ObjectId>) -> Result<Outbox<Put>, OutOfMemory>
-        ensures seat { OnOk result (self.new ≡ record self.old { journal = self.old.journal ++ (port, note_of own_tag event) ∷ [] }) }
-        ensures puts { IfOk result (λ out. notes_of out.items ≡ queue_puts_at (orders_in self.old.objects) self.old.journal (port, note_of own_tag event)) }
-        ensures objects { self.new.objects ≡ self.old.objects }
-    {
-        let event = with_plan(self.alloc, self.plans, event)?;
-        if !self.serving.may_take(&event) {
-            return Err(OutOfMemory);
-        }
-        let mut outs: Outbox<QueueOut<ObjectId>> = Outbox::new(self.alloc);
-        if self.serving.turn(port, event, &mut outs).is_err() {
-            return Err(OutOfMemory);
-        }
-        puts_from(self.alloc, outs)
     }
 
     /// The callbacks of an object.
@@ -128,5 +123,32 @@ impl<'a> QueueSeat<'a> {
             lane: _,
         } = self;
         serving.into_journal()
+    }
+}
+
+/// Serves an event, and gives what its callbacks put. Else the event is given back, with a listener's tag in place of
+/// the listener, and all is as before.
+fn serve(
+    alloc: Global,
+    plans: &Plans,
+    serving: &mut Serving<PlanListener>,
+    port: u32,
+    event: ToQueue<ObjectId>,
+) -> Result<Outbox<QueueOut<ObjectId>>, ToQueue<ObjectId>>
+    requires { ArePlanned (orders_in plans.now) serving.old.seats }
+    ensures journal { OnOk result (serving.new.journal ≡ serving.old.journal ++ (port, note_of own_tag event) ∷ []) }
+    ensures planned { ArePlanned (orders_in plans.now) serving.new.seats }
+    ensures puts { IfOk result (λ out. notes_of out.items ≡ queue_puts_at (orders_in plans.now) serving.old.journal (port, note_of own_tag event)) }
+    ensures err { OnErr result (serving.new ≡ serving.old) }
+    ensures back { IfErr result (λ given. note_of own_tag given ≡ note_of own_tag event) }
+{
+    let event = with_plan(alloc, plans, event)?;
+    if !serving.may_take(&event) {
+        return Err(without_plan(event));
+    }
+    let mut out = Outbox::new(alloc);
+    match serving.turn(port, event, &mut out) {
+        Ok(_) => Ok(out),
+        Err(event) => Err(without_plan(event)),
     }
 }

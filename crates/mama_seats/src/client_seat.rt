@@ -1,4 +1,4 @@
-ghost use Rattle.std.specs.Prelude.{◌≡◌, ◌+◌, ◌-◌, ◌^◌, ◌<◌, List, ℕ, Bool, true, false, ◌||◌, nat_le, [], ◌∷◌, ◌++◌, map, None, Some, if◌then◌else◌, IfOk, OnOk};
+ghost use Rattle.std.specs.Prelude.{◌≡◌, ◌+◌, ◌-◌, ◌^◌, ◌<◌, List, ℕ, Bool, true, false, ◌||◌, nat_le, [], ◌∷◌, ◌++◌, map, None, Some, if◌then◌else◌, IfOk, OnOk, OnErr};
 ghost use Rattle.mama_event.specs.declared.to_bridge.BridgeNote.TheVariants as bridge;
 ghost use Rattle.mama_event.specs.declared.to_timers.TimersNote.TheVariants as timers;
 ghost use Rattle.mama_queue_rules.specs.Queue.{to_bridge, to_timers};
@@ -7,10 +7,10 @@ ghost use Rattle.mama_queue_seat.specs.Put.{note_of, notes_of};
 
 use crate::names::Names;
 use mama_edge::Clock;
-use mama_event::{ToBridge, ToTimers};
+use mama_event::{ObjectId, ToBridge, ToTimers};
 use mama_link::Outbox;
 use mama_memory::OutOfMemory;
-use mama_queue_seat::Put;
+use mama_queue_seat::QueueOut;
 use mama_script::ClientLine;
 use std::alloc::Global;
 use std::marker::Model;
@@ -93,10 +93,15 @@ impl<'a> ClientSeat<'a> {
 
     /// Makes the next step, and gives what it puts: nothing during a pause and after the last step. A line that reads
     /// the clock calls it once, and no other step calls it. The error is want of memory, or a number that no accepted
-    /// script reaches.
-    pub fn step<C: Clock>(&mut self, clock: &mut C) -> Result<Outbox<Put>, OutOfMemory>
+    /// script reaches; then all is as before, and the clock was not called.
+    pub fn step<C: Clock>(
+        &mut self,
+        clock: &mut C,
+    ) -> Result<Outbox<QueueOut<ObjectId>>, OutOfMemory>
         ensures step { IfOk result (λ out. IsStep self.old self.new (notes_of out.items)) }
         ensures clock { OnOk result (IsReading (C.left clock.old) (C.left clock.new) self.old self.new) }
+        ensures err { OnErr result (self.new ≡ self.old) }
+        ensures clock_err { OnErr result (C.left clock.new ≡ C.left clock.old) }
     {
         if self.over {
             return Ok(Outbox::new(self.alloc));
@@ -121,9 +126,13 @@ impl<'a> ClientSeat<'a> {
                 Ok(Outbox::new(self.alloc))
             }
             ClientLine::NowClock => {
+                // The room comes first: a moment that was read is put and kept.
+                let mut out = Outbox::new(self.alloc);
+                out.reserve(1)?;
+                self.moments.reserve(1)?;
                 let moment = clock.now();
-                let out = one(self.alloc, Put::Timers(ToTimers::Now { moment }))?;
-                self.moments.push(moment)?;
+                out.push_reserved(QueueOut::Timers(ToTimers::Now { moment }));
+                self.moments.push_reserved(moment);
                 self.line += 1;
                 Ok(out)
             }
@@ -141,7 +150,7 @@ impl<'a> ClientSeat<'a> {
 }
 
 /// One event.
-fn one(alloc: Global, put: Put) -> Result<Outbox<Put>, OutOfMemory>
+fn one(alloc: Global, put: QueueOut<ObjectId>) -> Result<Outbox<QueueOut<ObjectId>>, OutOfMemory>
     ensures { IfOk result (λ out. notes_of out.items ≡ note_of put ∷ []) }
 {
     let mut out = Outbox::new(alloc);
@@ -152,12 +161,12 @@ fn one(alloc: Global, put: Put) -> Result<Outbox<Put>, OutOfMemory>
 }
 
 /// What a client puts last: it tells the timer service, and then the bridge, that it is done.
-fn last_words(alloc: Global) -> Result<Outbox<Put>, OutOfMemory>
+fn last_words(alloc: Global) -> Result<Outbox<QueueOut<ObjectId>>, OutOfMemory>
     ensures { IfOk result (λ out. notes_of out.items ≡ to_timers timers.ClientDone ∷ to_bridge bridge.ClientDone ∷ []) }
 {
     let mut out = Outbox::new(alloc);
     out.reserve(2)?;
-    out.push_reserved(Put::Timers(ToTimers::ClientDone));
-    out.push_reserved(Put::Bridge(ToBridge::ClientDone));
+    out.push_reserved(QueueOut::Timers(ToTimers::ClientDone));
+    out.push_reserved(QueueOut::Bridge(ToBridge::ClientDone));
     Ok(out)
 }

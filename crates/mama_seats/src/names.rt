@@ -10,7 +10,7 @@ use mama_event::{
 };
 use mama_link::Faults;
 use mama_memory::{Duplicate, OutOfMemory};
-use mama_queue_seat::{Put, put_of};
+use mama_queue_seat::{QueueOut, put_of};
 use mama_script::{ClientLine, QueueWord};
 
 /// How many objects of each kind a client has named so far, and how often it has taken the next queue in turn.
@@ -80,7 +80,7 @@ impl Names {
         queues: u32,
         asked: Asked,
         faults: &Faults,
-    ) -> Result<(Put, Names), OutOfMemory>
+    ) -> Result<(QueueOut<ObjectId>, Names), OutOfMemory>
         ensures { IfOk result (λ done. (plan : List PlanRow) → DoesLine queues number self done.1 (line.Sub asked.topic asked.kind asked.queue asked.cache asked.recaps faults.now plan) (note_of done.0)) }
     {
         let sub = SubId {
@@ -98,7 +98,7 @@ impl Names {
             recaps: asked.recaps,
             faults: faults.try_clone()?,
         };
-        let put = Put::Bridge(ToBridge::Join {
+        let put = QueueOut::Bridge(ToBridge::Join {
             sub,
             terms,
             listener: ObjectId::Sub(sub),
@@ -113,7 +113,7 @@ impl Names {
         queues: u32,
         queue: QueueWord,
         interval: u32,
-    ) -> Result<(Put, Names), OutOfMemory>
+    ) -> Result<(QueueOut<ObjectId>, Names), OutOfMemory>
         ensures { IfOk result (λ done. (plan : List PlanRow) → DoesLine queues number self done.1 (line.Timer queue interval plan) (note_of done.0)) }
     {
         let timer = TimerId {
@@ -123,7 +123,7 @@ impl Names {
         let (queue, names) = self.queue_of(queues, queue)?;
         let mut names = names;
         names.timers = one_more(self.timers)?;
-        let put = Put::Timers(ToTimers::Arm {
+        let put = QueueOut::Timers(ToTimers::Arm {
             timer,
             queue,
             interval,
@@ -139,7 +139,7 @@ impl Names {
         queues: u32,
         queue: QueueWord,
         faults: &Faults,
-    ) -> Result<(Put, Names), OutOfMemory>
+    ) -> Result<(QueueOut<ObjectId>, Names), OutOfMemory>
         ensures { IfOk result (λ done. (plan : List PlanRow) → DoesLine queues number self done.1 (line.Inbox queue faults.now plan) (note_of done.0)) }
     {
         let inbox = InboxId {
@@ -153,7 +153,7 @@ impl Names {
             queue,
             faults: faults.try_clone()?,
         };
-        let put = Put::Bridge(ToBridge::OpenInbox {
+        let put = QueueOut::Bridge(ToBridge::OpenInbox {
             inbox,
             terms,
             listener: ObjectId::Inbox(inbox),
@@ -168,7 +168,7 @@ impl Names {
         number: u32,
         queues: u32,
         line: &ClientLine,
-    ) -> Result<Option<(Put, Names)>, OutOfMemory>
+    ) -> Result<Option<(QueueOut<ObjectId>, Names)>, OutOfMemory>
         ensures { IfOk result (λ found. IfSome found (λ done. DoesLine queues number self done.1 line.now (note_of done.0))) }
     {
         match line {
@@ -202,7 +202,7 @@ impl Names {
             } => Ok(Some(self.open(number, queues, *queue, faults)?)),
             ClientLine::Order(order) => Ok(Some((put_of(*order), self))),
             ClientLine::Now(moment) => {
-                let put = Put::Timers(ToTimers::Now { moment: *moment });
+                let put = QueueOut::Timers(ToTimers::Now { moment: *moment });
                 Ok(Some((put, self)))
             }
             ClientLine::NowClock | ClientLine::Pause(_) => Ok(None),

@@ -1,4 +1,4 @@
-ghost use Rattle.std.specs.Prelude.{◌≡◌, ◌+◌, ◌-◌, ◌^◌, ◌<◌, List, [], ◌∷◌, ◌++◌, map, false, ◌||◌, nat_le, None, Some, if◌then◌else◌, IfOk, OnOk, vec_len};
+ghost use Rattle.std.specs.Prelude.{◌≡◌, ◌+◌, ◌-◌, ◌^◌, ◌<◌, List, [], ◌∷◌, ◌++◌, map, false, ◌||◌, nat_le, None, Some, if◌then◌else◌, IfOk, IfErr, OnOk, OnErr, vec_len};
 ghost use Rattle.std.specs.Vec.{vec_capacity};
 ghost use Rattle.mama_event.specs.declared.publisher_entry.PublisherEntry.{PublisherEntry};
 ghost use Rattle.mama_event.specs.ToBridge.{note_of};
@@ -146,39 +146,45 @@ impl<'a> PublisherSeat<'a> {
         self.journal
     }
 
-    /// Puts an event at the end of the lane.
-    pub fn put(&mut self, event: ToPublisher) -> Result<(), OutOfMemory>
-        ensures { OnOk result (self.new ≡ record self.old { lane = self.old.lane ++ publisher_note_of event ∷ [] }) }
+    /// Puts an event at the end of the lane. Where no memory is found the event is given back, and all is as before.
+    pub fn put(&mut self, event: ToPublisher) -> Result<(), ToPublisher>
+        ensures lane { OnOk result (self.new ≡ record self.old { lane = self.old.lane ++ publisher_note_of event ∷ [] }) }
+        ensures back { IfErr result (λ given. given ≡ event) }
+        ensures err { OnErr result (self.new ≡ self.old) }
     {
-        self.lane.push_back(event)?;
-        Ok(())
-    }
-
-    /// Takes the first event of the lane, if there is one, and gives what it puts.
-    pub fn turn(&mut self) -> Result<Outbox<ToBridge<ObjectId>>, OutOfMemory>
-        ensures seat { OnOk result (self.new ≡ taken self.old self.old.lane) }
-        ensures puts { IfOk result (λ out. map (note_of own_tag) out.items ≡ taken_puts self.old self.old.lane) }
-    {
-        let mut out = Outbox::new(self.alloc);
-        match self.lane.pop_front() {
-            Some(event) => {
-                self.journal.reserve(1)?;
-                let note = event.note()?;
-                if self.publisher.take(event, &mut out).is_err() {
-                    return Err(OutOfMemory);
-                }
-                taking_an_event();
-                note_taken(&mut self.journal, note);
-                Ok(out)
-            }
-            None => Ok(out),
+        match self.lane.push_back(event) {
+            Ok(()) => Ok(()),
+            Err(failed) => Err(failed.value),
         }
     }
 
+    /// Takes the first event of the lane, if there is one, and gives what it puts. Where no memory is found all is as
+    /// before.
+    pub fn turn(&mut self) -> Result<Outbox<ToBridge<ObjectId>>, OutOfMemory>
+        ensures seat { OnOk result (self.new ≡ taken self.old self.old.lane) }
+        ensures puts { IfOk result (λ out. map (note_of own_tag) out.items ≡ taken_puts self.old self.old.lane) }
+        ensures err { OnErr result (self.new ≡ self.old) }
+    {
+        let mut out = Outbox::new(self.alloc);
+        let Some(event) = self.lane.front().copied() else {
+            return Ok(out);
+        };
+        self.journal.reserve(1)?;
+        let note = event.note()?;
+        if self.publisher.take(event, &mut out).is_err() {
+            return Err(OutOfMemory);
+        }
+        taking_an_event();
+        note_taken(&mut self.journal, note);
+        let _taken = self.lane.pop_front();
+        Ok(out)
+    }
+
     /// Makes the next step, and gives what it puts: nothing during a pause and after the last step. The error is want
-    /// of memory, or a record or a number past its limit, which no accepted script reaches.
+    /// of memory, or a record or a number past its limit, which no accepted script reaches; then all is as before.
     pub fn step(&mut self) -> Result<Outbox<ToBridge<ObjectId>>, OutOfMemory>
-        ensures { IfOk result (λ out. IsSenderStep self.old self.new (map (note_of own_tag) out.items)) }
+        ensures step { IfOk result (λ out. IsSenderStep self.old self.new (map (note_of own_tag) out.items)) }
+        ensures err { OnErr result (self.new ≡ self.old) }
     {
         let mut out = Outbox::new(self.alloc);
         if self.over {

@@ -1,4 +1,4 @@
-use Rattle.std.proofs.Common.{arith, refl, ◌∙◌, get_or}
+use Rattle.std.proofs.Common.{ℕ, List, [], ◌∷◌, ◌++◌, arith, refl, ap, ◌∙◌, get_or}
 use Rattle.mama_queue_seat.specs.Put.{note_of}
 use Rattle.mama_seats.proofs.StandLemmas.{pause_moves, line_moves}
 use Rattle.mama_seats.proofs.ReadingLemmas.{answered_once, pause_reads_on, pause_reads_at, clock_reads_at, line_reads_at}
@@ -25,11 +25,11 @@ returns-else-steps-eq0-clause-clock g c =
     c.self.view_is c.if-self.false c.if-self-gt0.false refl c.if-self-2.false c.index-self-self.is (c.index-self-self.is ∙ c.in-Pause.is)
     (omega (arith, c.if-steps-eq0.false))
 
-pub returns-in_ok-push-in-NowClock-clause-clock : goal.returns-in_ok-push-in-NowClock-clause-clock
-returns-in_ok-push-in-NowClock-clause-clock g c =
+pub returns-in_ok-reserve-in-NowClock-2-clause-clock : goal.returns-in_ok-reserve-in-NowClock-2-clause-clock
+returns-in_ok-reserve-in-NowClock-2-clause-clock g c =
     clock_reads_at _ _ _ c.args.self.now c.self.inside.lines.now c.self.inside.line _ c.index-self-self.result _
     c.self.view_is c.if-self.false c.if-self-gt0.false refl c.if-self-2.false c.index-self-self.is (c.index-self-self.is ∙ c.in-NowClock.is)
-    c.in_ok-push-in-NowClock.ensures.items (answered_once _ _ _ c.now-moment.ensures.first c.now-moment.ensures.rest)
+    (c.push_reserved-in-NowClock.ensures.items ∙ ap (λ (l : List ℕ). l ++ c.now-moment.result ∷ []) c.reserve-in-NowClock.ensures.items) (answered_once _ _ _ c.now-moment.ensures.first c.now-moment.ensures.rest)
 
 pub returns-in_ok-out-in-Some-clause-clock : goal.returns-in_ok-out-in-Some-clause-clock
 returns-in_ok-out-in-Some-clause-clock g c =
