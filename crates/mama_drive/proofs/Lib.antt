@@ -1,11 +1,15 @@
 pub mod LaneLemmas
 pub mod SceneLemmas
+pub mod HeldLemmas
+pub mod SeatLemmas
 pub mod ServerLemmas
 pub mod SystemLemmas
 pub mod TurnLemmas
 pub mod StageLemmas
+pub mod HeldTurnLemmas
 pub mod StartLemmas
 pub mod RecordLemmas
 pub mod RecordingLemmas
 pub mod RestLemmas
 pub mod ClockLemmas
+pub mod RunLemmas

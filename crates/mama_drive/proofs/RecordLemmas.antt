@@ -14,9 +14,18 @@ use Rattle.mama_rounds.specs.Stage.{Stage, AreRounds}
 use Rattle.mama_rounds.specs.Round.{setting_of, start, record_of, last_image, IsRound}
 use Rattle.mama_seats.specs.Sender.{Sender, steps_in, steps_after}
 use Rattle.mama_seats.specs.Stand.{Stand, reading, left_after, standing_in}
-use Rattle.mama_drive.specs.Scene.{Scene, setting_in, stage_in, world_in, entries_in, journal_in, lefts, AreMoments, AllEnd, Plays, IsPlayed}
+use Rattle.mama_drive.specs.Scene.{Scene, setting_in, stage_in, world_in, script_in, entries_in, journal_in, lefts, AreMoments, AllEnd, Plays, IsPlayed}
 use Rattle.mama_drive.specs.Start.{Starts}
 use Rattle.mama_drive.specs.Record.{read_in, recorded, calls_by, images_by}
+use Rattle.mama_event.specs.Ports.{queue_port_of_bridge, queue_port_of_timers}
+use Rattle.mama_rules.specs.Bridge.{BridgePut, to_publisher, to_queue}
+use Rattle.mama_rules.specs.Bridge as bridge
+use Rattle.mama_queue_rules.specs.Queue.{QueuePut}
+use Rattle.mama_queue_rules.specs.Queue as queue
+use Rattle.mama_event.specs.Publisher.{PublisherScript}
+use Rattle.mama_drive.specs.declared.held.Held.{Held}
+use Rattle.mama_drive.specs.Held.{seen, lay_put, lay_tick, lay_out, with_note, with_event, changed_at}
+use Rattle.mama_drive.proofs.HeldLemmas.{seen_keeps, map_kept}
 use Rattle.mama_drive.proofs.LaneLemmas.{append_nil}
 
 -- what the clients have read begins what they have read
@@ -104,3 +113,28 @@ record_parts s old run m e b t q c i is put moments entries bridge timers events
     ∙ ap (λ x. record { clients = map read_in s.clients; publishers = map entries_in s.senders; bridge = s.bridge; timers = s.timers; queues = x; calls = c; images = i }) events
     ∙ ap (λ x. record { clients = map read_in s.clients; publishers = map entries_in s.senders; bridge = s.bridge; timers = s.timers; queues = queues; calls = x; images = i }) calls
     ∙ ap (λ x. record { clients = map read_in s.clients; publishers = map entries_in s.senders; bridge = s.bridge; timers = s.timers; queues = queues; calls = map (calls_by s.objects queues) s.objects; images = x }) last)
+
+-- the record does not depend on what lies on lanes
+abbrev recorded_by : (s : Scene) (scripts : List PublisherScript) (entries : List (List PublisherEntry)) (queues : List (List (ℕ × QueueNote))) → RunData
+recorded_by s scripts entries queues =
+    record_of (record { shape = s.shape; publishers = scripts; objects = s.objects }) (map read_in s.clients)
+    (record { publishers = entries; bridge = s.bridge; timers = s.timers; queues = queues; to_bridge = []; to_timers = []; to_publishers = []; to_queues = [] })
+
+recorded_put : (x : BridgePut) (s : Scene) → recorded (lay_put x s) ≡ recorded s
+recorded_put (to_publisher p note) s =
+    ap (λ l. recorded_by s l (map entries_in (changed_at (with_note note) p s.senders)) (map journal_in s.servers)) (map_kept script_in (with_note note) (λ x. refl) p s.senders)
+    ∙ ap (λ l. recorded_by s (map script_in s.senders) l (map journal_in s.servers)) (map_kept entries_in (with_note note) (λ x. refl) p s.senders)
+recorded_put (to_queue q note) s =
+    ap (λ l. recorded_by s (map script_in s.senders) (map entries_in s.senders) l) (map_kept journal_in (with_event (queue_port_of_bridge, note)) (λ x. refl) q s.servers)
+recorded_put (bridge.to_timers note) s = refl
+
+recorded_tick : (e : ℕ × QueueNote) (s : Scene) → recorded (lay_tick e s) ≡ recorded s
+recorded_tick e s =
+    ap (λ l. recorded_by s (map script_in s.senders) (map entries_in s.senders) l) (map_kept journal_in (with_event (queue_port_of_timers, e.1)) (λ x. refl) e.0 s.servers)
+
+recorded_out : (b t : ℕ) (x : QueuePut) (s : Scene) → recorded (lay_out b t x s) ≡ recorded s
+recorded_out b t (queue.to_bridge note) s = refl
+recorded_out b t (queue.to_timers note) s = refl
+
+pub recorded_seen : (h : Held) (s : Scene) → recorded (seen h s) ≡ recorded s
+recorded_seen h s = seen_keeps recorded recorded_put recorded_tick (λ port e t. refl) recorded_out h s

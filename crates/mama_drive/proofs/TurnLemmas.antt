@@ -76,21 +76,3 @@ is_quiet_by s old is bridge timers publishers queues =
 pub none_waits : {V : Type 0} → (lane : List V) → is_empty lane ≡ true → lane ≡ []
 none_waits [] h = refl
 none_waits (v ∷ vs) h = cc
-
--- the timer service takes the first event of its lane, and what it puts goes on the queues' lanes
-pub timers_turned : (s old new : Scene) (e : ℕ × TimersNote) (rest journal : List (ℕ × TimersNote)) (outs : List (ℕ × QueueNote)) → s ≡ old → s.to_timers ≡ e ∷ rest
-    → journal ≡ s.timers ++ e ∷ [] → outs ≡ timers_puts_at s.shape s.timers e
-    → Moves (record s { timers = journal; to_timers = rest }) new (spread_ticks outs (world_in (record s { timers = journal; to_timers = rest })))
-    → Moves old new (timers_turn (setting_in old) (world_in old))
-timers_turned s old new e rest journal outs is first grown puts_are moves =
-    subst (λ (o : Scene). Moves o new (timers_turn (setting_in o) (world_in o))) is (record {
-      setting = moves.setting;
-      clients = moves.clients;
-      steps = moves.steps;
-      sender_count = moves.sender_count;
-      server_count = moves.server_count;
-      now = moves.now
-          ∙ ap (λ j. spread_ticks outs (world_in (record s { timers = j; to_timers = rest }))) grown
-          ∙ ap (λ o. spread_ticks o (world_in (record s { timers = s.timers ++ e ∷ []; to_timers = rest }))) puts_are
-          ∙ ap (timers_took (setting_in s) (world_in s)) (sym first);
-    })

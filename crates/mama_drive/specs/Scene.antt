@@ -194,13 +194,3 @@ rested k s = record s { clients = map (rested_stand k) s.clients; senders = map 
 pub record IsPlayed (s : Scene) : Type 0 where
   pub clients : list_all (λ (c : Stand). c.over) s.clients ≡ true
   pub publishers : list_all (λ (p : Sender). p.over) s.senders ≡ true
-
--- Some of the bridge's events are on their lanes, and these are left: with them the world will be what it is to be.
-pub record Spreads (old new : Scene) (all left : List BridgePut) : Type 0 where
-  pub moves : Moves old new (world_in new)
-  pub whole : spread (setting_in old) left (world_in new) ≡ spread (setting_in old) all (world_in old)
-
--- the same of the timer service's events
-pub record Ticks (old new : Scene) (all left : List (ℕ × QueueNote)) : Type 0 where
-  pub moves : Moves old new (world_in new)
-  pub whole : spread_ticks left (world_in new) ≡ spread_ticks all (world_in old)

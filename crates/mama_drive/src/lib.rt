@@ -2,11 +2,17 @@
 //!
 //! A client or a publisher moves by its lines; every other actor moves by taking the first event of its lane. After
 //! each step of a client or a publisher everything is drained, so that no event waits when the next step begins.
+//!
+//! A turn of an actor takes the memory that it needs before anything changes that a reader of the run can see: what the
+//! actor puts is held by the run ([`held`]) until there is room for it on its lanes.
 #![tactic(auto)]
 
+mod held;
 mod playing;
 mod recording;
+mod resting;
 mod rounds;
+mod run;
 mod starting;
 mod system;
 

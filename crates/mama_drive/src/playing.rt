@@ -2,7 +2,7 @@ ghost use Rattle.std.specs.Prelude.{IfOk};
 ghost use Rattle.mama_rounds.specs.Round.{IsRound};
 ghost use Rattle.mama_seats.specs.Moments.{AreHeard};
 
-use crate::system::System;
+use crate::run::Run;
 use mama_edge::Clock;
 use mama_memory::OutOfMemory;
 use mama_record::RunRecord;
@@ -22,7 +22,7 @@ pub fn serial<C: Clock>(
     ensures clock { IfOk result (λ run. AreHeard (C.left clock.old) (C.left clock.new) script.now.clients run.clients) }
 {
     let plans = plans_of(alloc, script)?;
-    let mut system = System::new(alloc, script, &plans)?;
-    system.play(clock)?;
-    system.into_record()
+    let mut driver = Run::new(alloc, script, &plans)?;
+    driver.play(clock)?;
+    driver.into_record()
 }

@@ -7,6 +7,7 @@ ghost use Rattle.mama_queue_seat.specs.Server.{Server};
 ghost use Rattle.mama_drive.specs.Scene.{journal_in, entries_in, objects_in};
 ghost use Rattle.mama_drive.specs.Record.{read_in, recorded, calls_by, image_by, images_by, journal_at};
 
+use crate::run::Run;
 use crate::system::System;
 use mama_event::{CallNote, ImageHead, ObjectId, PublisherEntry, QueueNote, SubId};
 use mama_memory::OutOfMemory;
@@ -16,9 +17,19 @@ use mama_record::RunRecord;
 use mama_seats::{ClientSeat, PublisherSeat};
 use std::alloc::Global;
 
-impl<'a> System<'a> {
+impl<'a> Run<'a> {
     /// The record of what was done.
     pub fn into_record(self) -> Result<RunRecord, OutOfMemory>
+        ensures { IfOk result (λ run. run ≡ recorded self.entry) }
+    {
+        let Run { system, held: _ } = self;
+        system.into_record()
+    }
+}
+
+impl<'a> System<'a> {
+    /// The record of what was done.
+    fn into_record(self) -> Result<RunRecord, OutOfMemory>
         ensures { IfOk result (λ run. run ≡ recorded self.entry) }
     {
         let System {

@@ -1,16 +1,14 @@
-ghost use Rattle.std.specs.Prelude.{◌≡◌, ◌<◌, ◌||◌, nat_le, length, map, true, OnOk};
-ghost use Rattle.std.specs.List.{list_all};
+ghost use Rattle.std.specs.Prelude.{◌≡◌, ◌<◌, List, ℕ, Option, length, true, false, OnOk};
 ghost use Rattle.mama_event.specs.Ports.{clients_of, publishers_of};
 ghost use Rattle.mama_rounds.specs.Stage as stage;
 ghost use Rattle.mama_drive.specs.Heard.{Hears, StepRead, StepsRead, RoundsRead, HearsRounds};
-ghost use Rattle.mama_drive.specs.Scene.{Advances, SteppedOut, SteppedAll, Drains, Rounds, Plays, CanRest, rested_stand, rested_sender, IsPlayed};
+ghost use Rattle.mama_drive.specs.Scene.{Advances, SteppedOut, SteppedAll, Drains, Rounds, Plays, IsPlayed};
 
-use crate::system::{System, append_to_bridge, count_of, port_from};
+use crate::run::Run;
 use mama_edge::Clock;
 use mama_memory::OutOfMemory;
-use mama_seats::{ClientSeat, PublisherSeat};
 
-impl<'a> System<'a> {
+impl<'a> Run<'a> {
     /// Passes, until nothing waits.
     fn drain(&mut self) -> Result<(), OutOfMemory>
         ensures { OnOk result (Drains self.old self.new) }
@@ -30,9 +28,7 @@ impl<'a> System<'a> {
         ensures step { OnOk result (Advances (SteppedOut stage.client_step number) self.old self.new) }
         ensures clock { OnOk result (Hears (StepRead number) (C.left clock.old) (C.left clock.new) self.old.clients self.new.clients) }
     {
-        let seat = &mut self.clients[number as usize];
-        let puts = seat.step(clock)?;
-        self.put_all(number, number, puts)?;
+        self.client_turn(number, clock)?;
         self.drain()
     }
 
@@ -41,7 +37,7 @@ impl<'a> System<'a> {
         ensures steps { OnOk result (Advances (SteppedAll stage.client_step (clients_of self.old.shape)) self.old self.new) }
         ensures clock { OnOk result (Hears (StepsRead (length self.old.clients)) (C.left clock.old) (C.left clock.new) self.old.clients self.new.clients) }
     {
-        let count = count_of(self.clients.len())?;
+        let count = self.client_count()?;
         for number in 0..count {
             self.client_step(number, clock)?;
         }
@@ -54,14 +50,7 @@ impl<'a> System<'a> {
         ensures step { OnOk result (Advances (SteppedOut stage.publisher_step number) self.old self.new) }
         ensures clients { OnOk result (self.new.clients ≡ self.old.clients) }
     {
-        let port = port_from(self.shape.clients, number)?;
-        // A step leaves the lane as it is, and so the mark, but nothing is known of it where no memory is found.
-        let waits = self.publishers_wait;
-        self.publishers_wait = true;
-        let seat = &mut self.publishers[number as usize];
-        let puts = seat.step()?;
-        append_to_bridge(&mut self.to_bridge, port, puts)?;
-        self.publishers_wait = waits;
+        self.sender_turn(number)?;
         self.drain()
     }
 
@@ -70,7 +59,7 @@ impl<'a> System<'a> {
         ensures steps { OnOk result (Advances (SteppedAll stage.publisher_step (publishers_of self.old.shape)) self.old self.new) }
         ensures clients { OnOk result (self.new.clients ≡ self.old.clients) }
     {
-        let count = count_of(self.publishers.len())?;
+        let count = self.publisher_count()?;
         for number in 0..count {
             self.publisher_step(number)?;
         }
@@ -86,50 +75,32 @@ impl<'a> System<'a> {
         self.publisher_steps()
     }
 
-    /// Whether every client and every publisher has made all its steps.
+    /// Whether every client and every publisher has made all its steps, and nothing is held.
     fn is_played(&self) -> bool
         ensures { result ≡ true → IsPlayed self.now }
     {
-        are_clients_over(self.clients.as_slice()) && are_publishers_over(self.publishers.as_slice())
+        self.held.is_empty() && self.system.is_played()
     }
 
-    /// How many rounds are surely left in which every client and every publisher pauses.
-    fn pause(&self) -> u32 {
-        let mut least = u32::MAX;
-        for seat in &self.clients {
-            if let Some(pause) = seat.pause() {
-                least = least.min(pause);
-            }
-        }
-        for seat in &self.publishers {
-            if let Some(pause) = seat.pause() {
-                least = least.min(pause);
-            }
-        }
-        least
-    }
-
-    /// Whether nothing happens in as many rounds.
-    fn can_rest(&self, rounds: u32) -> bool
-        ensures { result ≡ true → CanRest rounds self.now }
+    /// Makes at once all rounds in which every client and every publisher pauses, if nothing else happens in them. Says
+    /// whether there were any.
+    fn rests(&mut self) -> bool
+        ensures rounds { result ≡ true → Plays self.old self.new }
+        ensures clock { result ≡ true → (o : Option (List ℕ)) → HearsRounds o o self.old.clients self.new.clients }
+        ensures same { result ≡ false → self.new ≡ self.old }
     {
-        if !self.is_quiet() {
+        if !self.held.is_empty() {
             return false;
         }
-        if !are_clients_idle(self.clients.as_slice(), rounds) {
+        let rounds = self.system.pause();
+        if rounds == 0 {
             return false;
         }
-        are_publishers_idle(self.publishers.as_slice(), rounds)
-    }
-
-    /// Makes as many rounds, in which nothing happens.
-    fn rest(&mut self, rounds: u32)
-        requires { CanRest rounds self.old }
-        ensures rounds { Advances (Rounds rounds) self.old self.new }
-        ensures clients { self.new.clients ≡ map (rested_stand rounds) self.old.clients }
-    {
-        rest_clients(&mut self.clients, rounds);
-        rest_publishers(&mut self.publishers, rounds);
+        if !self.system.can_rest(rounds) {
+            return false;
+        }
+        self.system.rest(rounds);
+        true
     }
 
     /// Makes the next round, or at once all those in which every client and every publisher pauses.
@@ -137,9 +108,7 @@ impl<'a> System<'a> {
         ensures rounds { OnOk result (Plays self.old self.new) }
         ensures clock { OnOk result (HearsRounds (C.left clock.old) (C.left clock.new) self.old.clients self.new.clients) }
     {
-        let rounds = self.pause();
-        if rounds > 0 && self.can_rest(rounds) {
-            self.rest(rounds);
+        if self.rests() {
             return Ok(());
         }
         self.round(clock)
@@ -159,50 +128,4 @@ impl<'a> System<'a> {
         }
         Err(OutOfMemory)
     }
-}
-
-/// Whether in as many steps no client does anything.
-fn are_clients_idle(seats: &[ClientSeat], steps: u32) -> bool
-    ensures { result ≡ list_all (λ seat. seat.over || nat_le steps seat.pause) seats.now }
-{
-    seats.iter().all(|seat| seat.is_idle(steps))
-}
-
-/// Whether in as many steps no publisher does anything.
-fn are_publishers_idle(seats: &[PublisherSeat], steps: u32) -> bool
-    ensures { result ≡ list_all (λ seat. seat.over || nat_le steps seat.pause) seats.now }
-{
-    seats.iter().all(|seat| seat.is_idle(steps))
-}
-
-/// Each client passes over as many steps of its pause.
-fn rest_clients(seats: &mut Vec<ClientSeat>, steps: u32)
-    ensures { seats.new.items ≡ map (rested_stand steps) seats.old.items }
-{
-    for i in 0..seats.len() {
-        seats[i].rest(steps);
-    }
-}
-
-/// Each publisher passes over as many steps of its pause.
-fn rest_publishers(seats: &mut Vec<PublisherSeat>, steps: u32)
-    ensures { seats.new.items ≡ map (rested_sender steps) seats.old.items }
-{
-    for i in 0..seats.len() {
-        seats[i].rest(steps);
-    }
-}
-
-/// Whether every client has made all its steps.
-fn are_clients_over(seats: &[ClientSeat]) -> bool
-    ensures { result ≡ list_all (λ seat. seat.over) seats.now }
-{
-    seats.iter().all(|seat| seat.is_over())
-}
-
-/// Whether every publisher has made all its steps.
-fn are_publishers_over(seats: &[PublisherSeat]) -> bool
-    ensures { result ≡ list_all (λ seat. seat.over) seats.now }
-{
-    seats.iter().all(|seat| seat.is_over())
 }

@@ -1,6 +1,8 @@
 ghost use Rattle.std.specs.Prelude.{◌≡◌, IfOk};
 ghost use Rattle.mama_drive.specs.Start.{stands_from, senders_from, new_servers, started};
 
+use crate::held::Held;
+use crate::run::Run;
 use crate::system::{System, count_of};
 use mama_bridge::MemoryBridge;
 use mama_memory::OutOfMemory;
@@ -11,13 +13,21 @@ use mama_timer::Timers;
 use std::alloc::Global;
 use std::collections::VecDeque;
 
+impl<'a> Run<'a> {
+    /// The run of a script, in which nothing is done yet. These are the plans of its objects.
+    pub fn new(alloc: Global, script: &'a Script, plans: &'a Plans) -> Result<Run<'a>, OutOfMemory>
+        ensures { IfOk result (λ run. run ≡ started plans.now script.now) }
+    {
+        Ok(Run {
+            system: System::new(alloc, script, plans)?,
+            held: Held::Nothing,
+        })
+    }
+}
+
 impl<'a> System<'a> {
     /// All actors of a script, which have done nothing yet. These are the plans of its objects.
-    pub fn new(
-        alloc: Global,
-        script: &'a Script,
-        plans: &'a Plans,
-    ) -> Result<System<'a>, OutOfMemory>
+    fn new(alloc: Global, script: &'a Script, plans: &'a Plans) -> Result<System<'a>, OutOfMemory>
         ensures { IfOk result (λ system. system ≡ started plans.now script.now) }
     {
         let shape = script.shape();

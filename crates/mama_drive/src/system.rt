@@ -1,25 +1,27 @@
-ghost use Rattle.std.specs.Prelude.{◌≡◌, ◌+◌, ◌<◌, List, [], ◌∷◌, ◌++◌, map, length, true, IfOk, OnOk};
-ghost use Rattle.mama_journal.specs.Lane.{from_port};
+ghost use Rattle.std.specs.Prelude.{◌≡◌, ◌+◌, ◌<◌, List, [], ◌∷◌, ◌++◌, map, length, true, IfOk, IfErr, OnOk, OnErr};
+ghost use Rattle.std.specs.List.{list_all};
 ghost use Rattle.mama_event.specs.ToBridge.{note_of};
 ghost use Rattle.mama_event.specs.ToPublisher.{note_of as publisher_note_of};
 ghost use Rattle.mama_event.specs.ToQueue.{note_of as queue_note_of};
 ghost use Rattle.mama_event.specs.ToTimers.{note_of as timers_note_of};
-ghost use Rattle.mama_event.specs.Ports.{publishers_of, queues_of, timers_port_of_bridge, bridge_port_of_queue};
+ghost use Rattle.mama_event.specs.Ports.{clients_of, publishers_of, queues_of, timers_port_of_bridge, bridge_port_of_queue};
 ghost use Rattle.mama_bridge.specs.Outs.{put_note};
 ghost use Rattle.mama_timer.specs.Out.{out_note};
 ghost use Rattle.mama_rounds.specs.World as world;
 ghost use Rattle.mama_rounds.specs.World.{is_empty};
-ghost use Rattle.mama_rounds.specs.Client.{bridge_part, timers_part};
-ghost use Rattle.std.specs.List.{flat_map, list_all};
-ghost use Rattle.mama_queue_seat.specs.Put.{own_tag, notes_of};
-ghost use Rattle.mama_drive.specs.Entry.{bridge_entry, timers_entry};
-ghost use Rattle.mama_drive.specs.Scene.{setting_in, world_in, Moves, spread, spread_one, spread_ticks, tick_one, put_on};
+ghost use Rattle.mama_rounds.specs.Stage as stage;
+ghost use Rattle.mama_queue_seat.specs.Put.{own_tag, note_of as out_note_of};
+ghost use Rattle.mama_drive.specs.Heard.{Hears, StepRead};
+ghost use Rattle.mama_drive.specs.Held.{changed_at, with_note, with_event, lay_put, lay_tick, lay_event, lay_out, seen};
+ghost use Rattle.mama_drive.specs.Scene.{setting_in, world_in, lane_in, waiting_in, Moves, Advances, Stepped};
 
+use crate::held::{Held, Waiting};
 use mama_bridge::{BridgeOut, MemoryBridge};
+use mama_edge::Clock;
 use mama_event::{ObjectId, Shape, ToBridge, ToPublisher, ToQueue, ToTimers};
 use mama_link::Outbox;
 use mama_memory::OutOfMemory;
-use mama_queue_seat::{Plans, Put, QueueSeat};
+use mama_queue_seat::{Plans, QueueOut, QueueSeat};
 use mama_seats::{ClientSeat, PublisherSeat};
 use mama_timer::{TimerOut, Timers};
 use std::alloc::Global;
@@ -66,255 +68,286 @@ pub(crate) fn port_from(base: u32, number: u32) -> Result<u32, OutOfMemory>
     }
 }
 
-/// Puts events of a port at the end of the bridge's lane.
-pub(crate) fn append_to_bridge(
-    lane: &mut VecDeque<(u32, ToBridge<ObjectId>)>,
-    port: u32,
-    events: Outbox<ToBridge<ObjectId>>,
-) -> Result<(), OutOfMemory>
-    ensures { OnOk result (map bridge_entry lane.new.items ≡ map bridge_entry lane.old.items ++ from_port port (map (note_of own_tag) events.items)) }
-{
-    let mut events = events;
-    while let Some(event) = events.take_first() {
-        lane.push_back((port, event))?;
-    }
-    Ok(())
-}
-
-/// Puts what a client or a queue puts at the end of the lanes of the bridge and of the timer service, by its ports.
-fn append_puts(
-    to_bridge: &mut VecDeque<(u32, ToBridge<ObjectId>)>,
-    to_timers: &mut VecDeque<(u32, ToTimers<ObjectId>)>,
-    bridge_port: u32,
-    timers_port: u32,
-    puts: Outbox<Put>,
-) -> Result<(), OutOfMemory>
-    ensures bridge { OnOk result (map bridge_entry to_bridge.new.items ≡ map bridge_entry to_bridge.old.items ++ from_port bridge_port (flat_map bridge_part (notes_of puts.items))) }
-    ensures timers { OnOk result (map timers_entry to_timers.new.items ≡ map timers_entry to_timers.old.items ++ from_port timers_port (flat_map timers_part (notes_of puts.items))) }
-{
-    let mut puts = puts;
-    while let Some(put) = puts.take_first() {
-        match put {
-            Put::Bridge(event) => to_bridge.push_back((bridge_port, event))?,
-            Put::Timers(event) => to_timers.push_back((timers_port, event))?,
-        }
-    }
-    Ok(())
-}
-
 impl<'a> System<'a> {
-    /// Puts one of the bridge's events on its lane.
-    fn put_one(&mut self, event: BridgeOut<ObjectId>) -> Result<(), OutOfMemory>
-        ensures { OnOk result (Moves self.old self.new (spread_one (setting_in self.old) (put_note own_tag event) (world_in self.old))) }
+    /// Puts one of the bridge's events on its lane, or gives it back.
+    pub(crate) fn put_one(&mut self, event: BridgeOut<ObjectId>) -> Result<(), BridgeOut<ObjectId>>
+        ensures lane { OnOk result (self.new ≡ lay_put (put_note own_tag event) self.old) }
+        ensures back { IfErr result (λ given. given ≡ event) }
+        ensures err { OnErr result (self.new ≡ self.old) }
     {
         match event {
-            BridgeOut::Publisher(number, event) => self.put_to_publisher(number, event),
-            BridgeOut::Queue(number, event) => self.put_to_queue(number, 0, event),
-            BridgeOut::Timers(event) => self.put_to_timers(event),
+            BridgeOut::Publisher(number, event) => match self.put_to_publisher(number, event) {
+                Ok(()) => Ok(()),
+                Err(event) => Err(BridgeOut::Publisher(number, event)),
+            },
+            BridgeOut::Queue(number, event) => match self.put_to_queue(number, 0, event) {
+                Ok(()) => Ok(()),
+                Err(event) => Err(BridgeOut::Queue(number, event)),
+            },
+            BridgeOut::Timers(event) => match self.put_to_timers(event) {
+                Ok(()) => Ok(()),
+                Err(event) => Err(BridgeOut::Timers(event)),
+            },
         }
     }
 
-    fn put_to_publisher(&mut self, number: u32, event: ToPublisher) -> Result<(), OutOfMemory>
-        ensures { OnOk result (Moves self.old self.new (record (world_in self.old) { to_publishers = put_on number (publisher_note_of event) (world_in self.old).to_publishers })) }
+    /// Puts an event on the lane of the publisher of this number, if there is one.
+    fn put_to_publisher(&mut self, number: u32, event: ToPublisher) -> Result<(), ToPublisher>
+        ensures lane { OnOk result (self.new ≡ record self.old { senders = changed_at (with_note (publisher_note_of event)) number self.old.senders }) }
+        ensures back { IfErr result (λ given. given ≡ event) }
+        ensures err { OnErr result (self.new ≡ self.old) }
     {
-        if (number as usize) < self.publishers.len() {
-            self.publishers_wait = true;
-            let seat = &mut self.publishers[number as usize];
-            seat.put(event)?;
+        if (number as usize) >= self.publishers.len() {
+            return Ok(());
         }
-        Ok(())
+        self.publishers_wait = true;
+        let seat = &mut self.publishers[number as usize];
+        seat.put(event)
     }
 
+    /// Puts an event of this port on the lane of the queue of this number, if there is one.
     fn put_to_queue(
         &mut self,
         number: u32,
         port: u32,
         event: ToQueue<ObjectId>,
-    ) -> Result<(), OutOfMemory>
-        ensures { OnOk result (Moves self.old self.new (record (world_in self.old) { to_queues = put_on number (port, queue_note_of own_tag event) (world_in self.old).to_queues })) }
+    ) -> Result<(), ToQueue<ObjectId>>
+        ensures lane { OnOk result (self.new ≡ record self.old { servers = changed_at (with_event (port, queue_note_of own_tag event)) number self.old.servers }) }
+        ensures back { IfErr result (λ given. given ≡ event) }
+        ensures err { OnErr result (self.new ≡ self.old) }
     {
-        if (number as usize) < self.queues.len() {
-            self.queues_wait = true;
-            let seat = &mut self.queues[number as usize];
-            seat.put(port, event)?;
+        if (number as usize) >= self.queues.len() {
+            return Ok(());
         }
-        Ok(())
+        self.queues_wait = true;
+        let seat = &mut self.queues[number as usize];
+        seat.put(port, event)
     }
 
-    fn put_to_timers(&mut self, event: ToTimers<ObjectId>) -> Result<(), OutOfMemory>
-        ensures { OnOk result (Moves self.old self.new (record (world_in self.old) { to_timers = (world_in self.old).to_timers ++ (timers_port_of_bridge self.old.shape, timers_note_of own_tag event) ∷ [] })) }
+    /// Puts one of the bridge's events on the timer service's lane.
+    fn put_to_timers(&mut self, event: ToTimers<ObjectId>) -> Result<(), ToTimers<ObjectId>>
+        ensures lane { OnOk result (self.new ≡ record self.old { to_timers = self.old.to_timers ++ (timers_port_of_bridge self.old.shape, timers_note_of own_tag event) ∷ [] }) }
+        ensures back { IfErr result (λ given. given ≡ event) }
+        ensures err { OnErr result (self.new ≡ self.old) }
     {
-        let port = port_from(self.shape.clients, self.shape.bounds.queues)?;
-        self.to_timers.push_back((port, event))?;
-        Ok(())
-    }
-
-    /// Puts the bridge's events on their lanes, in order.
-    fn spread(&mut self, events: Outbox<BridgeOut<ObjectId>>) -> Result<(), OutOfMemory>
-        ensures { OnOk result (Moves self.old self.new (spread (setting_in self.old) (map (put_note own_tag) events.items) (world_in self.old))) }
-    {
-        let mut events = events;
-        while let Some(event) = events.take_first() {
-            self.put_one(event)?;
+        match port_from(self.shape.clients, self.shape.bounds.queues) {
+            Ok(port) => push_or_back(&mut self.to_timers, port, event),
+            Err(_) => Err(event),
         }
-        Ok(())
     }
 
-    /// The bridge takes the first event of its lane, if there is one.
-    fn bridge_turn(&mut self) -> Result<(), OutOfMemory>
-        ensures { OnOk result (Moves self.old self.new (world.bridge_turn (setting_in self.old) (world_in self.old))) }
+    /// Puts one of the timer service's events on its lane, or gives it back.
+    pub(crate) fn put_tick(&mut self, out: TimerOut<ObjectId>) -> Result<(), TimerOut<ObjectId>>
+        ensures lane { OnOk result (self.new ≡ lay_tick (out_note own_tag out) self.old) }
+        ensures back { IfErr result (λ given. given ≡ out) }
+        ensures err { OnErr result (self.new ≡ self.old) }
+    {
+        let TimerOut { queue, event } = out;
+        match self.put_to_queue(queue, 1, event) {
+            Ok(()) => Ok(()),
+            Err(event) => Err(TimerOut { queue, event }),
+        }
+    }
+
+    /// Puts an event of a port on the bridge's lane, or gives it back.
+    pub(crate) fn put_to_bridge(
+        &mut self,
+        port: u32,
+        event: ToBridge<ObjectId>,
+    ) -> Result<(), ToBridge<ObjectId>>
+        ensures lane { OnOk result (self.new ≡ lay_event port (note_of own_tag event) self.old) }
+        ensures back { IfErr result (λ given. given ≡ event) }
+        ensures err { OnErr result (self.new ≡ self.old) }
+    {
+        push_or_back(&mut self.to_bridge, port, event)
+    }
+
+    /// Puts what a client or a queue puts on its lane, by its port of that lane, or gives it back.
+    pub(crate) fn put_out(
+        &mut self,
+        bridge_port: u32,
+        timers_port: u32,
+        out: QueueOut<ObjectId>,
+    ) -> Result<(), QueueOut<ObjectId>>
+        ensures lane { OnOk result (self.new ≡ lay_out bridge_port timers_port (out_note_of out) self.old) }
+        ensures back { IfErr result (λ given. given ≡ out) }
+        ensures err { OnErr result (self.new ≡ self.old) }
+    {
+        match out {
+            QueueOut::Bridge(event) => match push_or_back(&mut self.to_bridge, bridge_port, event) {
+                Ok(()) => Ok(()),
+                Err(event) => Err(QueueOut::Bridge(event)),
+            },
+            QueueOut::Timers(event) => match push_or_back(&mut self.to_timers, timers_port, event) {
+                Ok(()) => Ok(()),
+                Err(event) => Err(QueueOut::Timers(event)),
+            },
+        }
+    }
+
+    /// The bridge takes the first event of its lane, if there is one, and gives what it puts. Where no memory is found
+    /// the event stays the first of the lane.
+    pub(crate) fn bridge_turn(&mut self) -> Result<Held, OutOfMemory>
+        ensures turn { IfOk result (λ held. Moves self.old (seen held self.new) (world.bridge_turn (setting_in self.old) (world_in self.old))) }
+        ensures err { OnErr result (self.new ≡ self.old) }
     {
         match self.to_bridge.pop_front() {
             Some((port, event)) => {
                 let mut out = Outbox::new(self.alloc);
-                if self.bridge.take(port, event, &mut out).is_err() {
-                    return Err(OutOfMemory);
+                match self.bridge.take(port, event, &mut out) {
+                    Ok(_) => Ok(Held::Routed(Waiting::all(out))),
+                    Err(event) => {
+                        self.to_bridge.push_front_reserved((port, event));
+                        Err(OutOfMemory)
+                    }
                 }
-                self.spread(out)
             }
-            None => Ok(()),
+            None => Ok(Held::Nothing),
         }
     }
 
-    /// Puts the timer service's events on the queues' lanes, in order.
-    fn spread_ticks(&mut self, events: Outbox<TimerOut<ObjectId>>) -> Result<(), OutOfMemory>
-        ensures { OnOk result (Moves self.old self.new (spread_ticks (map (out_note own_tag) events.items) (world_in self.old))) }
-    {
-        let mut events = events;
-        while let Some(out) = events.take_first() {
-            self.put_tick(out)?;
-        }
-        Ok(())
-    }
-
-    /// Puts one of the timer service's events on its lane.
-    fn put_tick(&mut self, out: TimerOut<ObjectId>) -> Result<(), OutOfMemory>
-        ensures { OnOk result (Moves self.old self.new (tick_one (out_note own_tag out) (world_in self.old))) }
-    {
-        let TimerOut { queue, event } = out;
-        self.put_to_queue(queue, 1, event)
-    }
-
-    /// The timer service takes the first event of its lane, if there is one.
-    fn timers_turn(&mut self) -> Result<(), OutOfMemory>
-        ensures { OnOk result (Moves self.old self.new (world.timers_turn (setting_in self.old) (world_in self.old))) }
+    /// The timer service takes the first event of its lane, in the same way.
+    pub(crate) fn timers_turn(&mut self) -> Result<Held, OutOfMemory>
+        ensures turn { IfOk result (λ held. Moves self.old (seen held self.new) (world.timers_turn (setting_in self.old) (world_in self.old))) }
+        ensures err { OnErr result (self.new ≡ self.old) }
     {
         match self.to_timers.pop_front() {
             Some((port, event)) => {
                 let mut out = Outbox::new(self.alloc);
-                if self.timers.take(port, event, &mut out).is_err() {
-                    return Err(OutOfMemory);
+                match self.timers.take(port, event, &mut out) {
+                    Ok(_) => Ok(Held::Ticked(Waiting::all(out))),
+                    Err(event) => {
+                        self.to_timers.push_front_reserved((port, event));
+                        Err(OutOfMemory)
+                    }
                 }
-                self.spread_ticks(out)
             }
-            None => Ok(()),
+            None => Ok(Held::Nothing),
         }
     }
 
-    /// A publisher takes the first event of its lane, if there is one.
-    fn publisher_turn(&mut self, number: u32) -> Result<(), OutOfMemory>
+    /// A publisher takes the first event of its lane, in the same way.
+    pub(crate) fn publisher_turn(&mut self, number: u32) -> Result<Held, OutOfMemory>
         requires { number < length self.old.senders }
-        ensures { OnOk result (Moves self.old self.new (world.publisher_turn (setting_in self.old) number (world_in self.old))) }
+        ensures turn { IfOk result (λ held. Moves self.old (seen held self.new) (world.publisher_turn (setting_in self.old) number (world_in self.old))) }
+        ensures err { OnErr result (self.new ≡ self.old) }
     {
         let port = port_from(self.shape.clients, number)?;
         self.publishers_wait = true;
         let seat = &mut self.publishers[number as usize];
         let out = seat.turn()?;
-        append_to_bridge(&mut self.to_bridge, port, out)?;
-        Ok(())
+        Ok(Held::Sent {
+            port,
+            events: Waiting::all(out),
+        })
     }
 
-    /// Each publisher takes the first event of its lane, if there is one.
-    fn publisher_turns(&mut self) -> Result<(), OutOfMemory>
-        ensures { OnOk result (Moves self.old self.new (world.in_turn (world.publisher_turn (setting_in self.old)) (publishers_of self.old.shape) (world_in self.old))) }
-    {
-        if !self.publishers_wait {
-            return Ok(());
-        }
-        let count = count_of(self.publishers.len())?;
-        for number in 0..count {
-            self.publisher_turn(number)?;
-        }
-        self.look_at_publishers();
-        Ok(())
-    }
-
-    /// Marks whether events wait on the lane of some publisher.
-    fn look_at_publishers(&mut self)
-        ensures { self.new ≡ self.old }
-    {
-        self.publishers_wait = !are_publishers_quiet(self.publishers.as_slice());
-    }
-
-    /// What a client or a queue puts goes at the end of the lanes of the bridge and of the timer service.
-    pub(crate) fn put_all(
-        &mut self,
-        bridge_port: u32,
-        timers_port: u32,
-        puts: Outbox<Put>,
-    ) -> Result<(), OutOfMemory>
-        ensures { OnOk result (Moves self.old self.new (world.with_puts bridge_port timers_port (notes_of puts.items) (world_in self.old))) }
-    {
-        append_puts(
-            &mut self.to_bridge,
-            &mut self.to_timers,
-            bridge_port,
-            timers_port,
-            puts,
-        )?;
-        Ok(())
-    }
-
-    /// A queue takes the first event of its lane, if there is one, and makes its callbacks.
-    fn queue_turn(&mut self, number: u32) -> Result<(), OutOfMemory>
+    /// A queue takes the first event of its lane, in the same way, and makes its callbacks.
+    pub(crate) fn queue_turn(&mut self, number: u32) -> Result<Held, OutOfMemory>
         requires { number < length self.old.servers }
-        ensures { OnOk result (Moves self.old self.new (world.queue_turn (setting_in self.old) number (world_in self.old))) }
+        ensures turn { IfOk result (λ held. Moves self.old (seen held self.new) (world.queue_turn (setting_in self.old) number (world_in self.old))) }
+        ensures err { OnErr result (self.new ≡ self.old) }
     {
         let timers_port = port_from(self.shape.clients, number)?;
         let bridge_port = port_of_queue(self.shape, number)?;
         self.queues_wait = true;
         let seat = &mut self.queues[number as usize];
-        let puts = seat.turn()?;
-        append_puts(
-            &mut self.to_bridge,
-            &mut self.to_timers,
+        let outs = seat.turn()?;
+        Ok(Held::Given {
             bridge_port,
             timers_port,
-            puts,
-        )?;
-        Ok(())
+            outs: Waiting::all(outs),
+        })
     }
 
-    /// Each queue takes the first event of its lane, if there is one.
-    fn queue_turns(&mut self) -> Result<(), OutOfMemory>
-        ensures { OnOk result (Moves self.old self.new (world.in_turn (world.queue_turn (setting_in self.old)) (queues_of self.old.shape) (world_in self.old))) }
+    /// A client makes its next step, if it has one, and gives what it puts. Where no memory is found it has made no
+    /// step, and the clock was not read.
+    pub(crate) fn client_turn<C: Clock>(
+        &mut self,
+        number: u32,
+        clock: &mut C,
+    ) -> Result<Held, OutOfMemory>
+        requires { number < length self.old.clients }
+        ensures step { IfOk result (λ held. Advances (Stepped stage.client_step number) self.old (seen held self.new)) }
+        ensures clock { IfOk result (λ held. Hears (StepRead number) (C.left clock.old) (C.left clock.new) self.old.clients (seen held self.new).clients) }
+        ensures err { OnErr result (self.new ≡ self.old) }
+        ensures clock_err { OnErr result (C.left clock.new ≡ C.left clock.old) }
     {
-        if !self.queues_wait {
-            return Ok(());
-        }
-        let count = count_of(self.queues.len())?;
-        for number in 0..count {
-            self.queue_turn(number)?;
-        }
-        self.look_at_queues();
-        Ok(())
+        let seat = &mut self.clients[number as usize];
+        let outs = seat.step(clock)?;
+        Ok(Held::Given {
+            bridge_port: number,
+            timers_port: number,
+            outs: Waiting::all(outs),
+        })
+    }
+
+    /// A publisher makes its next step, if it has one, and gives what it puts.
+    pub(crate) fn sender_turn(&mut self, number: u32) -> Result<Held, OutOfMemory>
+        requires { number < length self.old.senders }
+        ensures step { IfOk result (λ held. Advances (Stepped stage.publisher_step number) self.old (seen held self.new)) }
+        ensures clients { IfOk result (λ held. (seen held self.new).clients ≡ self.old.clients) }
+        ensures err { OnErr result (self.new ≡ self.old) }
+    {
+        let port = port_from(self.shape.clients, number)?;
+        let seat = &mut self.publishers[number as usize];
+        let out = seat.step()?;
+        Ok(Held::Sent {
+            port,
+            events: Waiting::all(out),
+        })
+    }
+
+    /// How many clients there are.
+    pub(crate) fn client_count(&self) -> Result<u32, OutOfMemory>
+        ensures number { IfOk result (λ count. count ≡ length self.now.clients) }
+        ensures shape { IfOk result (λ count. count ≡ clients_of self.now.shape) }
+    {
+        count_of(self.clients.len())
+    }
+
+    /// How many publishers there are.
+    pub(crate) fn publisher_count(&self) -> Result<u32, OutOfMemory>
+        ensures number { IfOk result (λ count. count ≡ length self.now.senders) }
+        ensures shape { IfOk result (λ count. count ≡ publishers_of self.now.shape) }
+    {
+        count_of(self.publishers.len())
+    }
+
+    /// How many queues there are.
+    pub(crate) fn queue_count(&self) -> Result<u32, OutOfMemory>
+        ensures number { IfOk result (λ count. count ≡ length self.now.servers) }
+        ensures shape { IfOk result (λ count. count ≡ queues_of self.now.shape) }
+    {
+        count_of(self.queues.len())
+    }
+
+    /// Marks whether events wait on the lane of some publisher.
+    pub(crate) fn look_at_publishers(&mut self)
+        ensures { self.new ≡ self.old }
+    {
+        self.publishers_wait = !are_publishers_quiet(self.publishers.as_slice());
     }
 
     /// Marks whether events wait on the lane of some queue.
-    fn look_at_queues(&mut self)
+    pub(crate) fn look_at_queues(&mut self)
         ensures { self.new ≡ self.old }
     {
         self.queues_wait = !are_queues_quiet(self.queues.as_slice());
     }
 
-    /// One pass: the bridge, the timer service, each publisher and each queue take one event, if there is one.
-    pub(crate) fn pass(&mut self) -> Result<(), OutOfMemory>
-        ensures { OnOk result (Moves self.old self.new (world.pass (setting_in self.old) (world_in self.old))) }
+    /// Whether surely nothing waits on the lane of any publisher, by the mark.
+    pub(crate) fn are_publishers_idle(&self) -> bool
+        ensures { result ≡ true → list_all is_empty (map lane_in self.now.senders) ≡ true }
     {
-        self.bridge_turn()?;
-        self.timers_turn()?;
-        self.publisher_turns()?;
-        self.queue_turns()
+        !self.publishers_wait
+    }
+
+    /// Whether surely nothing waits on the lane of any queue, by the mark.
+    pub(crate) fn are_queues_idle(&self) -> bool
+        ensures { result ≡ true → list_all is_empty (map waiting_in self.now.servers) ≡ true }
+    {
+        !self.queues_wait
     }
 
     /// Whether nothing waits on any lane.
@@ -331,6 +364,21 @@ impl<'a> System<'a> {
             return false;
         }
         is_free(&self.to_timers)
+    }
+}
+
+/// Puts an event of a port at the end of a lane, or gives it back.
+fn push_or_back<E>(lane: &mut VecDeque<(u32, E)>, port: u32, event: E) -> Result<(), E>
+    ensures lane { OnOk result (lane.new.items ≡ lane.old.items ++ (port, event) ∷ []) }
+    ensures back { IfErr result (λ given. given ≡ event) }
+    ensures err { OnErr result (lane.new.items ≡ lane.old.items) }
+{
+    match lane.push_back((port, event)) {
+        Ok(()) => Ok(()),
+        Err(failed) => {
+            let (_, event) = failed.value;
+            Err(event)
+        }
     }
 }
 

@@ -6,13 +6,13 @@ use Rattle.mama_drive.proofs.playing.serial.Goals as goal
 
 pub returns-clause-rounds : goal.returns-clause-rounds
 returns-clause-rounds g c = if_ok c.into_record.result
-    (λ run told. is_round c.args.script.now c.in_ok-system.system c.play.new.self run
-    (starts_to c.args.script.now c.in_ok-plans.plans c.in_ok-system.system c.in_ok-plans.ensures c.in_ok-system.ensures)
+    (λ run told. is_round c.args.script.now c.in_ok-driver.driver c.play.new.self run
+    (starts_to c.args.script.now c.in_ok-plans.plans c.in_ok-driver.driver c.in_ok-plans.ensures c.in_ok-driver.ensures)
     c.in_ok-play.ensures.rounds c.in_ok-play.ensures.played told)
     c.into_record.ensures
 
 pub returns-clause-clock : goal.returns-clause-clock
 returns-clause-clock g c = if_ok c.into_record.result
-    (λ run told. run_heard c.args.script.now c.in_ok-plans.plans c.in_ok-system.system c.play.new.self run _ _ c.in_ok-system.ensures
+    (λ run told. run_heard c.args.script.now c.in_ok-plans.plans c.in_ok-driver.driver c.play.new.self run _ _ c.in_ok-driver.ensures
     c.in_ok-play.ensures.rounds c.in_ok-play.ensures.clock c.in_ok-play.ensures.played told)
     c.into_record.ensures

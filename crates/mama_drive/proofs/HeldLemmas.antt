@@ -1,0 +1,176 @@
+-- What is held, and the scene where it lies on its lanes.
+use Rattle.std.proofs.Common.{◌≡◌, ℕ, zero, suc, ◌<◌, ◌≤◌, List, [], ◌∷◌, ◌++◌, map, length, get_or, refl, sym, ◌∙◌, ap, append_assoc, arith, subst}
+use Rattle.std.specs.Prelude.{Option, None, Some}
+use Rattle.std.specs.List.{flat_map}
+use Rattle.std.proofs.Math.ListN.{set}
+use Rattle.mama_journal.specs.Lane.{from_port}
+use Rattle.mama_event.specs.Ports.{queue_port_of_bridge, queue_port_of_timers}
+use Rattle.mama_event.specs.declared.to_bridge.BridgeNote.{BridgeNote}
+use Rattle.mama_event.specs.declared.to_queue.QueueNote.{QueueNote}
+use Rattle.mama_event.specs.ToBridge.{note_of}
+use Rattle.mama_rules.specs.Bridge.{BridgePut, to_publisher, to_queue}
+use Rattle.mama_rules.specs.Bridge as bridge
+use Rattle.mama_queue_rules.specs.Queue.{QueuePut}
+use Rattle.mama_queue_rules.specs.Queue as queue
+use Rattle.mama_rounds.specs.World.{Setting, World}
+use Rattle.mama_rounds.specs.Client.{bridge_part, timers_part}
+use Rattle.mama_bridge.specs.Outs.{put_note}
+use Rattle.mama_timer.specs.Out.{out_note}
+use Rattle.mama_queue_seat.specs.Put.{own_tag, notes_of}
+use Rattle.mama_seats.specs.Sender.{steps_in}
+use Rattle.mama_drive.specs.declared.held.Waiting.{Waiting}
+use Rattle.mama_drive.specs.declared.held.Held.{Held}
+use Rattle.mama_drive.specs.declared.held.Held.TheVariants as held
+use Rattle.mama_drive.specs.Scene.{Scene, Moves, setting_in, world_in, script_in, entries_in, lane_in, journal_in, waiting_in, put_on, spread, spread_one, spread_ticks, tick_one}
+use Rattle.mama_drive.specs.Held.{changed_at, with_note, with_event, lay_put, lay_tick, lay_event, lay_out, lay_all, led, waits, seen}
+use Rattle.mama_drive.proofs.LaneLemmas.{append_nil, spread_nil, spread_cons, ticks_nil, ticks_cons}
+use Rattle.mama_drive.proofs.SceneLemmas.{moves_none, moves_then}
+
+-- AN ELEMENT CHANGED
+
+pub set_changed : {A : Type 0} → (change : A → A) (n : ℕ) (xs : List A) (x : A) → n < length xs → x ≡ get_or xs n x → set xs n (change x) ≡ changed_at change n xs
+set_changed change n [] x within is = refl
+set_changed change zero (y ∷ ys) x within is = ap (λ z. change z ∷ ys) is
+set_changed change (suc n) (y ∷ ys) x within is = ap (λ l. y ∷ l) (set_changed change n ys x (omega arith) is)
+
+pub past_changed : {A : Type 0} → (change : A → A) (n : ℕ) (xs : List A) → length xs ≤ n → xs ≡ changed_at change n xs
+past_changed change n [] past = refl
+past_changed change zero (y ∷ ys) past = absurd (omega arith)
+past_changed change (suc n) (y ∷ ys) past = ap (λ l. y ∷ l) (past_changed change n ys (omega arith))
+
+pub map_kept : {A B : Type 0} → (f : A → B) (change : A → A) → ((x : A) → f (change x) ≡ f x) → (n : ℕ) (xs : List A) → map f (changed_at change n xs) ≡ map f xs
+map_kept f change keeps n [] = refl
+map_kept f change keeps zero (x ∷ xs) = ap (λ y. y ∷ map f xs) (keeps x)
+map_kept f change keeps (suc n) (x ∷ xs) = ap (λ l. f x ∷ l) (map_kept f change keeps n xs)
+
+pub length_kept : {A : Type 0} → (change : A → A) (n : ℕ) (xs : List A) → length (changed_at change n xs) ≡ length xs
+length_kept change n [] = refl
+length_kept change zero (x ∷ xs) = refl
+length_kept change (suc n) (x ∷ xs) = ap suc (length_kept change n xs)
+
+map_grown : {A V : Type 0} → (lane : A → List V) (change : A → A) (v : V) → ((x : A) → lane (change x) ≡ lane x ++ v ∷ []) → (n : ℕ) (xs : List A)
+    → map lane (changed_at change n xs) ≡ put_on n v (map lane xs)
+map_grown lane change v grows n [] = refl
+map_grown lane change v grows zero (x ∷ xs) = ap (λ y. y ∷ map lane xs) (grows x)
+map_grown lane change v grows (suc n) (x ∷ xs) = ap (λ l. lane x ∷ l) (map_grown lane change v grows n xs)
+
+-- ONE EVENT ON ITS LANE
+
+put_moves : (x : BridgePut) (s : Scene) → Moves s (lay_put x s) (spread_one (setting_in s) x (world_in s))
+put_moves (to_publisher p note) s = record {
+  setting = ap (λ l. record { shape = s.shape; publishers = l; objects = s.objects }) (map_kept script_in (with_note note) (λ x. refl) p s.senders);
+  clients = refl;
+  steps = map_kept steps_in (with_note note) (λ x. refl) p s.senders;
+  sender_count = length_kept (with_note note) p s.senders;
+  server_count = refl;
+  now = ap (λ l. record (world_in s) { publishers = l; to_publishers = map lane_in (changed_at (with_note note) p s.senders) }) (map_kept entries_in (with_note note) (λ x. refl) p s.senders)
+      ∙ ap (λ l. record (world_in s) { to_publishers = l }) (map_grown lane_in (with_note note) note (λ x. refl) p s.senders);
+}
+put_moves (to_queue q note) s = queued_moves q (queue_port_of_bridge, note) s
+  where
+    queued_moves : (n : ℕ) (e : ℕ × QueueNote) (t : Scene)
+        → Moves t (record t { servers = changed_at (with_event e) n t.servers }) (record (world_in t) { to_queues = put_on n e (world_in t).to_queues })
+    queued_moves n e t = record {
+      setting = refl;
+      clients = refl;
+      steps = refl;
+      sender_count = refl;
+      server_count = length_kept (with_event e) n t.servers;
+      now = ap (λ l. record (world_in t) { queues = l; to_queues = map waiting_in (changed_at (with_event e) n t.servers) }) (map_kept journal_in (with_event e) (λ x. refl) n t.servers)
+          ∙ ap (λ l. record (world_in t) { to_queues = l }) (map_grown waiting_in (with_event e) e (λ x. refl) n t.servers);
+    }
+put_moves (bridge.to_timers note) s = record { setting = refl; clients = refl; steps = refl; sender_count = refl; server_count = refl; now = refl }
+
+tick_moves : (e : ℕ × QueueNote) (s : Scene) → Moves s (lay_tick e s) (tick_one e (world_in s))
+tick_moves e s = record {
+  setting = refl;
+  clients = refl;
+  steps = refl;
+  sender_count = refl;
+  server_count = length_kept (with_event (queue_port_of_timers, e.1)) e.0 s.servers;
+  now = ap (λ l. record (world_in s) { queues = l; to_queues = map waiting_in (changed_at (with_event (queue_port_of_timers, e.1)) e.0 s.servers) })
+      (map_kept journal_in (with_event (queue_port_of_timers, e.1)) (λ x. refl) e.0 s.servers)
+      ∙ ap (λ l. record (world_in s) { to_queues = l }) (map_grown waiting_in (with_event (queue_port_of_timers, e.1)) (queue_port_of_timers, e.1) (λ x. refl) e.0 s.servers);
+}
+
+-- MANY EVENTS
+
+all_moves : {V : Type 0} → (lay : V → Scene → Scene) (one : Setting → V → World → World) (whole : Setting → List V → World → World)
+    → ((setting : Setting) (w : World) → whole setting [] w ≡ w)
+    → ((setting : Setting) (v : V) (vs : List V) (w : World) → whole setting (v ∷ vs) w ≡ whole setting vs (one setting v w))
+    → ((v : V) (s : Scene) → Moves s (lay v s) (one (setting_in s) v (world_in s)))
+    → (vs : List V) (s : Scene) → Moves s (lay_all lay vs s) (whole (setting_in s) vs (world_in s))
+all_moves lay one whole none more moves [] s = subst (λ (w : World). Moves s s w) (sym (none (setting_in s) (world_in s))) (moves_none s)
+all_moves lay one whole none more moves (v ∷ vs) s =
+    subst (λ (w : World). Moves s (lay_all lay vs (lay v s)) w) (sym (more (setting_in s) v vs (world_in s)))
+    (moves_then (λ setting w. whole setting vs w) (moves v s) (all_moves lay one whole none more moves vs (lay v s)))
+
+pub puts_move : (puts : List BridgePut) (s : Scene) → Moves s (lay_all lay_put puts s) (spread (setting_in s) puts (world_in s))
+puts_move puts s = all_moves lay_put spread_one spread spread_nil spread_cons put_moves puts s
+
+pub ticks_move : (ticks : List (ℕ × QueueNote)) (s : Scene) → Moves s (lay_all lay_tick ticks s) (spread_ticks ticks (world_in s))
+ticks_move ticks s =
+    all_moves lay_tick (λ setting e w. tick_one e w) (λ setting es w. spread_ticks es w) (λ setting w. ticks_nil w) (λ setting e es w. ticks_cons e es w) tick_moves ticks s
+
+pub events_laid : (port : ℕ) (events : List BridgeNote) (s : Scene) → lay_all (lay_event port) events s ≡ record s { to_bridge = s.to_bridge ++ from_port port events }
+events_laid port [] s = ap (λ l. record s { to_bridge = l }) (sym (append_nil s.to_bridge))
+events_laid port (e ∷ es) s =
+    events_laid port es (lay_event port e s) ∙ ap (λ l. record s { to_bridge = l }) (append_assoc s.to_bridge ((port, e) ∷ []) (from_port port es))
+
+pub outs_laid : (bridge_port timers_port : ℕ) (outs : List QueuePut) (s : Scene) → lay_all (lay_out bridge_port timers_port) outs s
+    ≡ record s { to_bridge = s.to_bridge ++ from_port bridge_port (flat_map bridge_part outs); to_timers = s.to_timers ++ from_port timers_port (flat_map timers_part outs) }
+outs_laid b t [] s =
+    ap (λ l. record s { to_bridge = l }) (sym (append_nil s.to_bridge)) ∙ ap (λ l. record s { to_bridge = s.to_bridge ++ []; to_timers = l }) (sym (append_nil s.to_timers))
+outs_laid b t (queue.to_bridge note ∷ outs) s =
+    outs_laid b t outs (record s { to_bridge = s.to_bridge ++ (b, note) ∷ [] })
+    ∙ ap (λ l. record s { to_bridge = l; to_timers = s.to_timers ++ from_port t (flat_map timers_part outs) })
+    (append_assoc s.to_bridge ((b, note) ∷ []) (from_port b (flat_map bridge_part outs)))
+outs_laid b t (queue.to_timers note ∷ outs) s =
+    outs_laid b t outs (record s { to_timers = s.to_timers ++ (t, note) ∷ [] })
+    ∙ ap (λ l. record s { to_bridge = s.to_bridge ++ from_port b (flat_map bridge_part outs); to_timers = l })
+    (append_assoc s.to_timers ((t, note) ∷ []) (from_port t (flat_map timers_part outs)))
+
+-- WHAT IS HELD MOVES TO ITS LANES
+
+-- the first of what waits goes on its lane
+pub laid_more : {T V : Type 0} → (lay : V → Scene → Scene) (f : T → V) (x : T) (old new : List T) (s after whole : Scene) → old ≡ x ∷ new → after ≡ lay (f x) s
+    → lay_all lay (map f old) s ≡ whole → lay_all lay (map f new) after ≡ whole
+laid_more lay f x old new s after whole is laid before =
+    ap (lay_all lay (map f new)) laid ∙ ap (λ l. lay_all lay (map f l) s) (sym is) ∙ before
+
+led_none : {T : Type 0} → (first : Option T) (rest : List T) → first ≡ None → led first rest ≡ rest
+led_none None rest none = refl
+led_none (Some x) rest none = cc
+
+-- it waits again where its lane had no room
+pub laid_back : {T V : Type 0} → (lay : V → Scene → Scene) (f : T → V) (x given : T) (old : List T) (first : Option T) (rest : List T) (s after whole : Scene)
+    → old ≡ x ∷ led first rest → first ≡ None → given ≡ x → after ≡ s → lay_all lay (map f old) s ≡ whole
+    → lay_all lay (map f (given ∷ rest)) after ≡ whole
+laid_back lay f x given old first rest s after whole is none back same before =
+    ap (lay_all lay (map f (given ∷ rest))) same
+    ∙ ap (λ (y : _). lay_all lay (map f (y ∷ rest)) s) back
+    ∙ ap (λ l. lay_all lay (map f (x ∷ l)) s) (sym (led_none first rest none))
+    ∙ ap (λ l. lay_all lay (map f l) s) (sym is) ∙ before
+
+-- nothing is held
+pub none_laid : {T V : Type 0} → (lay : V → Scene → Scene) (f : T → V) (left : List T) → left ≡ [] → (s : Scene) → lay_all lay (map f left) s ≡ s
+none_laid lay f left none s = ap (λ l. lay_all lay (map f l) s) none
+
+-- the system after all is on its lanes
+pub settled : (h : Held) (s before old : Scene) → before ≡ old → seen h s ≡ before → ((t : Scene) → seen h t ≡ t) → s ≡ old
+settled h s before old is same clear = sym (clear s) ∙ same ∙ is
+
+-- WHAT DOES NOT DEPEND ON WHAT IS HELD
+
+all_keep : {V B : Type 0} → (f : Scene → B) (lay : V → Scene → Scene) → ((v : V) (s : Scene) → f (lay v s) ≡ f s) → (vs : List V) (s : Scene) → f (lay_all lay vs s) ≡ f s
+all_keep f lay keeps [] s = refl
+all_keep f lay keeps (v ∷ vs) s = all_keep f lay keeps vs (lay v s) ∙ keeps v s
+
+pub seen_keeps : {B : Type 0} → (f : Scene → B) → ((x : BridgePut) (s : Scene) → f (lay_put x s) ≡ f s) → ((e : ℕ × QueueNote) (s : Scene) → f (lay_tick e s) ≡ f s)
+    → ((port : ℕ) (e : BridgeNote) (s : Scene) → f (lay_event port e s) ≡ f s) → ((b t : ℕ) (x : QueuePut) (s : Scene) → f (lay_out b t x s) ≡ f s)
+    → (h : Held) (s : Scene) → f (seen h s) ≡ f s
+seen_keeps f puts ticks events outs held.Nothing s = refl
+seen_keeps f puts ticks events outs (held.Routed w) s = all_keep f lay_put puts (map (put_note own_tag) (waits w)) s
+seen_keeps f puts ticks events outs (held.Ticked w) s = all_keep f lay_tick ticks (map (out_note own_tag) (waits w)) s
+seen_keeps f puts ticks events outs (held.Sent port w) s = all_keep f (lay_event port) (events port) (map (note_of own_tag) (waits w)) s
+seen_keeps f puts ticks events outs (held.Given b t w) s = all_keep f (lay_out b t) (outs b t) (notes_of (waits w)) s

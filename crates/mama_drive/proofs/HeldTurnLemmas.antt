@@ -1,0 +1,131 @@
+-- A turn of one actor, where what it puts is held.
+use Rattle.std.proofs.Common.{◌≡◌, ℕ, ◌<◌, List, [], ◌∷◌, ◌++◌, map, length, get_or, refl, sym, ◌∙◌, ap, subst}
+use Rattle.std.specs.Prelude.{Option}
+use Rattle.std.proofs.Math.ListN.{set}
+use Rattle.mama_event.specs.Ports.{bridge_port_of_publisher, bridge_port_of_queue, timers_port_of_queue}
+use Rattle.mama_event.specs.declared.to_bridge.BridgeNote.{BridgeNote}
+use Rattle.mama_event.specs.declared.to_timers.TimersNote.{TimersNote}
+use Rattle.mama_event.specs.declared.to_queue.QueueNote.{QueueNote}
+use Rattle.mama_rules.specs.Bridge.{BridgePut, bridge_puts_at}
+use Rattle.mama_rules.specs.Timers.{timers_puts_at}
+use Rattle.mama_queue_rules.specs.Queue.{QueuePut}
+use Rattle.mama_rounds.specs.World.{World, bridge_turn, bridge_took, timers_turn, timers_took, publisher_turn, queue_turn}
+use Rattle.mama_rounds.specs.Stage.{client_step, publisher_step}
+use Rattle.mama_seats.specs.Sender.{Sender, taken, taken_puts, IsSenderStep}
+use Rattle.mama_seats.specs.Stand.{Stand, IsStep, IsReading}
+use Rattle.mama_queue_seat.specs.Server.{Server, served, served_puts}
+use Rattle.mama_drive.specs.Scene.{Scene, Moves, Advances, Stepped, setting_in, world_in, objects_in, spread, spread_ticks}
+use Rattle.mama_drive.specs.Heard.{Hears, StepRead}
+use Rattle.mama_drive.specs.Held.{lay_put, lay_tick, lay_event, lay_out, lay_all}
+use Rattle.mama_drive.proofs.HeldLemmas.{puts_move, ticks_move, events_laid, outs_laid}
+use Rattle.mama_drive.proofs.SceneLemmas.{sender_turned_to, put_all_to}
+use Rattle.mama_drive.proofs.ServerLemmas.{queue_turned_to}
+use Rattle.mama_drive.proofs.StageLemmas.{client_stepped_to, sender_stepped_to}
+use Rattle.mama_drive.proofs.ClockLemmas.{step_heard}
+
+-- the bridge takes the first event of its lane
+pub bridge_turned : (s old : Scene) (e : ℕ × BridgeNote) (rest journal : List (ℕ × BridgeNote)) (outs left : List BridgePut) → s ≡ old → s.to_bridge ≡ e ∷ rest
+    → journal ≡ s.bridge ++ e ∷ [] → outs ≡ bridge_puts_at s.shape s.bridge e → left ≡ outs
+    → Moves old (lay_all lay_put left (record s { bridge = journal; to_bridge = rest })) (bridge_turn (setting_in old) (world_in old))
+bridge_turned s old e rest journal outs left is first grown puts_are held =
+    let moves = puts_move left (record s { bridge = journal; to_bridge = rest }) in
+    subst (λ (o : Scene). Moves o (lay_all lay_put left (record s { bridge = journal; to_bridge = rest })) (bridge_turn (setting_in o) (world_in o))) is (record {
+      setting = moves.setting;
+      clients = moves.clients;
+      steps = moves.steps;
+      sender_count = moves.sender_count;
+      server_count = moves.server_count;
+      now = moves.now
+          ∙ ap (λ j. spread (setting_in s) left (world_in (record s { bridge = j; to_bridge = rest }))) grown
+          ∙ ap (λ o. spread (setting_in s) o (world_in (record s { bridge = s.bridge ++ e ∷ []; to_bridge = rest }))) (held ∙ puts_are)
+          ∙ ap (bridge_took (setting_in s) (world_in s)) (sym first);
+    })
+
+-- nothing is on its lane
+pub bridge_waits : (s old : Scene) → s ≡ old → s.to_bridge ≡ [] → Moves old old (bridge_turn (setting_in old) (world_in old))
+bridge_waits s old is none =
+    subst (λ (o : Scene). Moves o o (bridge_turn (setting_in o) (world_in o))) is (record {
+      setting = refl;
+      clients = refl;
+      steps = refl;
+      sender_count = refl;
+      server_count = refl;
+      now = ap (bridge_took (setting_in s) (world_in s)) (sym none);
+    })
+
+-- the same of the timer service
+pub timers_turned : (s old : Scene) (e : ℕ × TimersNote) (rest journal : List (ℕ × TimersNote)) (outs left : List (ℕ × QueueNote)) → s ≡ old → s.to_timers ≡ e ∷ rest
+    → journal ≡ s.timers ++ e ∷ [] → outs ≡ timers_puts_at s.shape s.timers e → left ≡ outs
+    → Moves old (lay_all lay_tick left (record s { timers = journal; to_timers = rest })) (timers_turn (setting_in old) (world_in old))
+timers_turned s old e rest journal outs left is first grown puts_are held =
+    let moves = ticks_move left (record s { timers = journal; to_timers = rest }) in
+    subst (λ (o : Scene). Moves o (lay_all lay_tick left (record s { timers = journal; to_timers = rest })) (timers_turn (setting_in o) (world_in o))) is (record {
+      setting = moves.setting;
+      clients = moves.clients;
+      steps = moves.steps;
+      sender_count = moves.sender_count;
+      server_count = moves.server_count;
+      now = moves.now
+          ∙ ap (λ j. spread_ticks left (world_in (record s { timers = j; to_timers = rest }))) grown
+          ∙ ap (λ o. spread_ticks o (world_in (record s { timers = s.timers ++ e ∷ []; to_timers = rest }))) (held ∙ puts_are)
+          ∙ ap (timers_took (setting_in s) (world_in s)) (sym first);
+    })
+
+pub timers_wait : (s old : Scene) → s ≡ old → s.to_timers ≡ [] → Moves old old (timers_turn (setting_in old) (world_in old))
+timers_wait s old is none =
+    subst (λ (o : Scene). Moves o o (timers_turn (setting_in o) (world_in o))) is (record {
+      setting = refl;
+      clients = refl;
+      steps = refl;
+      sender_count = refl;
+      server_count = refl;
+      now = ap (timers_took (setting_in s) (world_in s)) (sym none);
+    })
+
+-- a publisher takes the first event of its lane
+pub publisher_turned : (s old : Scene) (p port : ℕ) (x y : Sender) (puts left : List BridgeNote) → s ≡ old → p < length s.senders → x ≡ get_or s.senders p x
+    → y ≡ taken x x.lane → puts ≡ taken_puts x x.lane → port ≡ bridge_port_of_publisher s.shape p → left ≡ puts
+    → Moves old (lay_all (lay_event port) left (record s { senders = set s.senders p y })) (publisher_turn (setting_in old) p (world_in old))
+publisher_turned s old p port x y puts left is within at changed puts_are from held =
+    subst (λ (a : Scene). Moves old a (publisher_turn (setting_in old) p (world_in old))) (sym (events_laid port left (record s { senders = set s.senders p y })))
+    (sender_turned_to s old p port x y left _ is within at changed (held ∙ puts_are) from refl)
+
+-- a queue takes the first event of its lane
+pub queue_turned : (s old : Scene) (q bridge_port timers_port : ℕ) (x y : Server) (puts left : List QueuePut) → s ≡ old → q < length s.servers → x ≡ get_or s.servers q x
+    → map objects_in s.servers ≡ map (λ (o : Server). s.objects) s.servers → y ≡ served x x.lane → puts ≡ served_puts x x.lane
+    → bridge_port ≡ bridge_port_of_queue s.shape q → timers_port ≡ timers_port_of_queue s.shape q → left ≡ puts
+    → Moves old (lay_all (lay_out bridge_port timers_port) left (record s { servers = set s.servers q y })) (queue_turn (setting_in old) q (world_in old))
+queue_turned s old q bridge_port timers_port x y puts left is within at shared changed puts_are to_port timers_from held =
+    subst (λ (a : Scene). Moves old a (queue_turn (setting_in old) q (world_in old))) (sym (outs_laid bridge_port timers_port left (record s { servers = set s.servers q y })))
+    (queue_turned_to s old q bridge_port timers_port x y left _ _ is within at shared changed (held ∙ puts_are) to_port timers_from refl refl)
+
+-- a client makes a step
+pub client_stepped_held : (s old : Scene) (c : ℕ) (x new : Stand) (puts left : List QueuePut) → s ≡ old → c < length s.clients → x ≡ get_or s.clients c x
+    → IsStep x new puts → left ≡ puts
+    → Advances (Stepped client_step c) old (lay_all (lay_out c c) left (record s { clients = set s.clients c new }))
+client_stepped_held s old c x new puts left is within at step held =
+    let mid : Scene = record s { clients = set s.clients c new } in
+    subst (λ (l : List QueuePut). Advances (Stepped client_step c) old (lay_all (lay_out c c) l mid)) (sym held)
+    (subst (λ (a : Scene). Advances (Stepped client_step c) old a) (sym (outs_laid c c puts mid))
+    (client_stepped_to s old mid _ c x new puts is within at step refl (put_all_to mid mid c c puts _ _ refl refl refl)))
+
+pub client_heard_held : (s old : Scene) (c : ℕ) (x new : Stand) (puts left : List QueuePut) (o l : Option (List ℕ)) → s ≡ old → c < length s.clients → x ≡ get_or s.clients c x
+    → IsStep x new puts → IsReading o l x new
+    → Hears (StepRead c) o l old.clients (lay_all (lay_out c c) left (record s { clients = set s.clients c new })).clients
+client_heard_held s old c x new puts left o l is within at step reading =
+    subst (λ (b : Scene). Hears (StepRead c) o l b.clients (lay_all (lay_out c c) left (record s { clients = set s.clients c new })).clients) is
+    (subst (Hears (StepRead c) o l s.clients) (sym (ap (λ (a : Scene). a.clients) (outs_laid c c left (record s { clients = set s.clients c new }))))
+    (step_heard o l s.clients c x new within at step.read reading))
+
+-- a publisher makes a step
+pub sender_stepped_held : (s old : Scene) (p port : ℕ) (x new : Sender) (puts left : List BridgeNote) → s ≡ old → p < length s.senders → x ≡ get_or s.senders p x
+    → IsSenderStep x new puts → port ≡ bridge_port_of_publisher s.shape p → left ≡ puts
+    → Advances (Stepped publisher_step p) old (lay_all (lay_event port) left (record s { senders = set s.senders p new }))
+sender_stepped_held s old p port x new puts left is within at step from held =
+    subst (λ (l : List BridgeNote). Advances (Stepped publisher_step p) old (lay_all (lay_event port) l (record s { senders = set s.senders p new }))) (sym held)
+    (sender_stepped_to s old _ p port x new puts _ is within at step from refl (events_laid port puts (record s { senders = set s.senders p new })))
+
+pub sender_step_clients : (s old : Scene) (port : ℕ) (left : List BridgeNote) (senders : List Sender) → s ≡ old
+    → (lay_all (lay_event port) left (record s { senders = senders })).clients ≡ old.clients
+sender_step_clients s old port left senders is =
+    ap (λ (a : Scene). a.clients) (events_laid port left (record s { senders = senders })) ∙ ap (λ (a : Scene). a.clients) is

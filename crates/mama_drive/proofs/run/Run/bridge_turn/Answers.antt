@@ -1,0 +1,6 @@
+use Rattle.mama_rounds.specs.World.{bridge_turn}
+use Rattle.mama_drive.proofs.RunLemmas.{turn_then}
+use Rattle.mama_drive.proofs.run.Run.bridge_turn.Goals as goal
+
+pub returns-clause-turn : goal.returns-clause-turn
+returns-clause-turn c = turn_then bridge_turn c.settle.new.held c.settle.new.system _ c.args.self.now _ c.self.view_is c.settle.ensures.same c.in_ok-settle.ensures.clear c.in_ok-held.ensures.turn

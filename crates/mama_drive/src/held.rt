@@ -1,0 +1,183 @@
+ghost use Rattle.std.specs.Prelude.{◌≡◌, ◌∷◌, [], ◌↔◌, map, true, None, IsTrue, IfSome, IfNone, OnOk};
+ghost use Rattle.mama_event.specs.ToBridge.{note_of};
+ghost use Rattle.mama_bridge.specs.Outs.{put_note};
+ghost use Rattle.mama_timer.specs.Out.{out_note};
+ghost use Rattle.mama_queue_seat.specs.Put.{own_tag, notes_of};
+ghost use Rattle.mama_drive.specs.Scene.{Scene};
+ghost use Rattle.mama_drive.specs.Held.{waits, lay_put, lay_tick, lay_event, lay_out, lay_all, seen};
+
+use crate::system::System;
+use mama_bridge::BridgeOut;
+use mama_event::{ObjectId, ToBridge};
+use mama_link::Outbox;
+use mama_memory::OutOfMemory;
+use mama_queue_seat::QueueOut;
+use mama_timer::TimerOut;
+
+/// Events that wait to be put on their lanes, in order. The first is apart where its lane found no room for it.
+#[derive(Drop)]
+pub(crate) struct Waiting<T> {
+    first: Option<T>,
+    rest: Outbox<T>,
+}
+
+impl<T> Waiting<T> {
+    /// All of an outbox.
+    pub(crate) fn all(events: Outbox<T>) -> Waiting<T>
+        ensures { waits result ≡ events.items }
+    {
+        Waiting {
+            first: None,
+            rest: events,
+        }
+    }
+
+    /// Whether no event waits.
+    fn is_empty(&self) -> bool
+        ensures { result ≡ true → waits self.now ≡ [] }
+    {
+        match &self.first {
+            Some(_) => false,
+            None => self.rest.is_empty(),
+        }
+    }
+
+    /// Takes the first event out.
+    fn take_first(&mut self) -> Option<T>
+        ensures some { IfSome result (λ event. waits self.old ≡ event ∷ waits self.new) }
+        ensures none { IfNone result (waits self.old ≡ []) }
+        ensures unchanged { IfNone result (waits self.new ≡ []) }
+        ensures first { self.new.first ≡ None }
+    {
+        match self.first.take() {
+            Some(event) => Some(event),
+            None => self.rest.take_first(),
+        }
+    }
+}
+
+/// What one actor put and what is not on its lanes yet: the bridge, the timer service, a publisher with its port, or a
+/// client or a queue with its ports.
+#[derive(Drop)]
+pub(crate) enum Held {
+    Nothing,
+    Routed(Waiting<BridgeOut<ObjectId>>),
+    Ticked(Waiting<TimerOut<ObjectId>>),
+    Sent {
+        port: u32,
+        events: Waiting<ToBridge<ObjectId>>,
+    },
+    Given {
+        bridge_port: u32,
+        timers_port: u32,
+        outs: Waiting<QueueOut<ObjectId>>,
+    },
+}
+
+impl Held {
+    /// Whether nothing is held.
+    pub(crate) fn is_empty(&self) -> bool
+        ensures { result ≡ true → (s : Scene) → seen self.now s ≡ s }
+    {
+        match self {
+            Held::Nothing => true,
+            Held::Routed(puts) => puts.is_empty(),
+            Held::Ticked(ticks) => ticks.is_empty(),
+            Held::Sent { port: _, events } => events.is_empty(),
+            Held::Given {
+                bridge_port: _,
+                timers_port: _,
+                outs,
+            } => outs.is_empty(),
+        }
+    }
+}
+
+/// Puts what is held on its lanes, in order. Where no memory is found for a lane, the rest is held as before.
+pub(crate) fn settle(system: &mut System, held: &mut Held) -> Result<(), OutOfMemory>
+    ensures same { seen held.new system.new ≡ seen held.old system.old }
+    ensures clear { OnOk result ((s : Scene) → seen held.new s ≡ s) }
+{
+    match held {
+        Held::Nothing => Ok(()),
+        Held::Routed(puts) => settle_puts(system, puts),
+        Held::Ticked(ticks) => settle_ticks(system, ticks),
+        Held::Sent { port, events } => settle_events(system, *port, events),
+        Held::Given {
+            bridge_port,
+            timers_port,
+            outs,
+        } => settle_outs(system, *bridge_port, *timers_port, outs),
+    }
+}
+
+/// Puts the bridge's events on their lanes.
+fn settle_puts(
+    system: &mut System,
+    puts: &mut Waiting<BridgeOut<ObjectId>>,
+) -> Result<(), OutOfMemory>
+    ensures same { lay_all lay_put (map (put_note own_tag) (waits puts.new)) system.new ≡ lay_all lay_put (map (put_note own_tag) (waits puts.old)) system.old }
+    ensures clear { OnOk result (waits puts.new ≡ []) }
+{
+    while let Some(event) = puts.take_first() {
+        if let Err(event) = system.put_one(event) {
+            puts.first = Some(event);
+            return Err(OutOfMemory);
+        }
+    }
+    Ok(())
+}
+
+/// Puts the timer service's events on the queues' lanes.
+fn settle_ticks(
+    system: &mut System,
+    ticks: &mut Waiting<TimerOut<ObjectId>>,
+) -> Result<(), OutOfMemory>
+    ensures same { lay_all lay_tick (map (out_note own_tag) (waits ticks.new)) system.new ≡ lay_all lay_tick (map (out_note own_tag) (waits ticks.old)) system.old }
+    ensures clear { OnOk result (waits ticks.new ≡ []) }
+{
+    while let Some(tick) = ticks.take_first() {
+        if let Err(tick) = system.put_tick(tick) {
+            ticks.first = Some(tick);
+            return Err(OutOfMemory);
+        }
+    }
+    Ok(())
+}
+
+/// Puts events of a port on the bridge's lane.
+fn settle_events(
+    system: &mut System,
+    port: u32,
+    events: &mut Waiting<ToBridge<ObjectId>>,
+) -> Result<(), OutOfMemory>
+    ensures same { lay_all (lay_event port) (map (note_of own_tag) (waits events.new)) system.new ≡ lay_all (lay_event port) (map (note_of own_tag) (waits events.old)) system.old }
+    ensures clear { OnOk result (waits events.new ≡ []) }
+{
+    while let Some(event) = events.take_first() {
+        if let Err(event) = system.put_to_bridge(port, event) {
+            events.first = Some(event);
+            return Err(OutOfMemory);
+        }
+    }
+    Ok(())
+}
+
+/// Puts what a client or a queue puts on the lanes of the bridge and of the timer service, by its ports.
+fn settle_outs(
+    system: &mut System,
+    bridge_port: u32,
+    timers_port: u32,
+    outs: &mut Waiting<QueueOut<ObjectId>>,
+) -> Result<(), OutOfMemory>
+    ensures same { lay_all (lay_out bridge_port timers_port) (notes_of (waits outs.new)) system.new ≡ lay_all (lay_out bridge_port timers_port) (notes_of (waits outs.old)) system.old }
+    ensures clear { OnOk result (waits outs.new ≡ []) }
+{
+    while let Some(out) = outs.take_first() {
+        if let Err(out) = system.put_out(bridge_port, timers_port, out) {
+            outs.first = Some(out);
+            return Err(OutOfMemory);
+        }
+    }
+    Ok(())
+}

@@ -1,0 +1,233 @@
+ghost use Rattle.std.specs.Prelude.{◌≡◌, ◌<◌, length, true, IfOk, OnOk, OnErr};
+ghost use Rattle.std.specs.List.{list_all};
+ghost use Rattle.mama_event.specs.Ports.{clients_of, publishers_of, queues_of};
+ghost use Rattle.mama_rounds.specs.World as world;
+ghost use Rattle.mama_rounds.specs.World.{is_empty};
+ghost use Rattle.mama_rounds.specs.Stage as stage;
+ghost use Rattle.mama_drive.specs.Heard.{Hears, StepRead};
+ghost use Rattle.mama_drive.specs.Scene.{setting_in, world_in, Moves, Advances, Stepped};
+
+use crate::held::{Held, settle};
+use crate::system::System;
+use mama_edge::Clock;
+use mama_memory::OutOfMemory;
+use std::marker::Model;
+
+/// A system in the middle of a run: what the last actor put is held until there is room for it on its lanes. To a reader
+/// of the run it lies there already. A method that makes one turn of one actor leaves the run as it was where no memory
+/// is found, so that the turn can be made again.
+#[derive(Drop)]
+pub struct Run<'a> {
+    pub(crate) system: System<'a>,
+    pub(crate) held: Held,
+}
+
+impl<'a> Model for Run<'a> {
+    ghost use Rattle.mama_drive.specs.Scene.{Scene};
+    ghost use Rattle.mama_drive.specs.Held.{seen};
+
+    ghost Value = { Scene };
+
+    ghost view = { λ r. seen r.held r.system };
+}
+
+impl<'a> Run<'a> {
+    /// The bridge takes the first event of its lane, if there is one.
+    fn bridge_turn(&mut self) -> Result<(), OutOfMemory>
+        ensures turn { OnOk result (Moves self.old self.new (world.bridge_turn (setting_in self.old) (world_in self.old))) }
+        ensures err { OnErr result (self.new ≡ self.old) }
+    {
+        settle(&mut self.system, &mut self.held)?;
+        let held = self.system.bridge_turn()?;
+        self.held = held;
+        Ok(())
+    }
+
+    /// The timer service takes the first event of its lane, if there is one.
+    fn timers_turn(&mut self) -> Result<(), OutOfMemory>
+        ensures turn { OnOk result (Moves self.old self.new (world.timers_turn (setting_in self.old) (world_in self.old))) }
+        ensures err { OnErr result (self.new ≡ self.old) }
+    {
+        settle(&mut self.system, &mut self.held)?;
+        let held = self.system.timers_turn()?;
+        self.held = held;
+        Ok(())
+    }
+
+    /// A publisher takes the first event of its lane, if there is one.
+    fn publisher_turn(&mut self, number: u32) -> Result<(), OutOfMemory>
+        requires { number < length self.old.senders }
+        ensures turn { OnOk result (Moves self.old self.new (world.publisher_turn (setting_in self.old) number (world_in self.old))) }
+        ensures err { OnErr result (self.new ≡ self.old) }
+    {
+        settle(&mut self.system, &mut self.held)?;
+        let held = self.system.publisher_turn(number)?;
+        self.held = held;
+        Ok(())
+    }
+
+    /// A queue takes the first event of its lane, if there is one, and makes its callbacks.
+    fn queue_turn(&mut self, number: u32) -> Result<(), OutOfMemory>
+        requires { number < length self.old.servers }
+        ensures turn { OnOk result (Moves self.old self.new (world.queue_turn (setting_in self.old) number (world_in self.old))) }
+        ensures err { OnErr result (self.new ≡ self.old) }
+    {
+        settle(&mut self.system, &mut self.held)?;
+        let held = self.system.queue_turn(number)?;
+        self.held = held;
+        Ok(())
+    }
+
+    /// A client makes its next step, if it has one. Where no memory is found the clock was not read either.
+    pub(crate) fn client_turn<C: Clock>(
+        &mut self,
+        number: u32,
+        clock: &mut C,
+    ) -> Result<(), OutOfMemory>
+        requires { number < length self.old.clients }
+        ensures step { OnOk result (Advances (Stepped stage.client_step number) self.old self.new) }
+        ensures clock { OnOk result (Hears (StepRead number) (C.left clock.old) (C.left clock.new) self.old.clients self.new.clients) }
+        ensures err { OnErr result (self.new ≡ self.old) }
+        ensures clock_err { OnErr result (C.left clock.new ≡ C.left clock.old) }
+    {
+        settle(&mut self.system, &mut self.held)?;
+        let held = self.system.client_turn(number, clock)?;
+        self.held = held;
+        Ok(())
+    }
+
+    /// A publisher makes its next step, if it has one.
+    pub(crate) fn sender_turn(&mut self, number: u32) -> Result<(), OutOfMemory>
+        requires { number < length self.old.senders }
+        ensures step { OnOk result (Advances (Stepped stage.publisher_step number) self.old self.new) }
+        ensures clients { OnOk result (self.new.clients ≡ self.old.clients) }
+        ensures err { OnErr result (self.new ≡ self.old) }
+    {
+        settle(&mut self.system, &mut self.held)?;
+        let held = self.system.sender_turn(number)?;
+        self.held = held;
+        Ok(())
+    }
+
+    /// Moves what is held to its lanes.
+    fn settle(&mut self) -> Result<(), OutOfMemory>
+        ensures { self.new ≡ self.old }
+    {
+        settle(&mut self.system, &mut self.held)
+    }
+
+    /// Each publisher takes the first event of its lane, if there is one.
+    fn publisher_turns(&mut self) -> Result<(), OutOfMemory>
+        ensures { OnOk result (Moves self.old self.new (world.in_turn (world.publisher_turn (setting_in self.old)) (publishers_of self.old.shape) (world_in self.old))) }
+    {
+        self.settle()?;
+        if self.are_publishers_idle() {
+            return Ok(());
+        }
+        self.each_publisher()
+    }
+
+    /// The same, whether events wait or not.
+    fn each_publisher(&mut self) -> Result<(), OutOfMemory>
+        ensures { OnOk result (Moves self.old self.new (world.in_turn (world.publisher_turn (setting_in self.old)) (publishers_of self.old.shape) (world_in self.old))) }
+    {
+        let count = self.publisher_count()?;
+        for number in 0..count {
+            self.publisher_turn(number)?;
+        }
+        self.look_at_publishers();
+        Ok(())
+    }
+
+    /// Each queue takes the first event of its lane, if there is one.
+    fn queue_turns(&mut self) -> Result<(), OutOfMemory>
+        ensures { OnOk result (Moves self.old self.new (world.in_turn (world.queue_turn (setting_in self.old)) (queues_of self.old.shape) (world_in self.old))) }
+    {
+        self.settle()?;
+        if self.are_queues_idle() {
+            return Ok(());
+        }
+        self.each_queue()
+    }
+
+    /// The same, whether events wait or not.
+    fn each_queue(&mut self) -> Result<(), OutOfMemory>
+        ensures { OnOk result (Moves self.old self.new (world.in_turn (world.queue_turn (setting_in self.old)) (queues_of self.old.shape) (world_in self.old))) }
+    {
+        let count = self.queue_count()?;
+        for number in 0..count {
+            self.queue_turn(number)?;
+        }
+        self.look_at_queues();
+        Ok(())
+    }
+
+    /// One pass: the bridge, the timer service, each publisher and each queue take one event, if there is one.
+    pub(crate) fn pass(&mut self) -> Result<(), OutOfMemory>
+        ensures { OnOk result (Moves self.old self.new (world.pass (setting_in self.old) (world_in self.old))) }
+    {
+        self.bridge_turn()?;
+        self.timers_turn()?;
+        self.publisher_turns()?;
+        self.queue_turns()
+    }
+
+    /// Whether surely nothing waits on the lane of any publisher.
+    fn are_publishers_idle(&self) -> bool
+        ensures { result ≡ true → list_all is_empty (world_in self.now).to_publishers ≡ true }
+    {
+        self.held.is_empty() && self.system.are_publishers_idle()
+    }
+
+    /// Whether surely nothing waits on the lane of any queue.
+    fn are_queues_idle(&self) -> bool
+        ensures { result ≡ true → list_all is_empty (world_in self.now).to_queues ≡ true }
+    {
+        self.held.is_empty() && self.system.are_queues_idle()
+    }
+
+    /// Marks whether events wait on the lane of some publisher.
+    fn look_at_publishers(&mut self)
+        ensures { self.new ≡ self.old }
+    {
+        self.system.look_at_publishers();
+    }
+
+    /// Marks whether events wait on the lane of some queue.
+    fn look_at_queues(&mut self)
+        ensures { self.new ≡ self.old }
+    {
+        self.system.look_at_queues();
+    }
+
+    /// Whether nothing waits on any lane, and nothing is held.
+    pub(crate) fn is_quiet(&self) -> bool
+        ensures { result ≡ true → world.IsQuiet (world_in self.now) }
+    {
+        self.held.is_empty() && self.system.is_quiet()
+    }
+
+    /// How many clients there are.
+    pub(crate) fn client_count(&self) -> Result<u32, OutOfMemory>
+        ensures number { IfOk result (λ count. count ≡ length self.now.clients) }
+        ensures shape { IfOk result (λ count. count ≡ clients_of self.now.shape) }
+    {
+        self.system.client_count()
+    }
+
+    /// How many publishers there are.
+    pub(crate) fn publisher_count(&self) -> Result<u32, OutOfMemory>
+        ensures number { IfOk result (λ count. count ≡ length self.now.senders) }
+        ensures shape { IfOk result (λ count. count ≡ publishers_of self.now.shape) }
+    {
+        self.system.publisher_count()
+    }
+
+    /// How many queues there are.
+    fn queue_count(&self) -> Result<u32, OutOfMemory>
+        ensures number { IfOk result (λ count. count ≡ length self.now.servers) }
+        ensures shape { IfOk result (λ count. count ≡ queues_of self.now.shape) }
+    {
+        self.system.queue_count()
+    }
+}
