@@ -23,3 +23,6 @@ pub use client::{ClientPuts, puts_of_client};
 pub use mama_memory::OutOfMemory;
 pub use publisher::puts_of_publisher;
 pub use timers::puts_of_timers;
+
+#[cfg(test)]
+mod tests;
