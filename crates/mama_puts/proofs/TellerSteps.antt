@@ -1,18 +1,15 @@
 -- How a client that does its lines again does one line more.
-use Rattle.std.proofs.Common.{◌≡◌, ℕ, zero, suc, ◌+◌, ◌<◌, ◌≤◌, List, [], ◌∷◌, ◌++◌, length, drop, get_or, add-one, refl, sym, ◌∙◌, ap, subst, append_assoc, arith}
+use Rattle.std.proofs.Common.{◌≡◌, ℕ, zero, suc, ◌+◌, ◌<◌, List, [], ◌∷◌, ◌++◌, length, drop, get_or, add-one, sym, ◌∙◌, ap, append_assoc, arith}
 use Rattle.std.specs.Prelude.{replicate}
 use Rattle.std.proofs.Math.Seq.{drop-cons}
-use Rattle.std.proofs.lemmas.List.{drop_all}
-use Rattle.mama_event.specs.declared.to_bridge.BridgeNote.TheVariants as b
-use Rattle.mama_event.specs.declared.to_timers.TimersNote.TheVariants as t
 use Rattle.mama_script.specs.declared.client.ClientLine.{ClientLine}
 use Rattle.mama_script.specs.declared.client.ClientLine.TheVariants as line
-use Rattle.mama_queue_rules.specs.Queue.{QueuePut, to_bridge, to_timers}
+use Rattle.mama_queue_rules.specs.Queue.{QueuePut}
 use Rattle.mama_order.specs.Numbered.{from_entry, parted, steps_numbered, steps_numbered_from}
 use Rattle.mama_rounds.specs.Client.{Standing, line_steps, after_line, steps_from, client_steps, bridge_part, timers_part}
 use Rattle.mama_puts.specs.declared.names.Names.{Names}
 use Rattle.mama_puts.specs.declared.client.Teller.{Teller}
-use Rattle.mama_puts.specs.Client.{standing_of, DoesLine, Tells, to_bridge_in_all, to_timers_in_all}
+use Rattle.mama_puts.specs.Client.{standing_of, Tells}
 
 -- steps in which nothing is put are counted alone
 rests : {P : Type 0} (n k : ℕ) (steps : List (List P)) → steps_numbered_from k (replicate n [] ++ steps) ≡ steps_numbered_from (k + n) steps

@@ -1,4 +1,4 @@
-use Rattle.std.proofs.Common.{map, refl, sym, subst}
+use Rattle.std.proofs.Common.{map, refl, subst}
 use Rattle.mama_event.specs.declared.to_publisher.PublisherNote.{PublisherNote}
 use Rattle.mama_event.specs.declared.to_queue.QueueNote.{QueueNote}
 use Rattle.mama_event.specs.ToPublisher.{note_of}
@@ -6,7 +6,7 @@ use Rattle.mama_event.specs.ToQueue.{note_of as queue_note_of}
 use Rattle.mama_event.specs.ToTimers.{note_of as timers_note_of}
 use Rattle.mama_order.specs.Numbered.{from_entry}
 use Rattle.mama_puts.specs.Puts.{Grow, one_for, own_tag}
-use Rattle.mama_puts.specs.Bridge.{publishers_in, queues_in, GrowByOne}
+use Rattle.mama_puts.specs.Bridge.{publishers_in, queues_in}
 use Rattle.mama_puts.proofs.Lists.{on_ok}
 use Rattle.mama_puts.proofs.BridgeSteps.{to_publisher_dealt, to_queue_dealt, to_timers_dealt}
 use Rattle.mama_puts.proofs.bridge.deal_one.Goals as goal

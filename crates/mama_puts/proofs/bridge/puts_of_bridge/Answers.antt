@@ -1,4 +1,4 @@
-use Rattle.std.proofs.Common.{map, take, subst, List, ℕ, ◌≡◌}
+use Rattle.std.proofs.Common.{map, subst, List, ℕ, ◌≡◌}
 use Rattle.std.proofs.lemmas.List.{take_all}
 use Rattle.mama_event.specs.Ports.{publishers_of, queues_of}
 use Rattle.mama_event.specs.declared.to_bridge.BridgeNote.{BridgeNote}

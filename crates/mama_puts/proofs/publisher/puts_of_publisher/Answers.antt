@@ -1,4 +1,4 @@
-use Rattle.std.proofs.Common.{◌≡◌, ap, List, take, subst}
+use Rattle.std.proofs.Common.{◌≡◌, List, take, subst}
 use Rattle.std.specs.Prelude.{option_to_list}
 use Rattle.std.proofs.lemmas.List.{take_all}
 use Rattle.mama_event.specs.Publisher.{publisher_puts_at}
