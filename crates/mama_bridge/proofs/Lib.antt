@@ -1,3 +1,4 @@
+pub mod ChartLemmas
 pub mod FlagLemmas
 pub mod Moving
 pub mod Stepping

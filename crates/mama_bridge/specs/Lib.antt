@@ -4,6 +4,7 @@ pub mod Desk
 pub mod Routing
 pub mod Putters
 pub mod Held
+pub mod Chart
 pub mod Ids
 pub mod Placed
 pub mod Opened

@@ -6,11 +6,12 @@ ghost use Rattle.mama_bridge_rules.specs.Table.{leaver_in};
 ghost use Rattle.mama_bridge.specs.Outs.{put_note, listeners};
 ghost use Rattle.mama_bridge.specs.Routing.{routed, is_last_bye, carried_by};
 
+use crate::chart::Chart;
 use crate::desk::Desk;
 use crate::out::BridgeOut;
 use crate::putter::{Putter, putter_of};
 use mama_bridge_rules::{flags_tell, rows_are_live, table_grows, table_tells};
-use mama_event::{Bounds, BridgeNote, Shape, Stream, Tagged, ToBridge, Took, Topics};
+use mama_event::{BridgeNote, Shape, Stream, Tagged, ToBridge, Took};
 use mama_link::Outbox;
 use mama_memory::OutOfMemory;
 use std::alloc::Global;
@@ -21,7 +22,7 @@ use std::marker::{Model, PhantomData};
 /// The journal has room for one entry more until every queue said its last, so that the last Bye never wants memory.
 #[derive(Drop)]
 pub struct MemoryBridge<L> {
-    shape: Shape,
+    shape: Chart,
     publishers: u32,
     journal: Vec<(u32, BridgeNote)>,
     desk: Desk,
@@ -40,18 +41,6 @@ impl<L> Model for MemoryBridge<L> {
     ghost view = { λ b. record { shape = b.shape; journal = b.journal.items } };
 
     ghost invariant = { λ b. IsKept b.shape b.publishers b.journal.items (vec_len b.journal) (vec_capacity b.journal) b.desk };
-}
-
-/// A copy of a shape.
-fn copied(alloc: Global, shape: &Shape) -> Result<Shape, OutOfMemory>
-    ensures { IfOk result (λ copy. copy ≡ shape.now) }
-{
-    let topics = Vec::from_slice(alloc, shape.publisher_topics.as_slice())?;
-    Ok(Shape {
-        clients: shape.clients,
-        publisher_topics: Topics::new(topics),
-        bounds: shape.bounds,
-    })
 }
 
 /// The number of publishers. The error is that there are more of them than numbers.
@@ -74,7 +63,7 @@ impl<L: Tagged> MemoryBridge<L> {
         journal.reserve(1)?;
         let desk = Desk::new(alloc, shape)?;
         Ok(MemoryBridge {
-            shape: copied(alloc, shape)?,
+            shape: Chart::new(alloc, shape)?,
             publishers,
             journal,
             desk,

@@ -16,6 +16,7 @@ ghost use Rattle.mama_slots.specs.Slots.{in_use, IsNext};
 ghost use Rattle.mama_bridge.specs.Held.{StayHeld, KeepsHeld};
 ghost use Rattle.mama_bridge.specs.Live.{all_held, StaysLive, HasRoomOn, Awaits, Gains, KeepsLive, EndsLive};
 
+use crate::chart::Chart;
 use crate::ending::{end_all, room, settle_if};
 use crate::flags::Flags;
 use crate::inboxes::Inboxes;
@@ -130,7 +131,7 @@ impl Desk {
 
     pub(crate) fn publish<L: Tagged>(
         &mut self,
-        shape: &Shape,
+        shape: &Chart,
         publisher: u32,
         msg: &MarketMsg,
         out: &mut Outbox<BridgeOut<L>>,
@@ -140,13 +141,13 @@ impl Desk {
         ensures same { OnErr result (AsBefore self.old self.new) }
         ensures err { OnErr result (out.new.items ≡ out.old.items) }
     {
-        let topic = shape.publisher_topics.at(publisher as usize);
+        let topic = shape.at(publisher as usize);
         self.subs.publish(self.alloc, topic, msg, out)
     }
 
     pub(crate) fn wish<L: Tagged>(
         &mut self,
-        shape: &Shape,
+        shape: &Chart,
         sub: SubId,
         sender: u32,
         out: &mut Outbox<BridgeOut<L>>,
@@ -155,7 +156,7 @@ impl Desk {
         ensures same { OnErr result (AsBefore self.old self.new) }
         ensures err { OnErr result (out.new.items ≡ out.old.items) }
     {
-        if !may_forward(self.is_settling(), sender, shape.publisher_topics.len()) {
+        if !may_forward(self.is_settling(), sender, shape.len()) {
             return Ok(());
         }
         self.subs.wish(sub, sender, out)
@@ -163,7 +164,7 @@ impl Desk {
 
     pub(crate) fn ask<L: Tagged>(
         &mut self,
-        shape: &Shape,
+        shape: &Chart,
         inbox: InboxId,
         topic: u32,
         fids: Fids,
@@ -214,7 +215,7 @@ impl Desk {
 
     pub(crate) fn join<L: Tagged>(
         &mut self,
-        shape: &Shape,
+        shape: &Chart,
         sub: SubId,
         terms: SubTerms,
         listener: L,
@@ -263,7 +264,7 @@ impl Desk {
     /// Notes that a client is done.
     pub(crate) fn client_done<L: Tagged>(
         &mut self,
-        shape: &Shape,
+        shape: &Chart,
         client: u32,
         publishers: u32,
         out: &mut Outbox<BridgeOut<L>>,
@@ -278,7 +279,7 @@ impl Desk {
         let ending = both(settling, self.settled.all());
         let settles = begins(settling, self.is_settling());
         let ends = begins(ending, self.is_ended());
-        self.turn(settles, ends, publishers, shape.bounds.queues, out)?;
+        self.turn(settles, ends, publishers, shape.queues(), out)?;
         self.clients.set(client as usize);
         Ok(())
     }
@@ -286,7 +287,7 @@ impl Desk {
     /// Notes that a publisher has sent the last of its own accord.
     pub(crate) fn sends_done<L: Tagged>(
         &mut self,
-        shape: &Shape,
+        shape: &Chart,
         publisher: u32,
         publishers: u32,
         out: &mut Outbox<BridgeOut<L>>,
@@ -301,7 +302,7 @@ impl Desk {
         let ending = both(settling, self.settled.all());
         let settles = begins(settling, self.is_settling());
         let ends = begins(ending, self.is_ended());
-        self.turn(settles, ends, publishers, shape.bounds.queues, out)?;
+        self.turn(settles, ends, publishers, shape.queues(), out)?;
         self.sends.set(publisher as usize);
         Ok(())
     }
@@ -309,7 +310,7 @@ impl Desk {
     /// Notes that a publisher has settled.
     pub(crate) fn settled<L: Tagged>(
         &mut self,
-        shape: &Shape,
+        shape: &Chart,
         publisher: u32,
         publishers: u32,
         out: &mut Outbox<BridgeOut<L>>,
@@ -324,7 +325,7 @@ impl Desk {
         let ending = both(settling, self.settled.all_with(publisher as usize));
         let settles = begins(settling, self.is_settling());
         let ends = begins(ending, self.is_ended());
-        self.turn(settles, ends, publishers, shape.bounds.queues, out)?;
+        self.turn(settles, ends, publishers, shape.queues(), out)?;
         self.settled.set(publisher as usize);
         Ok(())
     }
@@ -541,7 +542,7 @@ fn may_ask(is_open: bool, settling: bool) -> bool
 /// Puts an event to the first publisher of a topic, if it may and there is one, into an outbox with room.
 fn put_first_if<L>(
     may: bool,
-    shape: &Shape,
+    shape: &Chart,
     topic: u32,
     event: ToPublisher,
     out: &mut Outbox<BridgeOut<L>>,
@@ -555,24 +556,13 @@ fn put_first_if<L>(
     }
 }
 
-/// The publisher of a topic with the lowest number.
-fn first_publisher(shape: &Shape, topic: u32) -> Option<usize>
-    ensures { result ≡ position (λ t. t == topic) shape.now.publisher_topics }
-{
-    shape
-        .publisher_topics
-        .as_slice()
-        .iter()
-        .position(|t| *t == topic)
-}
-
 /// Puts an event to the first publisher of a topic, if it has one, into an outbox with room.
-fn put_first<L>(shape: &Shape, topic: u32, event: ToPublisher, out: &mut Outbox<BridgeOut<L>>)
+fn put_first<L>(shape: &Chart, topic: u32, event: ToPublisher, out: &mut Outbox<BridgeOut<L>>)
     requires few { length shape.now.publisher_topics < 2 ^ 32 }
     requires room { 0 < out.old.spare }
     ensures { out.new.items ≡ out.old.items ++ first_outs (position (λ t. t == topic) shape.now.publisher_topics) event }
 {
-    if let Some(number) = first_publisher(shape, topic) {
+    if let Some(number) = shape.first_publisher(topic) {
         out.push_reserved(BridgeOut::Publisher(number as u32, event));
     }
 }
@@ -603,7 +593,7 @@ fn new_link(
 
 /// Asks for the first image of a subscription, unless it is basic, into an outbox with room.
 fn want_image<L>(
-    shape: &Shape,
+    shape: &Chart,
     sub: SubId,
     kind: SubKind,
     topic: u32,
@@ -620,7 +610,7 @@ fn want_image<L>(
     }
 }
 
-fn want_first<L>(shape: &Shape, sub: SubId, topic: u32, out: &mut Outbox<BridgeOut<L>>)
+fn want_first<L>(shape: &Chart, sub: SubId, topic: u32, out: &mut Outbox<BridgeOut<L>>)
     requires few { length shape.now.publisher_topics < 2 ^ 32 }
     requires room { 0 < out.old.spare }
     ensures { out.new.items ≡ out.old.items ++ first_outs (position (λ t. t == topic) shape.now.publisher_topics) (ToPublisher.Want sub MsgKind.Initial) }

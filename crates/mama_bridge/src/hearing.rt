@@ -6,10 +6,11 @@ ghost use Rattle.mama_bridge.specs.Desk.{Hears, HearsOf, AsBefore};
 ghost use Rattle.mama_bridge.specs.Outs.{brought};
 ghost use Rattle.mama_bridge.specs.Putters.{actor_of, IsThere, HasFlags};
 
+use crate::chart::Chart;
 use crate::desk::Desk;
 use crate::out::BridgeOut;
 use crate::putter::Putter;
-use mama_event::{InboxId, InboxTerms, Shape, SubId, SubTerms, Tagged, ToBridge};
+use mama_event::{InboxId, InboxTerms, SubId, SubTerms, Tagged, ToBridge};
 use mama_link::Outbox;
 use mama_memory::OutOfMemory;
 
@@ -17,7 +18,7 @@ impl Desk {
     /// Hears an event of an actor. It is no queue's Bye.
     pub(crate) fn hear<L: Tagged>(
         &mut self,
-        shape: &Shape,
+        shape: &Chart,
         putter: Putter,
         publishers: u32,
         event: ToBridge<L>,
@@ -45,7 +46,7 @@ impl Desk {
     /// Hears an event of a client, which joins and opens only objects of its own.
     fn hear_client<L: Tagged>(
         &mut self,
-        shape: &Shape,
+        shape: &Chart,
         client: u32,
         publishers: u32,
         event: ToBridge<L>,
@@ -76,7 +77,7 @@ impl Desk {
     /// Hears a Join of a client.
     fn hear_join<L: Tagged>(
         &mut self,
-        shape: &Shape,
+        shape: &Chart,
         client: u32,
         sub: SubId,
         terms: SubTerms,
@@ -105,7 +106,7 @@ impl Desk {
     /// Hears an OpenInbox of a client.
     fn hear_opening<L: Tagged>(
         &mut self,
-        shape: &Shape,
+        shape: &Chart,
         client: u32,
         inbox: InboxId,
         terms: InboxTerms,
@@ -133,7 +134,7 @@ impl Desk {
     /// Hears an event of a client that brings no listener.
     fn hear_plain<L: Tagged>(
         &mut self,
-        shape: &Shape,
+        shape: &Chart,
         client: u32,
         publishers: u32,
         event: ToBridge<L>,
@@ -155,7 +156,7 @@ impl Desk {
 
     fn told_by_client<L: Tagged>(
         &mut self,
-        shape: &Shape,
+        shape: &Chart,
         client: u32,
         publishers: u32,
         event: &ToBridge<L>,
@@ -180,7 +181,7 @@ impl Desk {
     /// Hears an event of a publisher.
     fn hear_publisher<L: Tagged>(
         &mut self,
-        shape: &Shape,
+        shape: &Chart,
         publisher: u32,
         publishers: u32,
         event: ToBridge<L>,
@@ -203,7 +204,7 @@ impl Desk {
 
     fn told_by_publisher<L: Tagged>(
         &mut self,
-        shape: &Shape,
+        shape: &Chart,
         publisher: u32,
         publishers: u32,
         event: &ToBridge<L>,
@@ -230,7 +231,7 @@ impl Desk {
     /// Hears an event of a queue. It is no Bye.
     fn hear_queue<L: Tagged>(
         &mut self,
-        shape: &Shape,
+        shape: &Chart,
         event: ToBridge<L>,
         out: &mut Outbox<BridgeOut<L>>,
     ) -> Result<(), ToBridge<L>>
@@ -248,7 +249,7 @@ impl Desk {
 
     fn told_by_queue<L: Tagged>(
         &mut self,
-        shape: &Shape,
+        shape: &Chart,
         event: &ToBridge<L>,
         out: &mut Outbox<BridgeOut<L>>,
     ) -> Result<(), OutOfMemory>

@@ -8,13 +8,14 @@
 //! A bridge keeps a link for each live subscription and each open inbox, and not what it heard. The links of
 //! subscriptions stand by topic: a publish costs the links of its topic, what comes out of them, and a logarithm of the
 //! topics. An image, a wish and a Leave cost the links of one topic, and a logarithm of all that joined before. A reply
-//! and the end of an inbox cost what comes out of its link, and a logarithm of all inboxes that were opened before; an
-//! Ask costs that logarithm, and a look for the first publisher of its topic, and so does a Join. The opening of an inbox
-//! costs such a logarithm too. All links and places are looked at where settling begins and where the ending comes. Want
-//! of memory leaves the bridge and the outbox as they were.
+//! and the end of an inbox cost what comes out of its link, and a logarithm of all inboxes that were opened before. A
+//! Join, an Ask and the opening of an inbox cost logarithms: of the topics, of those that joined or were opened before,
+//! and of the slots that are free again. All links and places are looked at where settling begins and where the ending
+//! comes. Want of memory leaves the bridge and the outbox as they were.
 #![tactic(auto)]
 
 mod bridge;
+mod chart;
 mod desk;
 mod ending;
 mod ends;

@@ -18,7 +18,8 @@ returns-clause-ok g c table s sound =
     let turned = c.in_ok-turn.ensures in
     let rest = turned.rest in
     let before = c.args.self.now in
-    let out = subst (λ (n : ℕ). EndsLive {L = g.row.L.Denot} c.begins-ends.result n (queues_of c.args.shape.now) before.subs before.inboxes.links (c.args.out.now.items ++ cond c.begins-settles.result (settle_outs n) []) c.turn.new.out.items) c.requires.publishers turned.out in
+    let out = subst (λ (n : ℕ). EndsLive {L = g.row.L.Denot} c.begins-ends.result n (queues_of c.args.shape.now) before.subs before.inboxes.links (c.args.out.now.items ++ cond c.begins-settles.result (settle_outs n) []) c.turn.new.out.items) c.requires.publishers
+    (subst (λ (k : ℕ). EndsLive {L = g.row.L.Denot} c.begins-ends.result c.args.publishers k before.subs before.inboxes.links (c.args.out.now.items ++ cond c.begins-settles.result (settle_outs c.args.publishers) []) c.turn.new.out.items) c.queues.ensures turned.out) in
     record {
       stands = record {
         opened = λ one. ap (λ (known : List InboxId). is_inbox_among known one) rest.opened ∙ s.opened one;
