@@ -18,7 +18,6 @@ use Rattle.mama_bridge.specs.Outs.{put_note}
 use Rattle.mama_timer.specs.Out.{out_note}
 use Rattle.mama_queue_seat.specs.Put.{own_tag, notes_of}
 use Rattle.mama_seats.specs.Sender.{steps_in}
-use Rattle.mama_drive.specs.declared.held.Waiting.{Waiting}
 use Rattle.mama_drive.specs.declared.held.Held.{Held}
 use Rattle.mama_drive.specs.declared.held.Held.TheVariants as held
 use Rattle.mama_drive.specs.Scene.{Scene, Moves, setting_in, world_in, script_in, entries_in, lane_in, journal_in, waiting_in, put_on, spread, spread_one, spread_ticks, tick_one}

@@ -9,7 +9,7 @@ use Rattle.mama_event.specs.declared.to_queue.QueueNote.{QueueNote}
 use Rattle.mama_rules.specs.Bridge.{BridgePut, bridge_puts_at}
 use Rattle.mama_rules.specs.Timers.{timers_puts_at}
 use Rattle.mama_queue_rules.specs.Queue.{QueuePut}
-use Rattle.mama_rounds.specs.World.{World, bridge_turn, bridge_took, timers_turn, timers_took, publisher_turn, queue_turn}
+use Rattle.mama_rounds.specs.World.{bridge_turn, bridge_took, timers_turn, timers_took, publisher_turn, queue_turn}
 use Rattle.mama_rounds.specs.Stage.{client_step, publisher_step}
 use Rattle.mama_seats.specs.Sender.{Sender, taken, taken_puts, IsSenderStep}
 use Rattle.mama_seats.specs.Stand.{Stand, IsStep, IsReading}

@@ -6,7 +6,7 @@ use Rattle.mama_bridge.specs.Routing.{Routing}
 use Rattle.mama_bridge.specs.Outs.{put_note}
 use Rattle.mama_queue_seat.specs.Put.{own_tag}
 use Rattle.mama_drive.specs.Entry.{bridge_entry}
-use Rattle.mama_drive.proofs.HeldTurnLemmas.{bridge_turned, bridge_waits}
+use Rattle.mama_drive.proofs.HeldTurnLemmas.{bridge_turned}
 use Rattle.mama_drive.proofs.system.System.bridge_turn.Goals as goal
 
 pub returns-in-Ok-clause-turn : goal.returns-in-Ok-clause-turn

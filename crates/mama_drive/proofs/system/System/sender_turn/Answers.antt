@@ -1,4 +1,4 @@
-use Rattle.std.proofs.Common.{◌≡◌, sym, subst, ap, map, ◌<◌, length, List}
+use Rattle.std.proofs.Common.{sym, subst, ap, map, ◌<◌, length, List}
 use Rattle.mama_event.specs.ToBridge.{note_of}
 use Rattle.mama_event.specs.declared.to_bridge.BridgeNote.{BridgeNote}
 use Rattle.mama_seats.specs.Sender.{IsSenderStep}

@@ -6,7 +6,7 @@ use Rattle.mama_timer.specs.Service.{Service}
 use Rattle.mama_timer.specs.Out.{out_note}
 use Rattle.mama_queue_seat.specs.Put.{own_tag}
 use Rattle.mama_drive.specs.Entry.{timers_entry}
-use Rattle.mama_drive.proofs.HeldTurnLemmas.{timers_turned, timers_wait}
+use Rattle.mama_drive.proofs.HeldTurnLemmas.{timers_turned}
 use Rattle.mama_drive.proofs.system.System.timers_turn.Goals as goal
 
 pub returns-in-Ok-clause-turn : goal.returns-in-Ok-clause-turn
