@@ -249,61 +249,27 @@ fn one_that_comes_later_is_not_stopped(rt: HostRuntime) -> Result<(), Fail> {
     Ok(())
 }
 
-// An event that makes an object, whose listener comes in a box.
-fn boxed<L: Listener + Send + 'static>(
-    alloc: Global,
-    slot: u32,
-    object: ObjectId,
-    make: Make,
-    listener: L,
-) -> Result<ToQueue<Box<dyn Listener + Send>>, Fail> {
-    Ok(ToQueue::Create {
-        slot,
-        object,
-        make,
-        listener: Box::new(alloc, listener)?,
-    })
+// The callbacks that a listener of any type got.
+fn count_of<L: Listener>(listener: &L) -> u64 {
+    listener.count()
+}
+
+// A listener in a box.
+fn boxed(alloc: Global, listener: Orderer) -> Result<Box<dyn Listener + Send>, Fail> {
+    Ok(Box::new(alloc, listener)?)
 }
 
 #[test]
-fn one_queue_serves_listeners_of_two_types(rt: HostRuntime) -> Result<(), Fail> {
+fn a_box_of_a_listener_is_a_listener(rt: HostRuntime) -> Result<(), Fail> {
     let alloc = rt.alloc();
-    let mut serving: Serving<Box<dyn Listener + Send>> = Serving::new(alloc, 0);
-    let mut out = Outbox::new(alloc);
-    let mut plan = Vec::new(alloc);
-    plan.push(PlanRow {
-        call: 2,
-        order: Order::Disarm(TIMER),
-    })?;
-    assert!(rt; has_few_rows(alloc, &plan)?);
-    let market = Make::Sub {
-        kind: SubKind::Basic,
-        cache: 0,
-    };
-    let planned = PlanListener::new(alloc, OBJECT, plan);
-    let created = boxed(alloc, 0, OBJECT, market, planned)?;
-    assert_eq!(rt; took(&rt, &mut serving, created, &mut out)?, ('c', 1));
-    let timer = ObjectId::Timer(TIMER);
-    let armed = boxed(
-        alloc,
-        1,
-        timer,
-        Make::Timer,
-        orderer(timer, Order::Stop(SUB), 3, 1),
-    )?;
-    assert_eq!(rt; took(&rt, &mut serving, armed, &mut out)?, ('c', 1));
-    let first = deliver(alloc, MsgKind::Initial, 0);
-    assert_eq!(rt; took(&rt, &mut serving, first, &mut out)?, ('c', 1));
-    let ticked = ToQueue::Tick {
-        slot: 1,
-        timer: TIMER,
-        moment: 5,
-    };
-    assert_eq!(rt; took(&rt, &mut serving, ticked, &mut out)?, ('m', 0));
-    let gone = ToQueue::Gone {
-        slot: 1,
-        object: timer,
-    };
-    assert_eq!(rt; took(&rt, &mut serving, gone, &mut out)?, ('e', 2));
+    let mut listener = boxed(alloc, orderer(OBJECT, Order::Stop(SUB), 2, 3))?;
+    assert_eq!(rt; listener.tag(), OBJECT);
+    let mut first = Orders::new();
+    listener.on_create(&mut first);
+    assert_eq!(rt; first.len(), 0);
+    let mut second = Orders::new();
+    listener.on_destroy(&mut second);
+    assert_eq!(rt; second.len(), 3);
+    assert_eq!(rt; count_of(&listener), 2);
     Ok(())
 }
