@@ -1,0 +1,9 @@
+//! The verdict on the record of a run: which of the rules of a legal record are kept, and who is the first to break one.
+//!
+//! `specs/Rules.antt` says each rule, for one actor, and `specs/First.antt` what the first actor is that does not keep it.
+#![tactic(auto)]
+
+mod lines;
+
+pub use lines::{first_of_lines, first_of_moments};
+pub use mama_memory::OutOfMemory;
