@@ -1,0 +1,7 @@
+use Rattle.std.proofs.Common.{◌≡◌, ◌++◌, map, take}
+use Rattle.mama_queue_check.specs.Served.{timers_puts}
+use Rattle.mama_check.proofs.gather.add_timing_queues.Given as goal
+
+-- what was put by so many is added
+abbrev pub invariant-loop-queue : goal.invariant-loop-queue
+invariant-loop-queue l = map (λ list. list.now) l.lists.items ≡ map (λ list. list.now) l.initial.lists.items ++ map timers_puts (take l.queue-index l.queues)

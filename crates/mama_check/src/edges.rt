@@ -1,0 +1,101 @@
+ghost use Rattle.std.specs.Prelude.{◌≡◌, ◌↔◌, ◌<◌, true, length, map, IfOk};
+ghost use Rattle.mama_event.specs.Ports.{queues_of};
+ghost use Rattle.mama_script.specs.Tree.{IsShaped};
+ghost use Rattle.mama_puts.specs.Puts.{AreLists, timers_put_to};
+ghost use Rattle.mama_check.specs.Puts.{AreClientPuts, AreBridgePuts, AreServed, publisher_to_bridge};
+ghost use Rattle.mama_check.specs.Rules.{KeepsPublisherEdge, KeepsBridgeEdges, KeepsTimersEdges, KeepsQueueEdges};
+
+use crate::gather::{lists_to_bridge, lists_to_timers};
+use mama_edges::{needs_of_bridge, needs_of_queue, needs_of_sender, needs_of_timers};
+use mama_event::{BridgeNote, QueueNote};
+use mama_memory::OutOfMemory;
+use mama_puts::{BridgePuts, ClientPuts};
+use mama_queue_check::ServedQueue;
+use mama_record::RunRecord;
+use mama_script::Script;
+use std::alloc::Global;
+
+/// Whether a publisher took all that the bridge put to it, in order.
+pub fn is_publisher_whole(
+    alloc: Global,
+    script: &Script,
+    run: &RunRecord,
+    bridge: &BridgePuts,
+    publisher: usize,
+) -> Result<bool, OutOfMemory>
+    requires shaped { IsShaped script.now }
+    requires publisher { publisher < length script.now.publishers }
+    requires journals { length run.now.publishers ≡ length script.now.publishers }
+    requires bridge { AreBridgePuts script.now run.now bridge.now }
+    ensures { IfOk result (λ whole. (whole ≡ true) ↔ KeepsPublisherEdge script.now run.now publisher) }
+{
+    let list = &bridge.to_publishers[publisher];
+    let journals = run.publishers();
+    let needs = needs_of_sender(alloc, 0, list, &journals[publisher])?;
+    Ok(needs.is_some())
+}
+
+/// Whether the bridge took by each port all that was put there, in order, and nothing by other ports.
+pub fn is_bridge_whole(
+    alloc: Global,
+    script: &Script,
+    run: &RunRecord,
+    clients: &[ClientPuts],
+    publishers: &[Vec<(usize, BridgeNote)>],
+    queues: &[ServedQueue],
+) -> Result<bool, OutOfMemory>
+    requires shaped { IsShaped script.now }
+    requires journals { length run.now.queues ≡ queues_of script.now.shape }
+    requires clients { AreClientPuts script.now run.now clients.now }
+    requires publishers { AreLists (map (λ list. list.items) publishers.now) (length script.now.publishers) (publisher_to_bridge script.now run.now) }
+    requires queues { AreServed script.now run.now queues.now }
+    ensures { IfOk result (λ whole. (whole ≡ true) ↔ KeepsBridgeEdges script.now run.now) }
+{
+    let lists = lists_to_bridge(alloc, clients, publishers, queues)?;
+    let needs = needs_of_bridge(alloc, &[], &lists, run.bridge())?;
+    Ok(needs.is_some())
+}
+
+/// Whether the timer service took by each port all that was put there, in order, and nothing by other ports.
+pub fn is_timing_whole(
+    alloc: Global,
+    script: &Script,
+    run: &RunRecord,
+    clients: &[ClientPuts],
+    queues: &[ServedQueue],
+    bridge: &BridgePuts,
+) -> Result<bool, OutOfMemory>
+    requires shaped { IsShaped script.now }
+    requires journals { length run.now.queues ≡ queues_of script.now.shape }
+    requires clients { AreClientPuts script.now run.now clients.now }
+    requires queues { AreServed script.now run.now queues.now }
+    requires bridge { AreBridgePuts script.now run.now bridge.now }
+    ensures { IfOk result (λ whole. (whole ≡ true) ↔ KeepsTimersEdges script.now run.now) }
+{
+    let lists = lists_to_timers(alloc, clients, queues, bridge.to_timers.as_slice())?;
+    let needs = needs_of_timers(alloc, &[], &lists, run.timers())?;
+    Ok(needs.is_some())
+}
+
+/// Whether a queue took by each of its two ports all that was put there, in order, and nothing by other ports.
+pub fn is_queue_whole(
+    alloc: Global,
+    script: &Script,
+    run: &RunRecord,
+    bridge: &BridgePuts,
+    timers: &[Vec<(usize, QueueNote)>],
+    queue: usize,
+) -> Result<bool, OutOfMemory>
+    requires queue { queue < queues_of script.now.shape }
+    requires journals { length run.now.queues ≡ queues_of script.now.shape }
+    requires bridge { AreBridgePuts script.now run.now bridge.now }
+    requires timers { AreLists (map (λ list. list.items) timers.now) (queues_of script.now.shape) (timers_put_to script.now.shape run.now.timers) }
+    ensures { IfOk result (λ whole. (whole ≡ true) ↔ KeepsQueueEdges script.now run.now queue) }
+{
+    let from_bridge = &bridge.to_queues[queue];
+    let from_timers = &timers[queue];
+    let lists = [from_bridge.as_slice(), from_timers.as_slice()];
+    let journals = run.queues();
+    let needs = needs_of_queue(alloc, &[], &lists, &journals[queue])?;
+    Ok(needs.is_some())
+}
