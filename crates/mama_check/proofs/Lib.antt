@@ -1,3 +1,5 @@
 pub mod LineLemmas
 pub mod PutLists
 pub mod Lanes
+pub mod CallLemmas
+pub mod KeptLaw

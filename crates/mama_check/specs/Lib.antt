@@ -1,3 +1,4 @@
 pub mod First
 pub mod Rules
 pub mod Puts
+pub mod Kept

@@ -1,13 +1,14 @@
 -- The rules of a legal record, one by one, each for one actor by its number. Where all actors keep them, the record is
 -- legal; nothing else is asked of the streams of subscriptions and of last events, which follow from whole edges.
-use Rattle.std.specs.Prelude.{◌≡◌, ℕ, [], length, slice_index_or}
+use Rattle.std.specs.Prelude.{◌≡◌, ℕ, [], length, map, slice_get, slice_index_or}
+use Rattle.std.specs.List.{flat_map}
 use Rattle.mama_journal.specs.Lane.{by_port}
 use Rattle.mama_rules.specs.Ports.{bridge_putter, timers_putter, queue_putter}
 use Rattle.mama_script.specs.Script.{ScriptData}
 use Rattle.mama_record.specs.RunData.{RunData}
 use Rattle.mama_rounds.specs.Client.{clock_lines}
 use Rattle.mama_rounds.specs.World.{no_section}
-use Rattle.mama_rounds.specs.Round.{setting_of}
+use Rattle.mama_rounds.specs.Round.{setting_of, object_calls, last_image}
 use Rattle.mama_legal.specs.Lines.{IsSentOut}
 use Rattle.mama_legal.specs.Edges.{client_puts, taken_by, put_on_bridge, put_on_timers, put_to_publisher, put_on_queue}
 
@@ -39,3 +40,14 @@ KeepsTimersEdges script run = (port : ℕ) → by_port port run.timers
 abbrev pub KeepsQueueEdges : ScriptData → RunData → ℕ → Type 0
 KeepsQueueEdges script run q = (port : ℕ) → by_port port (slice_index_or run.queues q [])
     ≡ put_on_queue script.shape run.bridge run.timers q (queue_putter port)
+
+-- CALLBACKS AND IMAGES, by what the queues' journals say
+
+-- the callbacks of the object of this number, with their orders, are those that its queue makes by its journal and the
+-- plan; objects are numbered as the record has them: subscriptions, timers and then inboxes
+abbrev pub KeepsCalls : ScriptData → RunData → ℕ → Type 0
+KeepsCalls script run k = slice_get run.calls k ≡ slice_get (map (object_calls (setting_of script) run.queues) (setting_of script).objects) k
+
+-- the images are those that the strategy leaves
+abbrev pub KeepsImages : ScriptData → RunData → Type 0
+KeepsImages script run = run.images ≡ flat_map (last_image (setting_of script) run.queues) (setting_of script).objects

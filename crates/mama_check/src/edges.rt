@@ -2,6 +2,7 @@ ghost use Rattle.std.specs.Prelude.{◌≡◌, ◌↔◌, ◌<◌, true, length,
 ghost use Rattle.mama_event.specs.Ports.{queues_of};
 ghost use Rattle.mama_script.specs.Tree.{IsShaped};
 ghost use Rattle.mama_puts.specs.Puts.{AreLists, timers_put_to};
+ghost use Rattle.mama_check.specs.First.{IsFirst};
 ghost use Rattle.mama_check.specs.Puts.{AreClientPuts, AreBridgePuts, AreServed, publisher_to_bridge};
 ghost use Rattle.mama_check.specs.Rules.{KeepsPublisherEdge, KeepsBridgeEdges, KeepsTimersEdges, KeepsQueueEdges};
 
@@ -98,4 +99,47 @@ pub fn is_queue_whole(
     let journals = run.queues();
     let needs = needs_of_queue(alloc, &[], &lists, &journals[queue])?;
     Ok(needs.is_some())
+}
+
+/// The first publisher that did not take all that the bridge put to it, in order.
+pub fn first_of_publisher_edges(
+    alloc: Global,
+    script: &Script,
+    run: &RunRecord,
+    bridge: &BridgePuts,
+) -> Result<Option<usize>, OutOfMemory>
+    requires shaped { IsShaped script.now }
+    requires journals { length run.now.publishers ≡ length script.now.publishers }
+    requires bridge { AreBridgePuts script.now run.now bridge.now }
+    ensures { IfOk result (λ first. IsFirst (KeepsPublisherEdge script.now run.now) (length script.now.publishers) first) }
+{
+    let count = script.publishers().len();
+    for p in 0..count {
+        if !is_publisher_whole(alloc, script, run, bridge, p)? {
+            return Ok(Some(p));
+        }
+    }
+    Ok(None)
+}
+
+/// The first queue that did not take by both its ports all that was put there, in order, and nothing by other ports.
+pub fn first_of_queue_edges(
+    alloc: Global,
+    script: &Script,
+    run: &RunRecord,
+    bridge: &BridgePuts,
+    timers: &[Vec<(usize, QueueNote)>],
+) -> Result<Option<usize>, OutOfMemory>
+    requires journals { length run.now.queues ≡ queues_of script.now.shape }
+    requires bridge { AreBridgePuts script.now run.now bridge.now }
+    requires timers { AreLists (map (λ list. list.items) timers.now) (queues_of script.now.shape) (timers_put_to script.now.shape run.now.timers) }
+    ensures { IfOk result (λ first. IsFirst (KeepsQueueEdges script.now run.now) (queues_of script.now.shape) first) }
+{
+    let count = run.queues().len();
+    for q in 0..count {
+        if !is_queue_whole(alloc, script, run, bridge, timers, q)? {
+            return Ok(Some(q));
+        }
+    }
+    Ok(None)
 }

@@ -1,14 +1,23 @@
 //! The verdict on the record of a run: which of the rules of a legal record are kept, and who is the first to break one.
 //!
 //! `specs/Rules.antt` says each rule, for one actor, and `specs/First.antt` what the first actor is that does not keep it.
+//! A function for each rule finds that actor, and [`kept_rules_are_legal`] says that a record is legal exactly where all
+//! keep all of them (`specs/Kept.antt`).
 #![tactic(auto)]
 
 mod edges;
 mod gather;
+mod laws;
 mod lines;
+mod objects;
 mod puts;
 
-pub use edges::{is_bridge_whole, is_publisher_whole, is_queue_whole, is_timing_whole};
+pub use edges::{
+    first_of_publisher_edges, first_of_queue_edges, is_bridge_whole, is_publisher_whole,
+    is_queue_whole, is_timing_whole,
+};
+pub use laws::kept_rules_are_legal;
 pub use lines::{first_of_lines, first_of_moments};
 pub use mama_memory::OutOfMemory;
+pub use objects::first_of_calls;
 pub use puts::{puts_of_clients, puts_of_publishers, puts_of_the_bridge};

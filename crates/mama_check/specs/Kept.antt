@@ -1,0 +1,33 @@
+-- A record that keeps all rules is legal, and no other is.
+use Rattle.std.specs.Prelude.{◌≡◌, ◌↔◌, ℕ, ◌<◌, length, map}
+use Rattle.mama_event.specs.Ports.{queues_of}
+use Rattle.mama_script.specs.Script.{ScriptData}
+use Rattle.mama_record.specs.RunData.{RunData}
+use Rattle.mama_rounds.specs.Round.{setting_of}
+use Rattle.mama_legal.specs.Laws.{IsOrderly}
+use Rattle.mama_legal.specs.Legal.{IsLegal}
+use Rattle.mama_check.specs.Rules.{KeepsMoments, KeepsLines, KeepsPublisherEdge, KeepsBridgeEdges, KeepsTimersEdges, KeepsQueueEdges, KeepsCalls, KeepsImages}
+
+-- A record has a list of moments for each client, a journal for each publisher and queue, and callbacks for the objects of
+-- the script, in order.
+pub record IsCounted (script : ScriptData) (run : RunData) : Type 0 where
+  pub clients : length run.clients ≡ length script.clients
+  pub publishers : length run.publishers ≡ length script.publishers
+  pub queues : length run.queues ≡ queues_of script.shape
+  pub objects : map (λ c. c.object) run.calls ≡ map (λ p. p.object) (setting_of script).objects
+
+-- All actors keep all rules.
+pub record AreKept (script : ScriptData) (run : RunData) : Type 0 where
+  pub moments : (c : ℕ) → c < length script.clients → KeepsMoments script run c
+  pub lines : (p : ℕ) → p < length script.publishers → KeepsLines script run p
+  pub publishers : (p : ℕ) → p < length script.publishers → KeepsPublisherEdge script run p
+  pub bridge : KeepsBridgeEdges script run
+  pub timers : KeepsTimersEdges script run
+  pub queues : (q : ℕ) → q < queues_of script.shape → KeepsQueueEdges script run q
+  pub calls : (k : ℕ) → k < length (setting_of script).objects → KeepsCalls script run k
+  pub images : KeepsImages script run
+
+-- A law: the record of a script is legal exactly where all rules are kept. What a legal record has beside them, the streams
+-- of subscriptions, timers and inboxes and the last events, follows from the edges.
+abbrev pub KeptIsLegal : Type 0
+KeptIsLegal = (script : ScriptData) (run : RunData) → IsOrderly script → IsCounted script run → AreKept script run ↔ IsLegal script run
