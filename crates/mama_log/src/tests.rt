@@ -101,15 +101,15 @@ fn entries_of_the_bridge(rt: HostRuntime) -> Result<(), Fail> {
         assert_eq!(rt; bridge_entry_in(rt.alloc(), &names, line)?.is_some(), fits);
     }
     let entry = bridge_entry_in(rt.alloc(), &names, b"c0 join s0.0")?;
-    match entry {
+    match &entry {
         Some((port, BridgeNote::Join { sub, terms, tag })) => {
             let id = SubId {
                 client: 0,
                 number: 0,
             };
-            assert_eq!(rt; port, 0);
-            assert_eq!(rt; sub, id);
-            assert_eq!(rt; tag, ObjectId::Sub(id));
+            assert_eq!(rt; *port, 0);
+            assert_eq!(rt; *sub, id);
+            assert_eq!(rt; *tag, ObjectId::Sub(id));
             assert_eq!(rt; terms.kind, SubKind::Market);
             assert_eq!(rt; terms.queue, 0);
             assert_eq!(rt; terms.cache, 10);
