@@ -1,7 +1,7 @@
 #!/bin/bash
 # Time and memory of 'mama_run serial' at n and 2n: updates of one publisher to one subscription; and many publishers,
-# subscriptions, topics and inboxes. Wants the proved program (./mama --version builds it). Prints seconds, their ratio, and peak bytes of
-# memory for each byte of input.
+# subscriptions, topics and inboxes. Wants the proved program (./mama --version builds it). Prints seconds, their ratio, and
+# peak bytes of memory for each byte of input.
 . "$(dirname "$0")/scratch.sh"
 proved_program
 
@@ -45,4 +45,4 @@ compare() {
 compare 'updates of one publisher' one_publisher 100000
 compare 'publishers with 50 updates each' many_publishers 500
 compare 'subscriptions on 1,000 topics' many_subscriptions 5000
-compare 'inboxes that ask' many_inboxes 8192
+compare 'inboxes that ask' many_inboxes 32768
