@@ -1,19 +1,13 @@
 -- A record that keeps all rules is legal, and a legal one keeps them.
-use Rattle.std.proofs.Common.{◌≡◌, ℕ, zero, suc, ◌+◌, ◌<◌, List, [], ◌∷◌, length, map, get_or, refl, ap, sym, subst, ◌∙◌, arith}
-use Rattle.std.specs.Prelude.{slice_get, slice_index_or, Some}
+use Rattle.std.proofs.Common.{◌≡◌, ℕ, suc, ◌<◌, List, [], ◌∷◌, length, map, get_or, refl, ap, sym, subst, ◌∙◌, arith}
+use Rattle.std.specs.Prelude.{slice_get, Some}
 use Rattle.std.proofs.lemmas.List.{get_or-map, length-map}
-use Rattle.mama_script.specs.declared.client.ClientLine.{ClientLine}
-use Rattle.mama_script.specs.Script.{ScriptData}
-use Rattle.mama_record.specs.RunData.{RunData, ObjectCalls}
+use Rattle.mama_record.specs.RunData.{ObjectCalls}
 use Rattle.mama_rounds.specs.Client.{clock_lines}
 use Rattle.mama_rounds.specs.Round.{setting_of, object_calls}
-use Rattle.mama_legal.specs.Laws.{IsOrderly}
 use Rattle.mama_legal.specs.Legal.{IsLegal}
-use Rattle.mama_legal.specs.Edges.{AreEdges}
-use Rattle.mama_legal.specs.Lines.{AreLines}
-use Rattle.mama_legal.specs.Calls.{IsShapedFor, AreCalls}
 use Rattle.mama_legal.proofs.LegalRounds.{legal_edges}
-use Rattle.mama_check.specs.Kept.{IsCounted, AreKept, KeptIsLegal}
+use Rattle.mama_check.specs.Kept.{AreKept, KeptIsLegal}
 use Rattle.mama_check.proofs.CallLemmas.{as_many}
 
 -- two lists of which each item says the same

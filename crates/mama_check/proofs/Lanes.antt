@@ -10,8 +10,6 @@ use Rattle.mama_event.specs.declared.shape.Shape.{Shape}
 use Rattle.mama_event.specs.declared.to_bridge.BridgeNote.{BridgeNote}
 use Rattle.mama_event.specs.declared.to_timers.TimersNote.{TimersNote}
 use Rattle.mama_event.specs.declared.to_queue.QueueNote.{QueueNote}
-use Rattle.mama_event.specs.declared.to_publisher.PublisherNote.{PublisherNote}
-use Rattle.mama_event.specs.declared.publisher_entry.PublisherEntry.{PublisherEntry}
 use Rattle.mama_event.specs.Ports.{clients_of, publishers_of, queues_of}
 use Rattle.mama_event.specs.Publisher.{publisher_puts_at}
 use Rattle.mama_order.specs.Numbered.{second, numbered, parted, steps_numbered}
@@ -24,20 +22,21 @@ use Rattle.mama_rules.specs.Ports.{Putter, bridge_putter, timers_putter, queue_p
 use Rattle.mama_queue_rules.specs.Queue.{QueuePut, queue_puts_at}
 use Rattle.mama_script.specs.declared.client.ClientLine.{ClientLine}
 use Rattle.mama_script.specs.Script.{ScriptData}
-use Rattle.mama_script.specs.declared.publisher.PublisherPart.{PublisherPart}
 use Rattle.mama_script.specs.Tree.{IsShaped, topic_of_part}
 use Rattle.mama_record.specs.RunData.{RunData}
-use Rattle.mama_rounds.specs.Client.{Planned, client_steps, bridge_part, timers_part}
-use Rattle.mama_rounds.specs.World.{no_section, orders_by, publisher_part, queue_part, timer_part}
+use Rattle.mama_rounds.specs.Client.{Planned, at_first, client_steps, bridge_part, timers_part}
+use Rattle.mama_rounds.specs.World.{no_section, orders_by, queue_part, timer_part}
 use Rattle.mama_rounds.specs.Round.{all_client_steps, setting_of}
-use Rattle.mama_legal.specs.Edges.{all_steps, client_puts, queue_puts, put_on_bridge, put_on_timers, put_to_publisher, put_on_queue}
+use Rattle.mama_legal.specs.Edges.{all_steps, client_puts, queue_puts, put_on_bridge, put_on_timers, put_on_queue}
 use Rattle.mama_legal.proofs.Lists.{by_entries, puts-push}
 use Rattle.mama_legal.proofs.Putters.{by_bridge_port, by_timers_port, by_queue_port, bridge_puts-push, timers_puts-push}
 use Rattle.mama_edges.specs.Taken.{put_by}
-use Rattle.mama_puts.specs.Puts.{AreLists, tick_part, timers_put_to, bridge_put_to_publisher, bridge_put_to_queue, bridge_put_to_timers}
+use Rattle.mama_puts.specs.Puts.{AreLists, tick_part, timers_put_to, bridge_put_to_queue, bridge_put_to_timers}
+use Rattle.mama_puts.specs.Client.{line_puts}
 use Rattle.mama_puts.specs.declared.client.ClientPuts.{ClientPuts}
 use Rattle.mama_queue_check.specs.Served.{ServedData, puts_in, bridge_puts, timers_puts}
 use Rattle.mama_check.specs.Puts.{to_bridge_in, to_timers_in, client_to_bridge, client_to_timers, publisher_to_bridge, AreClientPuts, AreServed}
+use Rattle.mama_check.proofs.PutLists.{lines_are_steps}
 
 -- ---- three groups of lists, one after another
 
@@ -91,15 +90,16 @@ steps_at queues n moments (ls ∷ rest) (suc c) h =
 
 -- what a client put one way
 pub client_part : {V : Type 0} (part : QueuePut → List V) (script : ScriptData) (run : RunData) (c : ℕ) → c < length script.clients
-    → map second (parted part (steps_numbered (client_steps (queues_of script.shape) c (slice_index_or run.clients c []) (slice_index_or script.clients c [])))) ≡ flat_map part (client_puts script run.clients c)
+    → map second (parted part (steps_numbered (line_puts (queues_of script.shape) c (slice_index_or run.clients c []) (slice_index_or script.clients c [])))) ≡ flat_map part (client_puts script run.clients c)
 client_part part script run c within =
     let queues : ℕ = queues_of script.shape in
     let lines : List ClientLine = slice_index_or script.clients c [] in
     let same : 0 + c ≡ c = omega arith in
     let steps : client_steps queues c (slice_index_or run.clients c []) lines ≡ slice_index_or (all_client_steps queues 0 run.clients script.clients) c [] =
     ap (λ (m : ℕ). client_steps queues m (slice_index_or run.clients m []) lines) (sym same) ∙ sym (steps_at queues 0 run.clients script.clients c within) in
-    parted_puts part (steps_numbered (client_steps queues c (slice_index_or run.clients c []) lines))
-    ∙ ap (λ (ps : List QueuePut). flat_map part ps) (steps_puts (client_steps queues c (slice_index_or run.clients c []) lines) ∙ ap (λ (ss : List (List QueuePut)). all_steps ss) steps)
+    parted_puts part (steps_numbered (line_puts queues c (slice_index_or run.clients c []) lines))
+    ∙ ap (λ (ps : List QueuePut). flat_map part ps)
+    (steps_puts (line_puts queues c (slice_index_or run.clients c []) lines) ∙ lines_are_steps queues c (at_first (slice_index_or run.clients c [])) lines ∙ ap (λ (ss : List (List QueuePut)). all_steps ss) steps)
 
 -- what the bridge put, and what the timer service put, entry by entry
 pub bridge_entries : (shape : Shape) (journal : List (ℕ × BridgeNote)) → puts (bridge_puts_at shape) journal ≡ bridge.bridge_puts shape journal

@@ -3,3 +3,5 @@ pub mod PutLists
 pub mod Lanes
 pub mod CallLemmas
 pub mod KeptLaw
+pub mod Causes
+pub mod Numbers

@@ -1,15 +1,20 @@
 -- Lists of what actors put, one after another.
-use Rattle.std.proofs.Common.{◌≡◌, ℕ, zero, suc, ◌+◌, ◌<◌, ◌≤◌, inl, inr, List, [], ◌∷◌, ◌++◌, length, map, get_or, refl, ap, sym, subst, ◌∙◌, arith}
+use Rattle.std.proofs.Common.{◌≡◌, ℕ, zero, suc, ◌+◌, ◌<◌, inl, inr, List, [], ◌∷◌, ◌++◌, length, map, get_or, refl, ap, sym, subst, ◌∙◌, arith}
 use Rattle.std.specs.Prelude.{slice_index_or}
+use Rattle.std.specs.List.{flat_map}
 use Rattle.std.proofs.lemmas.Bool.{cases_lt}
+use Rattle.std.proofs.lemmas.Grind.{flat_map-append}
 use Rattle.std.proofs.lemmas.List.{map-append, get_or_append_left, get_or_push}
-use Rattle.mama_event.specs.Publisher.{PublisherScript}
+use Rattle.mama_queue_rules.specs.Queue.{QueuePut}
+use Rattle.mama_script.specs.declared.client.ClientLine.{ClientLine}
 use Rattle.mama_script.specs.declared.publisher.PublisherPart.{PublisherPart}
+use Rattle.mama_rounds.specs.Client.{Standing, line_steps, after_line, steps_from}
 use Rattle.mama_rounds.specs.World.{no_section}
 use Rattle.mama_rounds.specs.Round.{publishers_from}
 use Rattle.mama_edges.proofs.LaneWalk.{length_last}
 use Rattle.mama_puts.specs.Puts.{AreLists}
 use Rattle.mama_puts.specs.Sender.{script_of}
+use Rattle.mama_puts.specs.Client.{lines_from}
 
 pub lists_none : {A V : Type 0} (g : A → List V) (all : List A) (f : ℕ → List V) → all ≡ [] → AreLists (map g all) 0 f
 lists_none g all f e = record { as_many = ap (λ (xs : List _). length (map g xs)) e; each = λ n h. absurd (omega (arith, h)) }
@@ -60,3 +65,11 @@ script_at parts script number p x numbered are within is =
 pub at_four : {A B C D E : Type 0} (f : A → B → C → D → E) (a a' : A) (b b' : B) (c c' : C) (d d' : D) → a ≡ a' → b ≡ b' → c ≡ c' → d ≡ d' → f a b c d ≡ f a' b' c' d'
 at_four f a a' b b' c c' d d' e g h i =
     ap (λ (x : _). f x b c d) e ∙ ap (λ (x : _). f a' x c d) g ∙ ap (λ (x : _). f a' b' x d) h ∙ ap (λ (x : _). f a' b' c' x) i
+
+-- what a client put by its lines is what it put by its steps
+pub lines_are_steps : (queues c : ℕ) (s : Standing) (lines : List ClientLine)
+    → flat_map (λ (line : List QueuePut). line) (lines_from queues c s lines) ≡ flat_map (λ (step : List QueuePut). step) (steps_from queues c s lines)
+lines_are_steps queues c s [] = refl
+lines_are_steps queues c s (l ∷ ls) =
+    ap (λ (xs : List QueuePut). flat_map (λ (step : List QueuePut). step) (line_steps queues c s l) ++ xs) (lines_are_steps queues c (after_line s l) ls)
+    ∙ sym (flat_map-append (λ (step : List QueuePut). step) (line_steps queues c s l) (steps_from queues c (after_line s l) ls))

@@ -1,20 +1,13 @@
 -- A record that keeps all rules is legal, and no other is.
-use Rattle.std.specs.Prelude.{◌≡◌, ◌↔◌, ℕ, ◌<◌, length, map}
+use Rattle.std.specs.Prelude.{◌↔◌, ℕ, ◌<◌, length}
 use Rattle.mama_event.specs.Ports.{queues_of}
 use Rattle.mama_script.specs.Script.{ScriptData}
 use Rattle.mama_record.specs.RunData.{RunData}
 use Rattle.mama_rounds.specs.Round.{setting_of}
+use Rattle.mama_form.specs.Form.{IsCounted}
 use Rattle.mama_legal.specs.Laws.{IsOrderly}
 use Rattle.mama_legal.specs.Legal.{IsLegal}
 use Rattle.mama_check.specs.Rules.{KeepsMoments, KeepsLines, KeepsPublisherEdge, KeepsBridgeEdges, KeepsTimersEdges, KeepsQueueEdges, KeepsCalls, KeepsImages}
-
--- A record has a list of moments for each client, a journal for each publisher and queue, and callbacks for the objects of
--- the script, in order.
-pub record IsCounted (script : ScriptData) (run : RunData) : Type 0 where
-  pub clients : length run.clients ≡ length script.clients
-  pub publishers : length run.publishers ≡ length script.publishers
-  pub queues : length run.queues ≡ queues_of script.shape
-  pub objects : map (λ c. c.object) run.calls ≡ map (λ p. p.object) (setting_of script).objects
 
 -- All actors keep all rules.
 pub record AreKept (script : ScriptData) (run : RunData) : Type 0 where

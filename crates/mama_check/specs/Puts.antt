@@ -1,23 +1,21 @@
 -- What all actors put by a record, each event with the number of the entry that put it.
-use Rattle.std.specs.Prelude.{◌≡◌, ℕ, List, [], ◌∷◌, ◌++◌, length, map, slice_index_or}
-use Rattle.std.specs.List.{All}
+use Rattle.std.specs.Prelude.{◌≡◌, ℕ, List, [], length, map, slice_index_or}
 use Rattle.mama_event.specs.declared.to_bridge.BridgeNote.{BridgeNote}
 use Rattle.mama_event.specs.declared.to_timers.TimersNote.{TimersNote}
-use Rattle.mama_event.specs.declared.to_queue.QueueNote.{QueueNote}
-use Rattle.mama_event.specs.declared.publisher_entry.PublisherEntry.{PublisherEntry}
 use Rattle.mama_event.specs.Ports.{publishers_of, queues_of}
 use Rattle.mama_event.specs.Publisher.{publisher_puts_at}
-use Rattle.mama_order.specs.Numbered.{numbered}
+use Rattle.mama_order.specs.Numbered.{numbered, parted}
 use Rattle.mama_script.specs.Script.{ScriptData}
 use Rattle.mama_record.specs.RunData.{RunData}
+use Rattle.mama_rounds.specs.Client.{bridge_part, timers_part}
 use Rattle.mama_rounds.specs.World.{no_section}
 use Rattle.mama_rounds.specs.Round.{setting_of}
-use Rattle.mama_puts.specs.Puts.{AreLists, timers_put_to, bridge_put_to_publisher, bridge_put_to_queue, bridge_put_to_timers}
+use Rattle.mama_puts.specs.Puts.{AreLists, bridge_put_to_publisher, bridge_put_to_queue, bridge_put_to_timers}
 use Rattle.mama_puts.specs.Bridge.{publishers_in, queues_in}
 use Rattle.mama_puts.specs.Client.{client_put_to_bridge, client_put_to_timers}
 use Rattle.mama_puts.specs.declared.client.ClientPuts.{ClientPuts}
 use Rattle.mama_puts.specs.declared.bridge.BridgePuts.{BridgePuts}
-use Rattle.mama_queue_check.specs.Served.{ServedData, bridge_puts, timers_puts}
+use Rattle.mama_queue_check.specs.Served.{ServedData, puts_in}
 use Rattle.mama_queue_check.specs.Recorded.{journals_of, AreOf}
 
 abbrev pub to_bridge_in : List ClientPuts → List (List (ℕ × BridgeNote))
@@ -41,6 +39,13 @@ pub record AreClientPuts (script : ScriptData) (run : RunData) (clients : List C
 -- what the publisher of a number put by its journal
 abbrev pub publisher_to_bridge : ScriptData → RunData → ℕ → List (ℕ × BridgeNote)
 publisher_to_bridge script run p = numbered (publisher_puts_at (slice_index_or (setting_of script).publishers p no_section)) (slice_index_or run.publishers p [])
+
+-- what the queue of a number put to the bridge and to the timer service, by its journal and the plans of its objects
+abbrev pub queue_to_bridge : ScriptData → RunData → ℕ → List (ℕ × BridgeNote)
+queue_to_bridge script run q = parted bridge_part (puts_in (setting_of script).objects (slice_index_or run.queues q []))
+
+abbrev pub queue_to_timers : ScriptData → RunData → ℕ → List (ℕ × TimersNote)
+queue_to_timers script run q = parted timers_part (puts_in (setting_of script).objects (slice_index_or run.queues q []))
 
 -- these are the puts of the bridge
 pub record AreBridgePuts (script : ScriptData) (run : RunData) (puts : BridgePuts) : Type 0 where

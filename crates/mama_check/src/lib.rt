@@ -5,6 +5,7 @@
 //! keep all of them (`specs/Kept.antt`).
 #![tactic(auto)]
 
+mod causal;
 mod edges;
 mod gather;
 mod laws;
@@ -12,6 +13,7 @@ mod lines;
 mod objects;
 mod puts;
 
+pub use causal::{actors_have_their_numbers, is_causal};
 pub use edges::{
     first_of_publisher_edges, first_of_queue_edges, is_bridge_whole, is_publisher_whole,
     is_queue_whole, is_timing_whole,
@@ -21,3 +23,6 @@ pub use lines::{first_of_lines, first_of_moments};
 pub use mama_memory::OutOfMemory;
 pub use objects::first_of_calls;
 pub use puts::{puts_of_clients, puts_of_publishers, puts_of_the_bridge};
+
+#[cfg(test)]
+mod causal_tests;

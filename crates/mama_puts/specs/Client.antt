@@ -1,23 +1,35 @@
 -- A client that does its lines again.
 use Rattle.std.specs.Prelude.{◌≡◌, ℕ, List, [], ◌∷◌, ◌++◌}
+use Rattle.std.specs.List.{flat_map}
 use Rattle.mama_event.specs.declared.to_bridge.BridgeNote.{BridgeNote}
+use Rattle.mama_event.specs.declared.to_bridge.BridgeNote.TheVariants as b
 use Rattle.mama_event.specs.declared.to_timers.TimersNote.{TimersNote}
+use Rattle.mama_event.specs.declared.to_timers.TimersNote.TheVariants as t
 use Rattle.mama_script.specs.declared.client.ClientLine.{ClientLine}
 use Rattle.mama_queue_rules.specs.Queue.{QueuePut, to_bridge, to_timers}
 use Rattle.mama_order.specs.Numbered.{parted, steps_numbered, steps_numbered_from}
-use Rattle.mama_rounds.specs.Client.{Standing, line_steps, after_line, steps_from, client_steps, bridge_part, timers_part}
+use Rattle.mama_rounds.specs.Client.{Standing, at_first, line_steps, after_line, bridge_part, timers_part}
 use Rattle.mama_puts.specs.declared.names.Names.{Names}
 use Rattle.mama_puts.specs.declared.names.Put.{Put}
 use Rattle.mama_puts.specs.declared.names.Put.TheVariants as p
 use Rattle.mama_puts.specs.declared.client.Teller.{Teller}
 
--- what the client of a number put to the bridge and to the timer service, each event with the number of its step
+-- What a client puts, line by line, and then that it is done. A pause puts nothing, however many steps it takes.
+abbrev pub lines_from : ℕ → ℕ → Standing → List ClientLine → List (List QueuePut)
+lines_from queues c s [] = (to_timers t.ClientDone ∷ to_bridge b.ClientDone ∷ []) ∷ []
+lines_from queues c s (l ∷ ls) = flat_map (λ step. step) (line_steps queues c s l) ∷ lines_from queues c (after_line s l) ls
+
+-- the same of a client with these lines, whose clock tells these moments
+abbrev pub line_puts : ℕ → ℕ → List ℕ → List ClientLine → List (List QueuePut)
+line_puts queues c moments lines = lines_from queues c (at_first moments) lines
+
+-- what the client of a number put to the bridge and to the timer service, each event with the number of its line
 
 abbrev pub client_put_to_bridge : ℕ → ℕ → List ℕ → List ClientLine → List (ℕ × BridgeNote)
-client_put_to_bridge queues number moments lines = parted bridge_part (steps_numbered (client_steps queues number moments lines))
+client_put_to_bridge queues number moments lines = parted bridge_part (steps_numbered (line_puts queues number moments lines))
 
 abbrev pub client_put_to_timers : ℕ → ℕ → List ℕ → List ClientLine → List (ℕ × TimersNote)
-client_put_to_timers queues number moments lines = parted timers_part (steps_numbered (client_steps queues number moments lines))
+client_put_to_timers queues number moments lines = parted timers_part (steps_numbered (line_puts queues number moments lines))
 
 abbrev pub put_of : Put → QueuePut
 put_of (p.Bridge note) = to_bridge note
@@ -33,7 +45,7 @@ pub record DoesLine (queues number : ℕ) (old new : Names) (line : ClientLine) 
 
 -- what it has still to put by these lines
 abbrev pub still : Teller → List ClientLine → List (ℕ × QueuePut)
-still t lines = steps_numbered_from t.step (steps_from t.queues t.number (standing_of t.names t.moments.now) lines)
+still t lines = steps_numbered_from t.place (lines_from t.queues t.number (standing_of t.names t.moments.now) lines)
 
 -- what it put, and what it has still to put by these lines
 

@@ -12,15 +12,15 @@ use mama_memory::OutOfMemory;
 use mama_script::ClientLine;
 use std::alloc::Global;
 
-/// What a client put to the bridge and to the timer service, each event with the number of the step that put it.
+/// What a client put to the bridge and to the timer service, each event with the number of the line that put it.
 #[derive(Debug, Drop)]
 pub struct ClientPuts {
     pub to_bridge: Vec<(usize, BridgeNote)>,
     pub to_timers: Vec<(usize, TimersNote)>,
 }
 
-/// What the client of a number put by its lines, where there are so many queues and its clock told these moments. A
-/// pause costs one turn, however many steps it takes. The error is want of memory, a number that cannot grow further, or
+/// What the client of a number put by its lines, where there are so many queues and its clock told these moments. Lines
+/// are counted from 0; a pause is one that puts nothing, and the one after the last puts that the client is done. The error is want of memory, a number that cannot grow further, or
 /// the next of no queues, which no accepted script asks for.
 pub fn puts_of_client(
     alloc: Global,
@@ -37,7 +37,7 @@ pub fn puts_of_client(
         queues,
         names: Names::none(),
         moments,
-        step: 0,
+        place: 0,
         puts: ClientPuts {
             to_bridge: Vec::new(alloc),
             to_timers: Vec::new(alloc),
@@ -46,29 +46,29 @@ pub fn puts_of_client(
     for line in lines {
         teller.tell(line)?;
     }
-    let step = teller.step;
+    let place = teller.place;
     let mut puts = teller.puts;
-    last_words(&mut puts, step)?;
+    last_words(&mut puts, place)?;
     Ok(puts)
 }
 
 /// A client that does its lines again: what it has named, the moments that its clock has still to tell, the number of its
-/// next step, and what it put.
+/// next line, and what it put.
 #[derive(Drop)]
 struct Teller<'a> {
     number: u32,
     queues: u32,
     names: Names,
     moments: &'a [u64],
-    step: usize,
+    place: usize,
     puts: ClientPuts,
 }
 
-/// The number of a step after some more.
-fn later(step: usize, more: u32) -> Result<usize, OutOfMemory>
-    ensures { IfOk result (λ next. next ≡ step + more) }
+/// The number of the line after one.
+fn next_place(place: usize) -> Result<usize, OutOfMemory>
+    ensures { IfOk result (λ next. next ≡ place + 1) }
 {
-    match step.checked_add(more as usize) {
+    match place.checked_add(1) {
         Some(next) => Ok(next),
         None => Err(OutOfMemory),
     }
@@ -85,25 +85,25 @@ fn next_moment<'a>(moments: &'a [u64]) -> (u64, &'a [u64])
     }
 }
 
-/// Adds what a step put.
-fn add(puts: &mut ClientPuts, step: usize, put: Put) -> Result<(), OutOfMemory>
-    ensures bridge { OnOk result (puts.new.to_bridge.items ≡ puts.old.to_bridge.items ++ from_entry step (bridge_part (put_of put))) }
-    ensures timers { OnOk result (puts.new.to_timers.items ≡ puts.old.to_timers.items ++ from_entry step (timers_part (put_of put))) }
+/// Adds what a line put.
+fn add(puts: &mut ClientPuts, place: usize, put: Put) -> Result<(), OutOfMemory>
+    ensures bridge { OnOk result (puts.new.to_bridge.items ≡ puts.old.to_bridge.items ++ from_entry place (bridge_part (put_of put))) }
+    ensures timers { OnOk result (puts.new.to_timers.items ≡ puts.old.to_timers.items ++ from_entry place (timers_part (put_of put))) }
 {
     match put {
-        Put::Bridge(note) => puts.to_bridge.push((step, note))?,
-        Put::Timers(note) => puts.to_timers.push((step, note))?,
+        Put::Bridge(note) => puts.to_bridge.push((place, note))?,
+        Put::Timers(note) => puts.to_timers.push((place, note))?,
     }
     Ok(())
 }
 
-/// Adds what the last step puts: it tells the timer service, and then the bridge, that the client is done.
-fn last_words(puts: &mut ClientPuts, step: usize) -> Result<(), OutOfMemory>
-    ensures bridge { OnOk result (puts.new.to_bridge.items ≡ puts.old.to_bridge.items ++ (step, bridge.ClientDone) ∷ []) }
-    ensures timers { OnOk result (puts.new.to_timers.items ≡ puts.old.to_timers.items ++ (step, timers.ClientDone) ∷ []) }
+/// Adds what is put after the last line: it tells the timer service, and then the bridge, that the client is done.
+fn last_words(puts: &mut ClientPuts, place: usize) -> Result<(), OutOfMemory>
+    ensures bridge { OnOk result (puts.new.to_bridge.items ≡ puts.old.to_bridge.items ++ (place, bridge.ClientDone) ∷ []) }
+    ensures timers { OnOk result (puts.new.to_timers.items ≡ puts.old.to_timers.items ++ (place, timers.ClientDone) ∷ []) }
 {
-    puts.to_timers.push((step, TimersNote::ClientDone))?;
-    puts.to_bridge.push((step, BridgeNote::ClientDone))?;
+    puts.to_timers.push((place, TimersNote::ClientDone))?;
+    puts.to_bridge.push((place, BridgeNote::ClientDone))?;
     Ok(())
 }
 
@@ -119,11 +119,11 @@ impl<'a> Teller<'a> {
         }
     }
 
-    /// Passes over as many steps.
+    /// Passes over a pause of so many steps.
     fn pause(&mut self, steps: u32) -> Result<(), OutOfMemory>
         ensures { OnOk result (Tells self.old self.new (line.Pause steps)) }
     {
-        self.step = later(self.step, steps)?;
+        self.place = next_place(self.place)?;
         Ok(())
     }
 
@@ -132,14 +132,14 @@ impl<'a> Teller<'a> {
         ensures { OnOk result (Tells self.old self.new line.NowClock) }
     {
         let (moment, rest) = next_moment(self.moments);
-        let next = later(self.step, 1)?;
+        let next = next_place(self.place)?;
         add(
             &mut self.puts,
-            self.step,
+            self.place,
             Put::Timers(TimersNote::Now { moment }),
         )?;
         self.moments = rest;
-        self.step = next;
+        self.place = next;
         Ok(())
     }
 
@@ -149,10 +149,10 @@ impl<'a> Teller<'a> {
     {
         match self.names.line(self.number, self.queues, line)? {
             Some((put, names)) => {
-                let next = later(self.step, 1)?;
-                add(&mut self.puts, self.step, put)?;
+                let next = next_place(self.place)?;
+                add(&mut self.puts, self.place, put)?;
                 self.names = names;
-                self.step = next;
+                self.place = next;
                 Ok(())
             }
             None => Err(OutOfMemory),

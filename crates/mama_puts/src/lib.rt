@@ -5,7 +5,7 @@
 //! lists of the actors that it goes to. The contracts say that each list is what the rules say: `numbered` puts of the
 //! journal, `parted` by where they go. See [`puts_of_bridge`], [`puts_of_timers`] and [`puts_of_publisher`]. A client
 //! takes nothing; [`puts_of_client`] tells what it put by its lines and the moments that it read, by the number of the
-//! step.
+//! line.
 //!
 //! Each goes once over its journal or its lines. Memory goes by their length and by what was put.
 #![tactic(auto)]

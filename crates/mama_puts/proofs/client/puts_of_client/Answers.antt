@@ -3,7 +3,7 @@ use Rattle.std.proofs.lemmas.List.{drop_all}
 use Rattle.mama_script.specs.declared.client.ClientLine.{ClientLine}
 use Rattle.mama_rounds.specs.Client.{bridge_part, timers_part}
 use Rattle.mama_puts.specs.Client.{to_bridge_in_all, to_timers_in_all}
-use Rattle.mama_puts.proofs.TellerSteps.{lines_from, starts}
+use Rattle.mama_puts.proofs.TellerSteps.{next_line, starts}
 use Rattle.mama_puts.proofs.client.puts_of_client.Goals as goal
 
 pub loop-line-init : goal.loop-line-init
@@ -15,7 +15,7 @@ loop-line-init c = record {
 pub loop-line-preserved : goal.loop-line-preserved
 loop-line-preserved c =
     let rest = drop (c.loop-line.line-index + 1) c.args.lines.now in
-    let left = lines_from c.args.lines.now c.loop-line.line-index c.line-item.result c.loop-line-test.true c.line-item.is in
+    let left = next_line c.args.lines.now c.loop-line.line-index c.line-item.result c.loop-line-test.true c.line-item.is in
     record {
       bridge = c.in_ok-tell.ensures.bridge rest ∙ ap (λ (ls : List ClientLine). to_bridge_in_all c.loop-line.teller ls) (sym left) ∙ c.loop-line.invariant.bridge;
       timers = c.in_ok-tell.ensures.timers rest ∙ ap (λ (ls : List ClientLine). to_timers_in_all c.loop-line.teller ls) (sym left) ∙ c.loop-line.invariant.timers;
