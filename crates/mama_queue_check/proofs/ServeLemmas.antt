@@ -1,121 +1,151 @@
 -- How far a journal was served again.
-use Rattle.std.specs.Prelude.{Bool, true, false}
-use Rattle.std.proofs.Common.{◌≡◌, ℕ, ◌+◌, ◌<◌, ◌≤◌, List, [], ◌∷◌, ◌++◌, length, take, drop, get_or, refl, ap, sym, subst, ◌∙◌, true≢false, arith}
+use Rattle.std.specs.Prelude.{Bool, true, false, map, if◌then◌else◌}
+use Rattle.std.proofs.Common.{◌≡◌, ℕ, suc, ◌+◌, ◌<◌, ◌≤◌, List, [], ◌∷◌, ◌++◌, length, take, get_or, refl, ap, sym, subst, ◌∙◌, arith}
 use Rattle.std.specs.Global.{Vec}
-use Rattle.std.specs.List.{flat_map, All}
-use Rattle.std.proofs.lemmas.List.{take_more, drop_more, take-append-drop, length-take-le, take_all, map-append, length-map, get_or-map}
+use Rattle.std.specs.List.{flat_map}
+use Rattle.std.proofs.lemmas.List.{take_more, length-take-le, take_all, map-append}
 use Rattle.std.proofs.lemmas.List.Elements.{All-nil, All-push}
-use Rattle.std.proofs.lemmas.Bool.{and_parts, and_from}
-use Rattle.mama_order.specs.Numbered.{from_entry}
+use Rattle.mama_journal.specs.Journal.{count_of}
 use Rattle.mama_order.proofs.Numbered.{parted_push}
-use Rattle.mama_event.specs.Lawful.{each_fits}
-use Rattle.mama_event.specs.LawfulLaws.{each_fits-append, each_fits-back}
+use Rattle.mama_order.specs.Numbered.{from_entry}
+use Rattle.mama_event.specs.declared.ids.ObjectId.{ObjectId}
+use Rattle.mama_event.specs.declared.ids.ObjectId.TheVariants.{Sub, Timer, Inbox}
+use Rattle.mama_event.specs.declared.order.Order.{Order}
 use Rattle.mama_event.specs.declared.to_bridge.BridgeNote.{BridgeNote}
 use Rattle.mama_event.specs.declared.to_timers.TimersNote.{TimersNote}
 use Rattle.mama_event.specs.declared.to_queue.QueueNote.{QueueNote}
-use Rattle.mama_queue_rules.specs.Queue.{QueuePut, queue_puts_at}
+use Rattle.mama_queue_rules.specs.Queue.{Deed, QueuePut, queue_puts_at, deeds, served, puts_of, bye_put, is_fin}
 use Rattle.mama_record.specs.RunView.{events_of}
 use Rattle.mama_rounds.specs.Client.{Planned, bridge_part, timers_part}
-use Rattle.mama_dispatch.specs.Journals.{may_come}
-use Rattle.mama_dispatch.specs.Seats.{SeatData}
-use Rattle.mama_dispatch.specs.Keeping.{ArePlanned}
-use Rattle.mama_dispatch.specs.Streams.{AreTurns}
+use Rattle.mama_dispatch.specs.Journals.{messages_at}
+use Rattle.mama_dispatch.proofs.JournalLaws.{deeds_more}
 use Rattle.mama_queue_seat.specs.Server.{orders_in}
-use Rattle.mama_queue_check.specs.Served.{ServedData, IsKept, IsTaken, bridge_puts, timers_puts}
+use Rattle.mama_queue_check.specs.Seen.{seen_of, unseen}
+use Rattle.mama_queue_check.specs.Puts.{PutData, put_all}
+use Rattle.mama_queue_check.specs.Rows.{SeenObjects, AreSeen}
+use Rattle.mama_queue_check.specs.Replay.{Goes, Serves}
+use Rattle.mama_queue_check.specs.Served.{ServedData, IsKept, bridge_puts, timers_puts}
 use Rattle.mama_queue_check.specs.Recorded.{journals_of, AreOf}
+use Rattle.mama_queue_check.proofs.PutLemmas.{put_more}
 
--- an entry may come after a journal
-abbrev pub fits_after : List (ℕ × QueueNote) → ℕ × QueueNote → Bool
-fits_after before e = may_come before e.1
+-- these entries were served
+pub record AreServedBy (objects : List Planned) (taken : List (ℕ × QueueNote)) (fins : ℕ) (seen : SeenObjects) (puts : PutData) : Type 0 where
+  pub count : fins ≡ count_of is_fin taken
+  pub kept : IsKept (record { objects = objects; journal = taken }) seen puts
 
 -- so many entries were served
-pub record AreServed (objects : List Planned) (journal : List (ℕ × QueueNote)) (count : ℕ) (taken : List (ℕ × QueueNote)) (seats : List SeatData) (to_bridge : List (ℕ × BridgeNote)) (to_timers : List (ℕ × TimersNote)) : Type 0 where
-  pub begins : taken ≡ take count journal
-  pub turns : AreTurns taken
-  pub kept : IsKept (record { objects = objects; journal = taken }) seats to_bridge to_timers
+abbrev pub AreServed : List Planned → List (ℕ × QueueNote) → ℕ → ℕ → SeenObjects → PutData → Type 0
+AreServed objects journal count fins seen puts = AreServedBy objects (take count journal) fins seen puts
 
 one_more : {X : Type 0} (xs : List X) (i : ℕ) (x : X) → i < length xs → x ≡ get_or xs i x → take (i + 1) xs ≡ take i xs ++ x ∷ []
 one_more xs i x within is = take_more xs i x within ∙ ap (λ (y : _). take i xs ++ y ∷ []) (sym is)
 
--- an entry more
-pub served_more : (objects : List Planned) (journal : List (ℕ × QueueNote)) (i : ℕ) (e : ℕ × QueueNote) (taken after : List (ℕ × QueueNote)) (seats later : List SeatData)
-    (bridge more_bridge : List (ℕ × BridgeNote)) (timers more_timers : List (ℕ × TimersNote)) (puts : List QueuePut)
-    → i < length journal → e ≡ get_or journal i e → AreServed objects journal i taken seats bridge timers → true ≡ may_come taken e.1
-    → IsTaken objects taken e after later puts
-    → more_bridge ≡ bridge ++ from_entry i (flat_map bridge_part puts) → more_timers ≡ timers ++ from_entry i (flat_map timers_part puts)
-    → AreServed objects journal (i + 1) after later more_bridge more_timers
-served_more objects journal i e taken after seats later bridge more_bridge timers more_timers puts within is so_far may step to_bridge to_timers =
-    let at : List (ℕ × QueueNote) → ℕ × QueueNote → List QueuePut = queue_puts_at (orders_in objects) in
-    let count : length taken ≡ i = ap length so_far.begins ∙ length-take-le i journal (omega arith) in
-    subst (λ (js : List (ℕ × QueueNote)). AreServed objects journal (i + 1) js later more_bridge more_timers) (sym step.journal) (record {
-      begins = ap (λ (js : List (ℕ × QueueNote)). js ++ e ∷ []) so_far.begins ∙ sym (one_more journal i e within is);
-      turns = each_fits-append fits_after [] taken (e ∷ []) so_far.turns (and_from (may_come taken e.1) true (sym may) refl);
+take_none : {X : Type 0} (xs : List X) → take 0 xs ≡ []
+take_none [] = refl
+take_none (x ∷ xs) = refl
+
+nothing_seen : (x : ObjectId) → unseen ≡ seen_of x [] []
+nothing_seen (Sub s) = refl
+nothing_seen (Timer t) = refl
+nothing_seen (Inbox i) = refl
+
+-- nothing was served yet
+pub served_none : (objects : List Planned) (journal : List (ℕ × QueueNote)) (seen : SeenObjects) (puts : PutData) → seen ≡ record { ids = []; rows = [] } → puts ≡ record { bridge = []; timers = [] }
+    → AreServed objects journal 0 0 seen puts
+served_none objects journal seen puts no_objects no_puts =
+    subst (λ (js : List (ℕ × QueueNote)). AreServedBy objects js 0 seen puts) (sym (take_none journal)) (record {
+      count = refl;
       kept = record {
-        planned = step.planned;
-        bridge = to_bridge
-            ∙ ap (λ (ps : List QueuePut). bridge ++ from_entry i (flat_map bridge_part ps)) step.puts
+        seen = subst (AreSeen [] []) (sym no_objects) (record { each = nothing_seen });
+        bridge = ap (λ (p : PutData). p.bridge) no_puts;
+        timers = ap (λ (p : PutData). p.timers) no_puts;
+      };
+    })
+
+count_more : (es : List (ℕ × QueueNote)) (e : ℕ × QueueNote) → count_of is_fin (es ++ e ∷ []) ≡ (if is_fin e then suc (count_of is_fin es) else count_of is_fin es)
+count_more [] e = refl
+count_more (f ∷ es) e = ap (λ (n : ℕ). if is_fin f then suc n else n) (count_more es e) ∙ swap (is_fin f) (is_fin e) (count_of is_fin es)
+  where
+    swap : (a b : Bool) (n : ℕ) → (if a then suc (if b then suc n else n) else (if b then suc n else n)) ≡ (if b then suc (if a then suc n else n) else (if a then suc n else n))
+    swap true true n = refl
+    swap true false n = refl
+    swap false true n = refl
+    swap false false n = refl
+
+-- an entry more
+pub served_more : (objects : List Planned) (journal : List (ℕ × QueueNote)) (i fins later : ℕ) (e : ℕ × QueueNote) (seen after : SeenObjects) (puts made all : PutData)
+    → i < length journal → e ≡ get_or journal i e → AreServed objects journal i fins seen puts → Serves (orders_in objects) e.1 i seen after puts made
+    → ((port : ℕ) (before : List (ℕ × QueueNote)) → fins ≡ count_of is_fin before → all ≡ put_all i (bye_put before (port, e.1)) made)
+    → ((port : ℕ) → later ≡ (if is_fin (port, e.1) then suc fins else fins))
+    → AreServed objects journal (i + 1) later after all
+served_more objects journal i fins later e seen after puts made all within is so_far serves ends counted =
+    let orders : ObjectId → ℕ → List Order = orders_in objects in
+    let at : List (ℕ × QueueNote) → ℕ × QueueNote → List QueuePut = queue_puts_at orders in
+    let taken : List (ℕ × QueueNote) = take i journal in
+    let ds : List Deed = deeds orders taken in
+    let count : length taken ≡ i = length-take-le i journal (omega arith) in
+    let goes = serves.goes e.0 taken ds so_far.kept.seen in
+    let put : all ≡ put_all i (at taken e) puts = ends e.0 taken so_far.count ∙ ap (put_all i (bye_put taken e)) goes.puts ∙ sym (put_more i (flat_map puts_of (served orders taken ds e.1)) (bye_put taken e) puts) in
+    subst (λ (js : List (ℕ × QueueNote)). AreServedBy objects js later after all) (sym (one_more journal i e within is)) (record {
+      count = counted e.0 ∙ ap (λ (n : ℕ). if is_fin e then suc n else n) so_far.count ∙ sym (count_more taken e);
+      kept = record {
+        seen = subst (λ (es : List Deed). AreSeen (taken ++ e ∷ []) es after) (sym (deeds_more orders taken e)) goes.told;
+        bridge = ap (λ (p : PutData). p.bridge) put
             ∙ ap (λ (bs : List (ℕ × BridgeNote)). bs ++ from_entry i (flat_map bridge_part (at taken e))) so_far.kept.bridge
             ∙ ap (λ (n : ℕ). bridge_puts (record { objects = objects; journal = taken }) ++ from_entry n (flat_map bridge_part (at taken e))) (sym count)
             ∙ sym (parted_push bridge_part at taken e);
-        timers = to_timers
-            ∙ ap (λ (ps : List QueuePut). timers ++ from_entry i (flat_map timers_part ps)) step.puts
+        timers = ap (λ (p : PutData). p.timers) put
             ∙ ap (λ (ts : List (ℕ × TimersNote)). ts ++ from_entry i (flat_map timers_part (at taken e))) so_far.kept.timers
             ∙ ap (λ (n : ℕ). timers_puts (record { objects = objects; journal = taken }) ++ from_entry n (flat_map timers_part (at taken e))) (sym count)
             ∙ sym (parted_push timers_part at taken e);
       };
     })
 
--- an entry that may not come
-pub stuck : (journal : List (ℕ × QueueNote)) (i : ℕ) (e : ℕ × QueueNote) (taken : List (ℕ × QueueNote))
-    → i < length journal → e ≡ get_or journal i e → taken ≡ take i journal → false ≡ may_come taken e.1 → AreTurns journal → ⊥
-stuck journal i e taken within is so_far may all =
-    let parts : journal ≡ take i journal ++ e ∷ drop (i + 1) journal = sym (take-append-drop i journal) ∙ ap (λ (xs : List (ℕ × QueueNote)). take i journal ++ xs) (drop_more journal i e within ∙ ap (λ (y : ℕ × QueueNote). y ∷ drop (i + 1) journal) (sym is)) in
-    let here = each_fits-back fits_after [] (take i journal) (e ∷ drop (i + 1) journal) (subst AreTurns parts all) in
-    let first = and_parts (may_come (take i journal) e.1) (each_fits fits_after (take i journal ++ e ∷ []) (drop (i + 1) journal)) here in
-    true≢false (sym first.0 ∙ ap (λ (js : List (ℕ × QueueNote)). may_come js e.1) (sym so_far) ∙ sym may)
-
--- nothing was served yet
-pub served_none : (objects : List Planned) (journal taken : List (ℕ × QueueNote)) (seats : List SeatData) (bridge : List (ℕ × BridgeNote)) (timers : List (ℕ × TimersNote))
-    → taken ≡ [] → seats ≡ [] → bridge ≡ [] → timers ≡ [] → AreServed objects journal 0 taken seats bridge timers
-served_none objects journal taken seats bridge timers no_entries no_seats no_bridge no_timers =
-    subst (λ (js : List (ℕ × QueueNote)). AreServed objects journal 0 js seats bridge timers) (sym no_entries) (record {
-      begins = refl;
-      turns = refl;
-      kept = record { planned = subst (ArePlanned (orders_in objects)) (sym no_seats) tt; bridge = no_bridge; timers = no_timers };
-    })
-
 -- all was served
-pub whole : (journal : List (ℕ × QueueNote)) (count : ℕ) (taken : List (ℕ × QueueNote)) → length journal ≤ count → taken ≡ take count journal → taken ≡ journal
-whole journal count taken all so_far = so_far ∙ take_all count journal all
+pub served_all : (objects : List Planned) (journal : List (ℕ × QueueNote)) (count fins : ℕ) (seen : SeenObjects) (puts : PutData) → length journal ≤ count
+    → AreServed objects journal count fins seen puts → IsKept (record { objects = objects; journal = journal }) seen puts
+served_all objects journal count fins seen puts all so_far =
+    subst (λ (js : List (ℕ × QueueNote)). IsKept (record { objects = objects; journal = js }) seen puts) (take_all count journal all) so_far.kept
+
+count_within : (es : List (ℕ × QueueNote)) → count_of is_fin es ≤ length es
+count_within [] = omega arith
+count_within (e ∷ es) = either (is_fin e) (count_within es)
+  where
+    either : (b : Bool) → count_of is_fin es ≤ length es → (if b then suc (count_of is_fin es) else count_of is_fin es) ≤ suc (length es)
+    either true h = omega (arith, h)
+    either false h = omega (arith, h)
+
+-- there were no more Fins than entries
+pub fins_within : (objects : List Planned) (journal : List (ℕ × QueueNote)) (i fins : ℕ) (seen : SeenObjects) (puts : PutData) → i < length journal → AreServed objects journal i fins seen puts → fins ≤ i
+fins_within objects journal i fins seen puts within so_far =
+    omega (arith, so_far.count, count_within (take i journal), length-take-le i journal (omega arith))
+
+-- ---- all queues
 
 -- the queues with these journals were served
 pub record AreAllServed (objects : List Planned) (journals : List (List (ℕ × QueueNote))) (served : List ServedData) : Type 0 where
-  pub turns : All AreTurns journals
   pub each : journals_of served ≡ journals
   pub own : AreOf objects served
 
-pub all_none : (objects : List Planned) (served : List ServedData) → served ≡ [] → AreAllServed objects [] served
-all_none objects served none = subst (AreAllServed objects []) (sym none) (record { turns = All-nil AreTurns; each = refl; own = All-nil (λ (s : ServedData). s.objects ≡ objects) })
+pub all_none : (objects : List Planned) (journals : List (Vec (ℕ × QueueNote))) (served : List ServedData) → served ≡ [] → AreAllServed objects (events_of (take 0 journals)) served
+all_none objects journals served none =
+    subst (λ (js : List (Vec (ℕ × QueueNote))). AreAllServed objects (events_of js) served) (sym (take_none journals))
+    (subst (AreAllServed objects []) (sym none) (record { each = refl; own = All-nil (λ (s : ServedData). s.objects ≡ objects) }))
 
 -- one queue more
-pub all_more : (objects : List Planned) (journals : List (List (ℕ × QueueNote))) (served more : List ServedData) (s : ServedData) (journal : List (ℕ × QueueNote)) → AreAllServed objects journals served
-    → s ≡ record { objects = objects; journal = journal } → AreTurns journal → more ≡ served ++ s ∷ [] → AreAllServed objects (journals ++ journal ∷ []) more
-all_more objects journals served more s journal so_far is turns grown =
-    subst (AreAllServed objects (journals ++ journal ∷ [])) (sym grown) (record {
-      turns = All-push AreTurns journals journal so_far.turns turns;
-      each = map-append (λ (x : ServedData). x.journal) served (s ∷ [])
+pub all_more : (objects : List Planned) (journals : List (Vec (ℕ × QueueNote))) (i : ℕ) (x : Vec (ℕ × QueueNote)) (served more : List ServedData) (s : ServedData)
+    → i < length journals → x ≡ get_or journals i x → AreAllServed objects (events_of (take i journals)) served
+    → s ≡ record { objects = objects; journal = x.items } → more ≡ served ++ s ∷ [] → AreAllServed objects (events_of (take (i + 1) journals)) more
+all_more objects journals i x served more s within here so_far is grown =
+    let next : events_of (take (i + 1) journals) ≡ events_of (take i journals) ++ x.items ∷ [] =
+    ap events_of (one_more journals i x within here) ∙ map-append (λ (q : Vec (ℕ × QueueNote)). q.items) (take i journals) (x ∷ []) in
+    subst (λ (js : List (List (ℕ × QueueNote))). AreAllServed objects js more) (sym next)
+    (subst (AreAllServed objects (events_of (take i journals) ++ x.items ∷ [])) (sym grown) (record {
+      each = map-append (λ (t : ServedData). t.journal) served (s ∷ [])
           ∙ ap (λ (js : List (List (ℕ × QueueNote))). js ++ s.journal ∷ []) so_far.each
-          ∙ ap (λ (x : ServedData). journals ++ x.journal ∷ []) is;
-      own = All-push (λ (x : ServedData). x.objects ≡ objects) served s so_far.own (ap (λ (x : ServedData). x.objects) is);
-    })
+          ∙ ap (λ (t : ServedData). events_of (take i journals) ++ t.journal ∷ []) is;
+      own = All-push (λ (t : ServedData). t.objects ≡ objects) served s so_far.own (ap (λ (t : ServedData). t.objects) is);
+    }))
 
--- the journal of one queue more
-pub events_more : (journals : List (Vec (ℕ × QueueNote))) (i : ℕ) (x : Vec (ℕ × QueueNote)) → i < length journals → x ≡ get_or journals i x
-    → events_of (take (i + 1) journals) ≡ events_of (take i journals) ++ x.items ∷ []
-events_more journals i x within is = ap events_of (one_more journals i x within is) ∙ map-append (λ (q : Vec (ℕ × QueueNote)). q.items) (take i journals) (x ∷ [])
-
-pub turns_at : (journals : List (Vec (ℕ × QueueNote))) (i : ℕ) (x : Vec (ℕ × QueueNote)) → i < length journals → x ≡ get_or journals i x → All AreTurns (events_of journals) → AreTurns x.items
-turns_at journals i x within is all =
-    let items : Vec (ℕ × QueueNote) → List (ℕ × QueueNote) = λ q. q.items in
-    let inside : i < length (events_of journals) = simp length-map within in
-    subst AreTurns (get_or-map items journals i x x.items within ∙ ap items (sym is)) (all i x.items inside)
+pub all_whole : (objects : List Planned) (journals : List (Vec (ℕ × QueueNote))) (i : ℕ) (served : List ServedData) → length journals ≤ i → AreAllServed objects (events_of (take i journals)) served → journals_of served ≡ events_of journals
+all_whole objects journals i served whole so_far = so_far.each ∙ ap events_of (take_all i journals whole)

@@ -1,3 +1,7 @@
+pub mod Seen
+pub mod Rows
+pub mod Orders
+pub mod Puts
+pub mod Replay
 pub mod Served
 pub mod Recorded
-pub mod Listening

@@ -1,5 +1,5 @@
 -- A queue that was served again: what it put, and the last images of its subscriptions.
-use Rattle.std.specs.Prelude.{◌≡◌, ℕ, List, [], ◌∷◌, ◌++◌}
+use Rattle.std.specs.Prelude.{◌≡◌, ℕ, List}
 use Rattle.mama_journal.specs.Journal.{first_said}
 use Rattle.mama_order.specs.Numbered.{numbered, parted}
 use Rattle.mama_event.specs.declared.ids.SubId.{SubId}
@@ -11,9 +11,9 @@ use Rattle.mama_queue_rules.specs.Queue.{QueuePut, queue_puts_at, make_in, conte
 use Rattle.mama_record.specs.RunData.{LastImage}
 use Rattle.mama_rounds.specs.Client.{Planned, bridge_part, timers_part}
 use Rattle.mama_rounds.specs.Round.{image_in}
-use Rattle.mama_dispatch.specs.Seats.{SeatData}
-use Rattle.mama_dispatch.specs.Keeping.{ArePlanned}
 use Rattle.mama_queue_seat.specs.Server.{orders_in}
+use Rattle.mama_queue_check.specs.Puts.{PutData}
+use Rattle.mama_queue_check.specs.Rows.{SeenObjects, AreSeen}
 
 -- a queue: the objects with the plans that its listeners follow, and what it took
 pub record ServedData : Type 0 where
@@ -34,14 +34,8 @@ timers_puts s = parted timers_part (puts_in s.objects s.journal)
 abbrev pub last_image_of : ServedData → SubId → List LastImage
 last_image_of s sub = image_in sub (context_of (first_said (λ e. make_in (Sub sub) e.1) s.journal) (messages_of sub (deeds (orders_in s.objects) s.journal)))
 
--- the listeners give the orders of their plans, and what was put is kept by its way
-pub record IsKept (s : ServedData) (seats : List SeatData) (to_bridge : List (ℕ × BridgeNote)) (to_timers : List (ℕ × TimersNote)) : Type 0 where
-  pub planned : ArePlanned (orders_in s.objects) seats
-  pub bridge : to_bridge ≡ bridge_puts s
-  pub timers : to_timers ≡ timers_puts s
-
--- an entry was taken: the journal has it, the listeners still give the orders of their plans, and this was put
-pub record IsTaken (objects : List Planned) (before : List (ℕ × QueueNote)) (e : ℕ × QueueNote) (after : List (ℕ × QueueNote)) (seats : List SeatData) (outs : List QueuePut) : Type 0 where
-  pub journal : after ≡ before ++ e ∷ []
-  pub planned : ArePlanned (orders_in objects) seats
-  pub puts : outs ≡ queue_puts_at (orders_in objects) before e
+-- the objects are those that the journal and its deeds tell, and what was put is kept by its way
+pub record IsKept (s : ServedData) (rows : SeenObjects) (puts : PutData) : Type 0 where
+  pub seen : AreSeen s.journal (deeds (orders_in s.objects) s.journal) rows
+  pub bridge : puts.bridge ≡ bridge_puts s
+  pub timers : puts.timers ≡ timers_puts s

@@ -1,16 +1,21 @@
 //! What a queue put, called back and left, by its journal and the plans of its objects, for those that judge a record.
 //!
-//! The journal may be any list of entries, since it comes from a log that may be wrong. [`serve`] serves it again, with
-//! listeners that give the orders of their plans: `AreTurns` says when each entry may come after those before it, and
-//! then a [`ServedQueue`] tells what was put, each event with the number of the entry that put it, and the callbacks and
-//! the last image of each object. [`serve_all`] does it for all queues, and [`have_calls`] and [`have_images`] compare all of these with what was recorded.
+//! The journal may be any list of entries, since it comes from a log that may be wrong. [`serve`] serves it again, where
+//! listeners give the orders of their plans, by the rules of queues as they stand for every list (`deeds` and
+//! `queue_puts_at` of the rules' crate), and shares no code with the queues that run. A [`ServedQueue`] tells what was
+//! put, each event with the number of the entry that put it, and the callbacks and the last image of each object: what it
+//! keeps of an object is `seen_of` of `specs/Seen.antt`. [`serve_all`] does it for all queues, and [`have_calls`] and
+//! [`have_images`] compare all of these with what was recorded.
 #![tactic(auto)]
 
 mod calls;
 mod images;
-mod planning;
+mod objects;
+mod orders;
 mod puts;
+mod replay;
 mod same;
+mod seen;
 mod served;
 mod serving;
 

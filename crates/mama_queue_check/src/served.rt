@@ -5,9 +5,9 @@ ghost use Rattle.mama_queue_seat.specs.Server.{orders_in};
 ghost use Rattle.mama_queue_seat.specs.Image.{found_image};
 ghost use Rattle.mama_queue_check.specs.Served.{bridge_puts, timers_puts, last_image_of};
 
-use mama_dispatch::Serving;
-use mama_event::{BridgeNote, CallNote, ImageHead, ObjectId, SubId, TimersNote};
-use mama_listener::PlanListener;
+use crate::objects::Objects;
+use crate::puts::Puts;
+use mama_event::{BridgeNote, CallNote, ImageHead, ObjectId, QueueNote, SubId, TimersNote};
 use mama_memory::OutOfMemory;
 use mama_msg::Msg;
 use mama_queue_seat::Plans;
@@ -17,9 +17,9 @@ use std::marker::Model;
 #[derive(Drop)]
 pub struct ServedQueue<'a> {
     pub(crate) plans: &'a Plans,
-    pub(crate) serving: Serving<PlanListener>,
-    pub(crate) to_bridge: Vec<(usize, BridgeNote)>,
-    pub(crate) to_timers: Vec<(usize, TimersNote)>,
+    pub(crate) journal: &'a [(u32, QueueNote)],
+    pub(crate) objects: Objects,
+    pub(crate) puts: Puts,
 }
 
 impl<'a> Model for ServedQueue<'a> {
@@ -27,11 +27,11 @@ impl<'a> Model for ServedQueue<'a> {
 
     ghost Value = { ServedData };
 
+    ghost view = { λ s. record { objects = s.plans.now; journal = s.journal.now } };
+
     ghost use Rattle.mama_queue_check.specs.Served.{IsKept};
 
-    ghost view = { λ s. record { objects = s.plans.now; journal = s.serving.journal } };
-
-    ghost invariant = { λ s. IsKept (record { objects = s.plans.now; journal = s.serving.journal }) s.serving.seats s.to_bridge.items s.to_timers.items };
+    ghost invariant = { λ s. IsKept (record { objects = s.plans.now; journal = s.journal.now }) s.objects s.puts };
 }
 
 impl<'a> ServedQueue<'a> {
@@ -39,27 +39,27 @@ impl<'a> ServedQueue<'a> {
     pub fn to_bridge(&self) -> &[(usize, BridgeNote)]
         ensures { result.now ≡ bridge_puts self.now }
     {
-        self.to_bridge.as_slice()
+        self.puts.to_bridge()
     }
 
     /// What it put to the timer service, in the same way.
     pub fn to_timers(&self) -> &[(usize, TimersNote)]
         ensures { result.now ≡ timers_puts self.now }
     {
-        self.to_timers.as_slice()
+        self.puts.to_timers()
     }
 
     /// The callbacks of an object.
     pub fn calls(&self, object: &ObjectId) -> Result<Vec<CallNote>, OutOfMemory>
         ensures { IfOk result (λ calls. calls.items ≡ map noted (calls_of object.now (deeds (orders_in self.now.objects) self.now.journal))) }
     {
-        self.serving.calls_of(object)
+        self.objects.copied_calls(object)
     }
 
     /// The last image of a subscription.
     pub fn image(&self, sub: SubId) -> Result<Option<(ImageHead, Msg)>, OutOfMemory>
         ensures { IfOk result (λ found. found_image sub found ≡ last_image_of self.now sub) }
     {
-        self.serving.image_of(sub)
+        self.objects.image(sub)
     }
 }

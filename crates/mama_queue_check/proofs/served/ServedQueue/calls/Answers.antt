@@ -1,20 +1,17 @@
 use Rattle.std.specs.Prelude.{map}
-use Rattle.std.proofs.Common.{ℕ, List, ap, ◌∙◌}
+use Rattle.std.proofs.Common.{ap, ◌∙◌}
 use Rattle.std.proofs.lemmas.Result.{IfOk-weaker}
-use Rattle.mama_event.specs.declared.ids.ObjectId.{ObjectId}
-use Rattle.mama_event.specs.declared.order.Order.{Order}
 use Rattle.mama_queue_rules.specs.Queue.{deeds, calls_of}
 use Rattle.mama_rounds.specs.Round.{noted}
-use Rattle.mama_dispatch.proofs.KeepLemmas.{planned_fits}
 use Rattle.mama_queue_seat.specs.Server.{orders_in}
+use Rattle.mama_queue_check.specs.Seen.{SeenData}
 use Rattle.mama_queue_check.specs.Served.{ServedData}
 use Rattle.mama_queue_check.proofs.served.ServedQueue.calls.Goals as goal
 
 pub returns : goal.returns
 returns c =
-    let orders : ObjectId → ℕ → List Order = orders_in c.self.inside.plans.now in
-    IfOk-weaker c.calls_of.result _ _
+    IfOk-weaker c.copied_calls.result _ _
     (λ calls is.
-    is orders (planned_fits orders c.self.inside.serving.seats c.self.invariant.planned)
+    is ∙ ap (λ (s : SeenData). s.calls) (c.self.invariant.seen.each c.args.object.now)
     ∙ ap (λ (s : ServedData). map noted (calls_of c.args.object.now (deeds (orders_in s.objects) s.journal))) c.self.view_is)
-    c.calls_of.ensures
+    c.copied_calls.ensures
