@@ -1,0 +1,14 @@
+pub mod Lines
+pub mod Spelled
+pub mod Taking
+pub mod Whole
+pub mod Record
+pub mod NoHead
+pub mod Alike
+pub mod Callbacks
+pub mod Parts
+pub mod Following
+pub mod Verdict
+pub mod Sections
+pub mod Kept
+pub mod Reading

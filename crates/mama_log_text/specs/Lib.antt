@@ -1,0 +1,5 @@
+pub mod Logged
+pub mod Unfit
+pub mod Section
+pub mod Part
+pub mod Reading
