@@ -3,5 +3,11 @@ pub mod PutLists
 pub mod Lanes
 pub mod CallLemmas
 pub mod KeptLaw
+pub mod Alone
+pub mod ImageLemmas
+pub mod ImageWalk
+pub mod VerdictLemmas
+pub mod BrokenLemmas
+pub mod CheckLemmas
 pub mod Causes
 pub mod Numbers

@@ -1,7 +1,24 @@
 ghost use Rattle.mama_check.specs.Kept.{KeptIsLegal};
+ghost use Rattle.mama_check.specs.Verdict.{LegalIsTrue};
+
+use mama_callbacks::legal_records_tell_all;
+use mama_genuine::{
+    delivered_messages_are_sent, given_messages_are_sent, ok_images_are_records, told_gaps_are_true,
+};
 
 /// A law: a record with a list of moments for each client, a journal for each publisher and queue, and callbacks for the
 /// objects of the script is legal exactly where all rules are kept.
 pub fn kept_rules_are_legal()
     ensures { KeptIsLegal }
 {}
+
+/// A law: what a legal record promises is true of it.
+pub fn legal_records_are_true()
+    ensures { LegalIsTrue }
+{
+    legal_records_tell_all();
+    delivered_messages_are_sent();
+    given_messages_are_sent();
+    ok_images_are_records();
+    told_gaps_are_true();
+}

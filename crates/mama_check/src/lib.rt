@@ -5,24 +5,34 @@
 //! keep all of them (`specs/Kept.antt`).
 #![tactic(auto)]
 
+mod all;
+mod broken;
 mod causal;
 mod edges;
 mod gather;
+mod images;
+mod judging;
 mod laws;
 mod lines;
 mod objects;
 mod puts;
+mod verdict;
 
 pub use causal::{actors_have_their_numbers, is_causal};
 pub use edges::{
     first_of_publisher_edges, first_of_queue_edges, is_bridge_whole, is_publisher_whole,
     is_queue_whole, is_timing_whole,
 };
-pub use laws::kept_rules_are_legal;
+pub use images::first_of_images;
+pub use judging::check;
+pub use laws::{kept_rules_are_legal, legal_records_are_true};
 pub use lines::{first_of_lines, first_of_moments};
 pub use mama_memory::OutOfMemory;
 pub use objects::first_of_calls;
 pub use puts::{puts_of_clients, puts_of_publishers, puts_of_the_bridge};
+pub use verdict::{Actor, Verdict};
 
 #[cfg(test)]
 mod causal_tests;
+#[cfg(test)]
+mod tests;

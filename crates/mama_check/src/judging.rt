@@ -1,0 +1,59 @@
+ghost use Rattle.std.specs.Prelude.{◌≡◌, IfOk};
+ghost use Rattle.mama_form.specs.Form.{IsFormed};
+ghost use Rattle.mama_check.specs.Verdict.{Judges, IsTrue, OnLegal};
+
+use crate::all::all_puts;
+use crate::broken::{first_broken_edge, first_broken_line, first_broken_object};
+use crate::causal::is_causal;
+use crate::laws::{kept_rules_are_legal, legal_records_are_true};
+use crate::verdict::{Actor, Verdict};
+use mama_memory::OutOfMemory;
+use mama_record::RunRecord;
+use mama_script::Script;
+use mama_seats::plans_of;
+use std::alloc::Global;
+
+/// The verdict on a record that breaks a rule.
+fn not_legal(broken: (u8, Actor)) -> Verdict
+    ensures { result ≡ Verdict.NotLegal broken.0 broken.1 }
+{
+    let (rule, actor) = broken;
+    Verdict::NotLegal { rule, actor }
+}
+
+/// Judges the record of a run by its script: whether it is legal, and then whether it is causal; or else which rule is
+/// broken first, and which actor breaks it first. The record has the form of the script's records, as one that was read
+/// from a log has.
+///
+/// It takes time by the length of the record, but for logarithms, and memory in the same way.
+pub fn check(alloc: Global, script: &Script, run: &RunRecord) -> Result<Verdict, OutOfMemory>
+    requires { IsFormed script.now run.now }
+    ensures exact { IfOk result (Judges script.now run.now) }
+    ensures legal { IfOk result (λ verdict. OnLegal verdict (IsTrue script.now run.now)) }
+{
+    let _shape = script.shape();
+    kept_rules_are_legal();
+    legal_records_are_true();
+    if let Some(broken) = first_broken_line(script, run) {
+        return Ok(not_legal(broken));
+    }
+    let plans = plans_of(alloc, script)?;
+    let puts = all_puts(alloc, script, run, &plans)?;
+    if let Some(broken) = first_broken_edge(alloc, script, run, &puts)? {
+        return Ok(not_legal(broken));
+    }
+    if let Some(broken) = first_broken_object(alloc, script, run, &plans, &puts.queues)? {
+        return Ok(not_legal(broken));
+    }
+    let causal = is_causal(
+        alloc,
+        script,
+        run,
+        &puts.clients,
+        &puts.publishers,
+        &puts.bridge,
+        &puts.timers,
+        &puts.queues,
+    )?;
+    Ok(Verdict::Legal { causal })
+}
