@@ -1,8 +1,7 @@
 -- The lines of an object's callbacks and orders.
-use Rattle.std.proofs.Common.{◌≡◌, ℕ, zero, suc, ◌+◌, ◌-◌, ◌<◌, ◌≤◌, Bool, true, false, List, [], ◌∷◌, ◌++◌, length, map, refl, sym, ap, subst, ◌∙◌, append_assoc, arith, inl, inr}
+use Rattle.std.proofs.Common.{◌≡◌, ℕ, zero, suc, ◌-◌, ◌<◌, ◌≤◌, List, [], ◌∷◌, ◌++◌, length, map, refl, sym, ap, subst, ◌∙◌, append_assoc, arith, inl, inr}
 use Rattle.std.specs.Prelude.{◌⊎◌}
-use Rattle.std.specs.List.{flat_map, All, AllByRecursion}
-use Rattle.std.proofs.lemmas.List.{append-nil}
+use Rattle.std.specs.List.{flat_map, AllByRecursion}
 use Rattle.std.proofs.lemmas.List.Elements.{recursion_from_All}
 use Rattle.mama_event.specs.declared.ids.ObjectId.{ObjectId}
 use Rattle.mama_event.specs.declared.order.Order.{Order}
@@ -16,7 +15,7 @@ use Rattle.mama_log_text.specs.Part.{order_body, call_bodies}
 use Rattle.mama_log_text.specs.Reading.{room}
 use Rattle.mama_log_text.proofs.Spelled.{same_call, same_order}
 use Rattle.mama_log_text.proofs.NoHead.{call_no_order}
-use Rattle.mama_log_text.proofs.Alike.{GoesBeyond, Overlap, overlap, each_map, same_map, beyond_map, head_or, tail_of}
+use Rattle.mama_log_text.proofs.Alike.{Overlap, overlap, each_map, same_map, beyond_map, head_or, tail_of}
 
 abbrev pub IsCallLine : ObjectId → List ℕ → Type 0
 IsCallLine object l = (c : Callback) × MayHear object c × (l ≡ callback_text c)

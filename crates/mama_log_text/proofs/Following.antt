@@ -1,16 +1,16 @@
 -- What may follow behind parts that were read.
-use Rattle.std.proofs.Common.{◌≡◌, ℕ, Bool, true, false, List, [], ◌∷◌, ◌++◌, length, map, Option, Some, None, refl, sym, ap, subst, ◌∙◌, append_assoc, inl, inr}
+use Rattle.std.proofs.Common.{◌≡◌, ℕ, true, false, List, [], ◌∷◌, ◌++◌, refl, sym, ap, subst, ◌∙◌, append_assoc, inl, inr}
 use Rattle.std.specs.Prelude.{◌⊎◌}
-use Rattle.std.specs.List.{flat_map, AllByRecursion}
+use Rattle.std.specs.List.{AllByRecursion}
 use Rattle.mama_event.specs.declared.ids.ObjectId.{ObjectId}
 use Rattle.mama_log.specs.Names.{NamesData}
 use Rattle.mama_log_text.specs.Section.{head_of, HasPlainHead}
-use Rattle.mama_log_text.specs.Part.{Part, Bare, Filled, Fits, FitsIn, bodies, lines_of, all_lines}
+use Rattle.mama_log_text.specs.Part.{Part, Bare, Filled, Fits, bodies, all_lines}
 use Rattle.mama_log_text.specs.Reading.{GoesOn, last_part}
 use Rattle.mama_log_text.specs.declared.section.Section.{Section}
-use Rattle.mama_log_text.proofs.Lines.{IsPlain, ArePlain, plain-append}
+use Rattle.mama_log_text.proofs.Lines.{ArePlain, plain-append}
 use Rattle.mama_log_text.proofs.NoHead.{is_head, head_is}
-use Rattle.mama_log_text.proofs.Alike.{GoesBeyond, Overlap, overlap, head_or, tail_of}
+use Rattle.mama_log_text.proofs.Alike.{Overlap, overlap, head_or, tail_of}
 use Rattle.mama_log_text.proofs.Parts.{IsNoHead, part_plain, part_no_head, part_same, part_beyond}
 use Rattle.mama_log_text.proofs.Whole.{AllFit, named}
 

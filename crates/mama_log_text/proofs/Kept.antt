@@ -1,7 +1,5 @@
 -- A part that was read is kept in the record.
-use Rattle.std.proofs.Common.{◌≡◌, ℕ, ◌<◌, List, [], ◌∷◌, ◌++◌, map, Some, refl, sym, ap, subst, ◌∙◌, inl, inr}
-use Rattle.std.specs.Prelude.{◌⊎◌}
-use Rattle.std.specs.List.{All}
+use Rattle.std.proofs.Common.{◌≡◌, ℕ, List, [], ◌∷◌, ◌++◌, refl, sym, ap, subst, ◌∙◌, inl, inr}
 use Rattle.mama_event.specs.declared.ids.ObjectId.{ObjectId}
 use Rattle.mama_event.specs.declared.callback.CallNote.{CallNote}
 use Rattle.mama_event.specs.declared.to_bridge.BridgeNote.{BridgeNote}
@@ -14,7 +12,7 @@ use Rattle.mama_words.proofs.Choices.{some_is}
 use Rattle.mama_log.specs.Names.{NamesData}
 use Rattle.mama_log.specs.Entering.{MayEnterPublisher, MayEnterBridge, MayEnterTimers, MayEnterQueue}
 use Rattle.mama_log_text.specs.Logged.{IsMoment}
-use Rattle.mama_log_text.specs.Part.{Part, Bare, Moments, Sends, OnBridge, OnTimers, OnQueue, Heard, Pictures, clock_body, bridge_body, timers_body, queue_body, put, behind_all}
+use Rattle.mama_log_text.specs.Part.{Bare, Moments, Sends, OnBridge, OnTimers, OnQueue, Heard, Pictures, clock_body, bridge_body, timers_body, queue_body, put}
 use Rattle.mama_log_text.specs.Reading.{AreTaken, AreCallsTaken, AreImagesTaken, IsPartRead, GoesOn, IsPicture}
 use Rattle.mama_log_text.specs.declared.section.Section.{Section}
 use Rattle.mama_log_text.specs.declared.section.Section.TheVariants as s

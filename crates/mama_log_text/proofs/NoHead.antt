@@ -1,13 +1,11 @@
 -- No line of an entry is the line that begins a section: their first three bytes differ.
-use Rattle.std.proofs.Common.{◌≡◌, ℕ, ◌+◌, ◌-◌, ◌<◌, ◌≤◌, ◌^◌, Bool, true, false, cond, eqb, List, [], ◌∷◌, ◌++◌, length, map, refl, sym, ap, subst, ◌∙◌, arith}
-use Rattle.std.specs.Prelude.{◌&&◌, ◌||◌, ◌==◌, codes}
+use Rattle.std.proofs.Common.{◌≡◌, ℕ, ◌-◌, ◌<◌, ◌^◌, Bool, true, false, cond, eqb, List, [], ◌∷◌, ◌++◌, length, refl, sym, ap, ◌∙◌, arith}
+use Rattle.std.specs.Prelude.{◌&&◌, ◌||◌, ◌==◌}
 use Rattle.std.specs.List.{list_all}
 use Rattle.std.proofs.lemmas.Bool.{and_parts, ne_eqb}
 use Rattle.std.proofs.lemmas.Fmt.{decimal_nonempty}
 use Rattle.mama_edge.specs.Decimal.{decimal}
 use Rattle.mama_words.proofs.Cutting.{is_digit, decimal_digits}
-use Rattle.mama_event.specs.declared.ids.ObjectId.{ObjectId}
-use Rattle.mama_event.specs.declared.ids.ObjectId.TheVariants.{Sub, Timer, Inbox}
 use Rattle.mama_event.specs.declared.order.Order.{Order}
 use Rattle.mama_event.specs.declared.callback.Callback.{Callback}
 use Rattle.mama_event.specs.declared.callback.Callback.TheVariants as on
@@ -23,7 +21,7 @@ use Rattle.mama_rules.specs.Ports.{Putter, ByClient, ByPublisher, ByQueue, ByBri
 use Rattle.mama_record.specs.RunData.{LastImage}
 use Rattle.mama_record.specs.LogText.{putter_text, bridge_note_text, timers_note_text, queue_note_text, publisher_entry_text, callback_text}
 use Rattle.mama_log.specs.Names.{NamesData}
-use Rattle.mama_log.specs.Entering.{MayEnterPublisher, MayEnterBridge, MayEnterTimers, MayEnterQueue, MayHear, BridgeFrom, TimersFrom, QueueFrom}
+use Rattle.mama_log.specs.Entering.{MayEnterBridge, MayEnterTimers, MayEnterQueue, BridgeFrom, TimersFrom, QueueFrom}
 use Rattle.mama_log_text.specs.Section.{head_of}
 use Rattle.mama_log_text.specs.Part.{clock_body, bridge_body, timers_body, queue_body, order_body, image_body}
 use Rattle.mama_log_text.specs.declared.section.Section.{Section}

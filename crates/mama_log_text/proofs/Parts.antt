@@ -1,7 +1,6 @@
 -- The lines of a part that fits: each is one line and begins no section, and they say what the part is.
-use Rattle.std.proofs.Common.{◌≡◌, ℕ, Bool, true, false, List, [], ◌∷◌, ◌++◌, length, map, Option, Some, None, refl, sym, ap, subst, ◌∙◌, arith, inl, inr}
-use Rattle.std.specs.Prelude.{◌⊎◌, option_and_then}
-use Rattle.std.specs.List.{flat_map, All, AllByRecursion}
+use Rattle.std.proofs.Common.{◌≡◌, ℕ, false, List, [], ◌∷◌, ◌++◌, map, Some, sym, ap, subst, ◌∙◌}
+use Rattle.std.specs.List.{AllByRecursion}
 use Rattle.std.proofs.lemmas.List.{map-append}
 use Rattle.std.proofs.lemmas.List.Elements.{recursion_from_All}
 use Rattle.mama_event.specs.declared.ids.SubId.{SubId}
@@ -12,8 +11,8 @@ use Rattle.mama_record.specs.RunData.{ObjectCalls, LastImage}
 use Rattle.mama_record.specs.LogText.{publisher_entry_text}
 use Rattle.mama_log.specs.Names.{NamesData}
 use Rattle.mama_log.specs.Entering.{MayEnterPublisher, MayEnterBridge, MayEnterTimers, MayEnterQueue, IsLastImage}
-use Rattle.mama_log_text.specs.Logged.{IsMoment, MayCall, MayHearAll}
-use Rattle.mama_log_text.specs.Part.{Part, Bare, Moments, Sends, OnBridge, OnTimers, OnQueue, Heard, Pictures, Fits, ArePictures, bodies, behind, behind_all, call_bodies, clock_body, bridge_body, timers_body, queue_body, image_body}
+use Rattle.mama_log_text.specs.Logged.{IsMoment, MayCall}
+use Rattle.mama_log_text.specs.Part.{Part, Bare, Moments, Sends, OnBridge, OnTimers, OnQueue, Heard, Pictures, Fits, bodies, behind, behind_all, clock_body, bridge_body, timers_body, queue_body, image_body}
 use Rattle.mama_log_text.specs.Reading.{GoesOn}
 use Rattle.mama_log_text.specs.declared.section.Section.{Section}
 use Rattle.mama_log_text.specs.declared.section.Section.TheVariants as s

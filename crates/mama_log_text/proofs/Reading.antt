@@ -1,9 +1,9 @@
 -- One section more was read.
-use Rattle.std.proofs.Common.{◌≡◌, ℕ, zero, suc, ◌+◌, ◌<◌, ◌≤◌, true, false, List, [], ◌∷◌, ◌++◌, length, map, take, drop, get_or, refl, sym, ap, subst, ◌∙◌, append_assoc, arith}
+use Rattle.std.proofs.Common.{◌≡◌, ℕ, zero, suc, ◌+◌, ◌<◌, ◌≤◌, true, false, List, [], ◌∷◌, ◌++◌, length, take, drop, get_or, refl, sym, ap, subst, ◌∙◌, append_assoc, arith}
 use Rattle.std.specs.Prelude.{◌==◌}
-use Rattle.std.specs.List.{flat_map, All}
+use Rattle.std.specs.List.{All}
 use Rattle.std.proofs.lemmas.Bool.{eqb-true}
-use Rattle.std.proofs.lemmas.List.{append-nil, map_push, take_more, take_all, drop_more, drop_all}
+use Rattle.std.proofs.lemmas.List.{append-nil, map_push, take_more, take_all, drop_more}
 use Rattle.std.proofs.lemmas.List.Concat.{flat_map-append}
 use Rattle.std.proofs.lemmas.List.Elements.{All-push, All-nil}
 use Rattle.mama_event.specs.declared.ids.ObjectId.{ObjectId}
@@ -11,7 +11,7 @@ use Rattle.mama_record.specs.RunData.{RunData}
 use Rattle.mama_log.specs.Names.{NamesData}
 use Rattle.mama_log_text.specs.Unfit.{lines_text}
 use Rattle.mama_log_text.specs.Section.{head_of, HasPlainHead}
-use Rattle.mama_log_text.specs.Part.{Part, Filled, FitsIn, bodies, lines_of, all_lines, nothing, put, run_after}
+use Rattle.mama_log_text.specs.Part.{Part, Filled, FitsIn, bodies, lines_of, all_lines, nothing, put}
 use Rattle.mama_log_text.specs.Reading.{GoesOn, last_part, IsPartRead, AreRead, IsStuck}
 use Rattle.mama_log_text.specs.declared.section.Section.{Section}
 use Rattle.mama_log_text.proofs.Lines.{IsPlain, lines_text-append, first_line}

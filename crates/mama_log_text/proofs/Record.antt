@@ -1,25 +1,23 @@
 -- Parts that fit the sections of a script are those of a record that its log can tell.
-use Rattle.std.proofs.Common.{◌≡◌, ℕ, zero, suc, ◌+◌, ◌<◌, Bool, true, false, cond, List, [], ◌∷◌, ◌++◌, length, map, Option, Some, None, refl, sym, ap, subst, ◌∙◌, arith}
-use Rattle.std.specs.List.{flat_map, All, AllByRecursion}
+use Rattle.std.proofs.Common.{◌≡◌, ℕ, suc, Bool, true, false, List, [], ◌∷◌, ◌++◌, length, map, Some, refl, ap, ◌∙◌}
+use Rattle.std.specs.List.{All, AllByRecursion}
 use Rattle.std.proofs.lemmas.List.Elements.{All-from_recursion, recursion_from_All}
 use Rattle.mama_event.specs.declared.ids.SubId.{SubId}
 use Rattle.mama_event.specs.declared.ids.ObjectId.{ObjectId}
 use Rattle.mama_event.specs.declared.ids.ObjectId.TheVariants.{Sub}
 use Rattle.mama_event.specs.Object.{same_object}
-use Rattle.mama_event.specs.declared.to_queue.QueueNote.{QueueNote}
-use Rattle.mama_event.specs.declared.publisher_entry.PublisherEntry.{PublisherEntry}
 use Rattle.mama_event.specs.Ports.{queues_of}
 use Rattle.mama_script.specs.Script.{ScriptData}
 use Rattle.mama_form.specs.Form.{objects_of, in_order}
-use Rattle.mama_record.specs.RunData.{RunData, ObjectCalls, LastImage}
+use Rattle.mama_record.specs.RunData.{RunData, ObjectCalls}
 use Rattle.mama_log.specs.Names.{NamesData, names_of}
-use Rattle.mama_log.specs.Entering.{MayEnterPublisher, MayEnterBridge, MayEnterTimers, MayEnterQueue, IsLastImage}
+use Rattle.mama_log.specs.Entering.{MayEnterPublisher, MayEnterBridge, MayEnterTimers, MayEnterQueue}
 use Rattle.mama_log_text.specs.Logged.{IsMoment, MayHearAll, IsLogged}
 use Rattle.mama_log_text.specs.Section.{numbered_from, sections}
-use Rattle.mama_log_text.specs.Part.{Part, Bare, Moments, Sends, OnBridge, OnTimers, OnQueue, Heard, Pictures, Filled, Fits, FitsIn, ArePictures, behind, behind_all}
+use Rattle.mama_log_text.specs.Part.{Part, Bare, Moments, Sends, OnBridge, OnTimers, OnQueue, Pictures, Filled, Fits, ArePictures, behind_all}
 use Rattle.mama_log_text.specs.declared.section.Section.{Section}
 use Rattle.mama_log_text.specs.declared.section.Section.TheVariants as s
-use Rattle.mama_log_text.proofs.Whole.{numbered_parts, heard_part, last_parts, parts_of, AllFit, named, First, Split, SplitCalls, first, split, split_calls, moments_in, sends_in, queue_in, bridge_in, timers_in, pictures_in, title_in, end_in}
+use Rattle.mama_log_text.proofs.Whole.{numbered_parts, heard_part, last_parts, parts_of, AllFit, named, first, split, split_calls, moments_in, sends_in, queue_in, bridge_in, timers_in, pictures_in, title_in, end_in}
 
 -- ---- images in order
 

@@ -1,9 +1,8 @@
 -- The sections of a script, one after the other, and that each begins with one line.
-use Rattle.std.proofs.Common.{◌≡◌, ℕ, zero, suc, ◌+◌, ◌<◌, ◌≤◌, ◌^◌, Bool, true, false, eqb, List, [], ◌∷◌, ◌++◌, length, map, take, get_or, refl, sym, ap, subst, ◌∙◌, append_assoc, arith}
-use Rattle.std.specs.Prelude.{codes, ◌==◌}
+use Rattle.std.proofs.Common.{◌≡◌, ℕ, zero, suc, ◌+◌, ◌<◌, ◌≤◌, ◌^◌, false, eqb, List, [], ◌∷◌, ◌++◌, length, map, take, get_or, refl, sym, ap, subst, ◌∙◌, append_assoc, arith}
 use Rattle.std.specs.List.{All, AllByRecursion}
 use Rattle.std.proofs.lemmas.Bool.{or_from, or_parts}
-use Rattle.std.proofs.lemmas.List.{append-nil, map_push, take_more}
+use Rattle.std.proofs.lemmas.List.{map_push, take_more}
 use Rattle.mama_edge.specs.Decimal.{decimal}
 use Rattle.mama_event.specs.declared.ids.SubId.{SubId}
 use Rattle.mama_event.specs.declared.ids.TimerId.{TimerId}
@@ -21,7 +20,7 @@ use Rattle.mama_script.specs.Within.{IsWithin}
 use Rattle.mama_rounds.specs.Client.{Planned}
 use Rattle.mama_rounds.specs.Round.{setting_of}
 use Rattle.mama_form.specs.Form.{objects_of}
-use Rattle.mama_log_text.specs.Section.{has_feed, head_of, numbered_from, sections, sections_with, HasPlainHead}
+use Rattle.mama_log_text.specs.Section.{has_feed, numbered_from, sections_with, HasPlainHead}
 use Rattle.mama_log_text.specs.declared.section.Section.{Section}
 use Rattle.mama_log_text.specs.declared.section.Section.TheVariants as s
 

@@ -1,5 +1,5 @@
 -- One entry more is taken from the head of a text.
-use Rattle.std.proofs.Common.{◌≡◌, ℕ, suc, ◌+◌, ◌-◌, ◌<◌, ◌≤◌, Bool, true, false, List, [], ◌∷◌, ◌++◌, length, map, Option, Some, None, refl, sym, ap, subst, ◌∙◌, append_assoc, length-append, arith}
+use Rattle.std.proofs.Common.{◌≡◌, ℕ, suc, ◌+◌, ◌-◌, ◌<◌, ◌≤◌, true, false, List, [], ◌∷◌, ◌++◌, length, map, Option, Some, None, refl, sym, ap, subst, ◌∙◌, append_assoc, length-append, arith}
 use Rattle.std.specs.List.{flat_map, All}
 use Rattle.std.proofs.lemmas.List.{append_cancel_right, append-nil, map_push}
 use Rattle.std.proofs.lemmas.List.Elements.{All-push}
@@ -20,12 +20,12 @@ use Rattle.mama_record.specs.LogText.{callback_text}
 use Rattle.mama_log.specs.Names.{NamesData}
 use Rattle.mama_log.specs.Entering.{MayHear, MayOrder, IsLastImage}
 use Rattle.mama_log_text.specs.Logged.{MayCall}
-use Rattle.mama_log_text.specs.Section.{has_feed, head_of, HasPlainHead}
+use Rattle.mama_log_text.specs.Section.{head_of, HasPlainHead}
 use Rattle.mama_log_text.specs.declared.section.Section.{Section}
 use Rattle.mama_log_text.proofs.Spelled.{plain_image}
 use Rattle.mama_log_text.specs.Part.{order_body, call_bodies, image_body, behind, behind_all, ArePictures}
 use Rattle.mama_log_text.specs.Unfit.{lines_text}
-use Rattle.mama_log_text.specs.Reading.{Stops, IsNext, AreTaken, AreOrdersTaken, room, IsCallTaken, AreCallsTaken, IsPicture, AreImagesTaken}
+use Rattle.mama_log_text.specs.Reading.{Stops, AreTaken, AreOrdersTaken, room, IsCallTaken, AreCallsTaken, IsPicture, AreImagesTaken}
 use Rattle.mama_log_text.proofs.Lines.{IsPlain, ArePlain, lines_text-append, first_line}
 
 pub next_some : {A : Type 0} (May : A → Type 0) (body : A → List ℕ) (text line after : List ℕ) (x : A) → Some (line, after) ≡ cut_at 10 text → May x × (line ++ 10 ∷ [] ≡ body x ++ 10 ∷ []) → May x × (text ≡ body x ++ 10 ∷ after)

@@ -1,8 +1,8 @@
 -- What is known of a text once its sections were read as far as they go.
-use Rattle.std.proofs.Common.{◌≡◌, ℕ, suc, ◌+◌, ◌<◌, Bool, true, false, cond, eqb, List, [], ◌∷◌, ◌++◌, length, map, Option, Some, None, Result, Ok, Err, refl, sym, ap, subst, ◌∙◌, append_assoc, arith, inl, inr}
-use Rattle.std.specs.Prelude.{◌⊎◌, ◌==◌}
-use Rattle.std.specs.List.{flat_map, All, AllByRecursion}
-use Rattle.std.proofs.lemmas.Bool.{or_from, eqb-true}
+use Rattle.std.proofs.Common.{◌≡◌, ℕ, suc, ◌<◌, Bool, true, false, eqb, List, [], ◌∷◌, ◌++◌, length, map, Option, Some, None, Result, Ok, Err, refl, sym, ap, subst, ◌∙◌, append_assoc, arith, inl, inr}
+use Rattle.std.specs.Prelude.{◌⊎◌}
+use Rattle.std.specs.List.{All, AllByRecursion}
+use Rattle.std.proofs.lemmas.Bool.{or_from}
 use Rattle.std.proofs.lemmas.List.{append-nil, map-append}
 use Rattle.std.proofs.lemmas.List.Concat.{flat_map-append}
 use Rattle.std.proofs.lemmas.List.Elements.{All-from_recursion, recursion_from_All, All-nil}
@@ -15,13 +15,13 @@ use Rattle.mama_script.specs.Script.{ScriptData}
 use Rattle.mama_script.proofs.Whole.{joined, pieces_joined, pieces_some}
 use Rattle.mama_form.specs.Form.{objects_of}
 use Rattle.mama_record.specs.RunData.{RunData}
-use Rattle.mama_record.specs.LogText.{line, log_text}
+use Rattle.mama_record.specs.LogText.{log_text}
 use Rattle.mama_log.specs.Names.{NamesData, names_of}
 use Rattle.mama_log_text.specs.Logged.{IsLogged}
 use Rattle.std.specs.Prelude.{IfOk, IfErr}
 use Rattle.mama_log_text.specs.Unfit.{lines_text, BeginLog, IsLogOf, Unfit, IsFirstUnfit, IfBad, GivesRun}
 use Rattle.mama_log_text.specs.Section.{head_of, has_feed, sections, HasPlainHead}
-use Rattle.mama_log_text.specs.Part.{Part, Bare, Moments, Sends, OnBridge, OnTimers, OnQueue, Heard, Pictures, Filled, Fits, FitsIn, lines_of, all_lines, nothing, run_after, ArePictures}
+use Rattle.mama_log_text.specs.Part.{Part, Bare, Moments, Sends, OnBridge, OnTimers, OnQueue, Heard, Pictures, Filled, Fits, FitsIn, lines_of, all_lines, nothing, run_after}
 use Rattle.mama_log_text.specs.Reading.{GoesOn, last_part, AreRead, IsStuck, IsReadOrStuck}
 use Rattle.mama_log_text.specs.declared.fault.LogFault.{LogFault}
 use Rattle.mama_log_text.specs.declared.fault.LogFault.TheVariants as faults
@@ -29,7 +29,7 @@ use Rattle.mama_log_text.specs.declared.section.Section.{Section}
 use Rattle.mama_log_text.specs.declared.section.Section.TheVariants as s
 use Rattle.mama_log_text.proofs.Lines.{IsPlain, ArePlain, lines_begin, lines_text-append, pieces_lines, first_line}
 use Rattle.mama_log_text.proofs.Whole.{AllFit, named, parts_of, parts_spell, parts_make}
-use Rattle.mama_log_text.proofs.Record.{IsRecord, whole, parts_named, parts_fit}
+use Rattle.mama_log_text.proofs.Record.{whole, parts_named, parts_fit}
 use Rattle.mama_log_text.proofs.Following.{BeginsFirst, Follows, follows, same_parts, parts_plain}
 
 abbrev pub ArePlainHeads : ScriptData → Type 0

@@ -1,9 +1,8 @@
 -- A record is its parts, and the text of the parts is its log.
-use Rattle.std.proofs.Common.{◌≡◌, ℕ, zero, suc, ◌+◌, ◌<◌, List, [], ◌∷◌, ◌++◌, length, map, Option, Some, None, refl, sym, ap, subst, ◌∙◌, append_assoc, arith}
+use Rattle.std.proofs.Common.{◌≡◌, ℕ, zero, suc, List, [], ◌∷◌, ◌++◌, length, map, refl, sym, ap, subst, ◌∙◌, append_assoc}
 use Rattle.std.specs.Prelude.{codes}
 use Rattle.std.specs.List.{flat_map, All, AllByRecursion}
 use Rattle.std.proofs.lemmas.List.{append-nil}
-use Rattle.std.proofs.lemmas.List.Elements.{All-from_recursion, recursion_from_All}
 use Rattle.mama_event.specs.declared.ids.ObjectId.{ObjectId}
 use Rattle.mama_event.specs.declared.callback.CallNote.{CallNote}
 use Rattle.mama_event.specs.declared.shape.Shape.{Shape}
@@ -11,17 +10,14 @@ use Rattle.mama_event.specs.declared.to_bridge.BridgeNote.{BridgeNote}
 use Rattle.mama_event.specs.declared.to_timers.TimersNote.{TimersNote}
 use Rattle.mama_event.specs.declared.to_queue.QueueNote.{QueueNote}
 use Rattle.mama_event.specs.declared.publisher_entry.PublisherEntry.{PublisherEntry}
-use Rattle.mama_event.specs.Ports.{queues_of}
-use Rattle.mama_script.specs.Script.{ScriptData}
-use Rattle.mama_form.specs.Form.{objects_of}
 use Rattle.mama_record.specs.RunData.{RunData, ObjectCalls, LastImage}
-use Rattle.mama_record.specs.LogText.{line, numbered, client_section, publisher_section, queue_section, object_section, call_lines, order_line, bridge_entry_line, timers_entry_line, queue_entry_line, publisher_entry_text, callback_text, image_line, log_text}
-use Rattle.mama_log.specs.Names.{NamesData, names_of}
-use Rattle.mama_log.specs.Entering.{MayEnterPublisher, MayEnterBridge, MayEnterTimers, MayEnterQueue, IsLastImage}
-use Rattle.mama_log_text.specs.Logged.{IsMoment, MayCall, MayHearAll, IsLogged}
+use Rattle.mama_record.specs.LogText.{line, numbered, client_section, publisher_section, queue_section, object_section, call_lines, bridge_entry_line, timers_entry_line, publisher_entry_text, callback_text, image_line, log_text}
+use Rattle.mama_log.specs.Names.{NamesData}
+use Rattle.mama_log.specs.Entering.{MayEnterPublisher, MayEnterBridge, MayEnterTimers, MayEnterQueue}
+use Rattle.mama_log_text.specs.Logged.{IsMoment, MayHearAll}
 use Rattle.mama_log_text.specs.Unfit.{lines_text}
-use Rattle.mama_log_text.specs.Section.{head_of, numbered_from, sections}
-use Rattle.mama_log_text.specs.Part.{Part, Bare, Moments, Sends, OnBridge, OnTimers, OnQueue, Heard, Pictures, Filled, Fits, FitsIn, ArePictures, bodies, lines_of, all_lines, call_bodies, order_body, clock_body, nothing, put, run_after}
+use Rattle.mama_log_text.specs.Section.{head_of, numbered_from}
+use Rattle.mama_log_text.specs.Part.{Part, Bare, Moments, Sends, OnBridge, OnTimers, OnQueue, Heard, Pictures, Filled, Fits, FitsIn, ArePictures, lines_of, all_lines, call_bodies, order_body, clock_body, nothing, put, run_after}
 use Rattle.mama_log_text.specs.declared.section.Section.{Section}
 use Rattle.mama_log_text.specs.declared.section.Section.TheVariants as s
 use Rattle.mama_log_text.proofs.Lines.{lines_text-append}

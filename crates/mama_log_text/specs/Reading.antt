@@ -5,11 +5,7 @@ use Rattle.mama_event.specs.declared.ids.ObjectId.{ObjectId}
 use Rattle.mama_event.specs.declared.order.Order.{Order}
 use Rattle.mama_event.specs.declared.callback.Callback.{Callback}
 use Rattle.mama_event.specs.declared.callback.CallNote.{CallNote}
-use Rattle.mama_event.specs.declared.to_bridge.BridgeNote.{BridgeNote}
-use Rattle.mama_event.specs.declared.to_timers.TimersNote.{TimersNote}
-use Rattle.mama_event.specs.declared.to_queue.QueueNote.{QueueNote}
-use Rattle.mama_event.specs.declared.publisher_entry.PublisherEntry.{PublisherEntry}
-use Rattle.mama_record.specs.RunData.{RunData, ObjectCalls, LastImage}
+use Rattle.mama_record.specs.RunData.{RunData, LastImage}
 use Rattle.mama_record.specs.LogText.{publisher_entry_text, callback_text}
 use Rattle.mama_log.specs.Names.{NamesData}
 use Rattle.mama_log.specs.Entering.{MayEnterPublisher, MayEnterBridge, MayEnterTimers, MayEnterQueue, MayHear, MayOrder, IsLastImage}

@@ -1,5 +1,5 @@
 -- The orders of plans, row by row and object by object.
-use Rattle.std.specs.Prelude.{Option, Some, None, nat_eq, unwrap_or, map, is_some, if◌then◌else◌}
+use Rattle.std.specs.Prelude.{Option, Some, None, nat_eq, unwrap_or, is_some, if◌then◌else◌}
 use Rattle.std.specs.Map.{lookup}
 use Rattle.std.specs.Option.{option_or}
 use Rattle.std.proofs.Common.{◌≡◌, ℕ, ◌+◌, ◌<◌, ◌≤◌, Bool, true, false, cond, List, [], ◌∷◌, ◌++◌, length, take, get_or, refl, ap, sym, ◌∙◌, subst, inl, inr, true≢false}

@@ -1,5 +1,5 @@
 -- How far a journal was served again.
-use Rattle.std.specs.Prelude.{Bool, true, false, map, if◌then◌else◌}
+use Rattle.std.specs.Prelude.{Bool, true, false, if◌then◌else◌}
 use Rattle.std.proofs.Common.{◌≡◌, ℕ, suc, ◌+◌, ◌<◌, ◌≤◌, List, [], ◌∷◌, ◌++◌, length, take, get_or, refl, ap, sym, subst, ◌∙◌, arith}
 use Rattle.std.specs.Global.{Vec}
 use Rattle.std.specs.List.{flat_map}
@@ -17,13 +17,12 @@ use Rattle.mama_event.specs.declared.to_queue.QueueNote.{QueueNote}
 use Rattle.mama_queue_rules.specs.Queue.{Deed, QueuePut, queue_puts_at, deeds, served, puts_of, bye_put, is_fin}
 use Rattle.mama_record.specs.RunView.{events_of}
 use Rattle.mama_rounds.specs.Client.{Planned, bridge_part, timers_part}
-use Rattle.mama_dispatch.specs.Journals.{messages_at}
 use Rattle.mama_dispatch.proofs.JournalLaws.{deeds_more}
 use Rattle.mama_queue_seat.specs.Server.{orders_in}
 use Rattle.mama_queue_check.specs.Seen.{seen_of, unseen}
 use Rattle.mama_queue_check.specs.Puts.{PutData, put_all}
 use Rattle.mama_queue_check.specs.Rows.{SeenObjects, AreSeen}
-use Rattle.mama_queue_check.specs.Replay.{Goes, Serves}
+use Rattle.mama_queue_check.specs.Replay.{Serves}
 use Rattle.mama_queue_check.specs.Served.{ServedData, IsKept, bridge_puts, timers_puts}
 use Rattle.mama_queue_check.specs.Recorded.{journals_of, AreOf}
 use Rattle.mama_queue_check.proofs.PutLemmas.{put_more}

@@ -1,5 +1,5 @@
 -- What a queue's journal tells of one object, and what each deed makes of that.
-use Rattle.std.specs.Prelude.{◌≡◌, ℕ, Bool, false, not, ◌&&◌, ◌||◌, List, [], ◌∷◌, ◌++◌, map, Option, None, Some, if◌then◌else◌}
+use Rattle.std.specs.Prelude.{ℕ, Bool, false, not, ◌&&◌, ◌||◌, List, [], ◌∷◌, ◌++◌, map, Option, None, Some, if◌then◌else◌}
 use Rattle.std.specs.List.{list_any}
 use Rattle.mama_journal.specs.Journal.{first_said}
 use Rattle.mama_event.specs.declared.ids.ObjectId.{ObjectId}

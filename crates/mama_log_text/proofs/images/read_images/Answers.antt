@@ -1,4 +1,4 @@
-use Rattle.std.proofs.Common.{◌≡◌, ◌∙◌, ap}
+use Rattle.std.proofs.Common.{◌∙◌, ap}
 use Rattle.std.proofs.lemmas.List.{map_push}
 use Rattle.mama_record.specs.RunView.{image_in, images_of}
 use Rattle.mama_log_text.proofs.Taking.{image_more}

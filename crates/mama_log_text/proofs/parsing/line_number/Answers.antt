@@ -1,4 +1,3 @@
-use Rattle.std.proofs.Common.{arith}
 use Rattle.mama_script.proofs.Loop.{cut_is_shorter}
 use Rattle.mama_log_text.proofs.Taking.{counting_goes_on, counting_ends}
 use Rattle.mama_log_text.proofs.parsing.line_number.Goals as goal

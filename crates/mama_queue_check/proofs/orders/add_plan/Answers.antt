@@ -1,6 +1,6 @@
 use Rattle.std.specs.Prelude.{is_some, Option, Some}
 use Rattle.std.specs.Map.{lookup}
-use Rattle.std.proofs.Common.{◌≡◌, ℕ, Bool, false, cond, List, ap, sym, ◌∙◌}
+use Rattle.std.proofs.Common.{Bool, cond, List, ap, sym, ◌∙◌}
 use Rattle.mama_event.specs.contracts.ids.ObjectIdPartialEq.TheImpl.{eq-value}
 use Rattle.mama_event.specs.declared.order.PlanRow.{PlanRow}
 use Rattle.mama_event.specs.Object.{same_object}

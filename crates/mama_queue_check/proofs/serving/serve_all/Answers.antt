@@ -1,6 +1,5 @@
-use Rattle.std.proofs.Common.{ℕ, List, take, ap, sym, ◌∙◌}
+use Rattle.std.proofs.Common.{ℕ, List, ap, ◌∙◌}
 use Rattle.mama_event.specs.declared.to_queue.QueueNote.{QueueNote}
-use Rattle.mama_record.specs.RunView.{events_of}
 use Rattle.mama_queue_check.specs.Served.{ServedData}
 use Rattle.mama_queue_check.proofs.ServeLemmas.{all_none, all_more, all_whole}
 use Rattle.mama_queue_check.proofs.serving.serve_all.Goals as goal

@@ -2,7 +2,7 @@ use Rattle.std.proofs.Common.{List, subst, arith}
 use Rattle.mama_rounds.specs.Client.{Planned}
 use Rattle.mama_queue_seat.specs.Server.{orders_in}
 use Rattle.mama_queue_check.specs.Replay.{Serves}
-use Rattle.mama_queue_check.proofs.ServeLemmas.{served_none, served_more, served_all, fins_within}
+use Rattle.mama_queue_check.proofs.ServeLemmas.{served_none, served_more, fins_within}
 use Rattle.mama_queue_check.proofs.serving.serve_by.Goals as goal
 
 pub loop-entry-init : goal.loop-entry-init

@@ -1,4 +1,4 @@
-use Rattle.std.proofs.Common.{◌≡◌, ◌∙◌, ap, ℕ}
+use Rattle.std.proofs.Common.{◌∙◌, ap}
 use Rattle.std.proofs.lemmas.List.{map_push}
 use Rattle.mama_record.specs.RunView.{calls_in, calls_of}
 use Rattle.mama_log_text.specs.contracts.built.Built.{the_view}

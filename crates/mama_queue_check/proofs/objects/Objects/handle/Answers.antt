@@ -1,7 +1,6 @@
 use Rattle.std.proofs.Common.{◌++◌, ap, sym, ◌∙◌}
 use Rattle.std.proofs.lemmas.Result.{on_ok_weaker}
 use Rattle.mama_event.specs.declared.ids.ObjectId.TheVariants.{Sub}
-use Rattle.mama_dq.specs.Context.{ContextData}
 use Rattle.mama_dq.specs.Strategy.{callbacks_of}
 use Rattle.mama_queue_check.specs.Seen.{SeenData, at, handling}
 use Rattle.mama_queue_check.proofs.RowLemmas.{changed, row_there}

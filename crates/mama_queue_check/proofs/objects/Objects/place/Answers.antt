@@ -1,6 +1,6 @@
-use Rattle.std.specs.Prelude.{position, Option}
+use Rattle.std.specs.Prelude.{position}
 use Rattle.std.specs.List.{list_any}
-use Rattle.std.proofs.Common.{◌≡◌, ℕ, ap, ◌∙◌}
+use Rattle.std.proofs.Common.{ap, ◌∙◌}
 use Rattle.mama_event.specs.contracts.ids.ObjectIdPartialEq.TheImpl.{eq-value}
 use Rattle.mama_event.specs.Object.{same_object}
 use Rattle.mama_dispatch.proofs.Ids.{same_ids}

@@ -1,4 +1,3 @@
-use Rattle.std.proofs.Common.{sym}
 use Rattle.mama_queue_check.specs.Seen.{silenced}
 use Rattle.mama_queue_check.proofs.RowLemmas.{changed, unchanged_none}
 use Rattle.mama_queue_check.proofs.objects.Objects.silence.Goals as goal

@@ -1,4 +1,4 @@
-use Rattle.std.specs.Prelude.{◌≡◌, ◌++◌, map, take}
+use Rattle.std.specs.Prelude.{◌≡◌, map, take}
 use Rattle.mama_queue_rules.specs.Queue.{order_put}
 use Rattle.mama_queue_check.specs.Puts.{put_all}
 use Rattle.mama_queue_check.proofs.puts.Puts.put_orders.Given as goal

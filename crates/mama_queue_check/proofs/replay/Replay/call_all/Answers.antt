@@ -1,4 +1,3 @@
-use Rattle.std.proofs.Common.{ap, sym, ◌∙◌}
 use Rattle.mama_queue_seat.specs.Server.{orders_in}
 use Rattle.mama_queue_check.proofs.MadeLemmas.{made_none, made_one, made_all}
 use Rattle.mama_queue_check.proofs.replay.Replay.call_all.Goals as goal
