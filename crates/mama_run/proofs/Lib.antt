@@ -1,1 +1,5 @@
 pub mod PlayLemmas
+pub mod PartLemmas
+pub mod VerdictLemmas
+pub mod CommandLemmas
+pub mod AnswerLemmas

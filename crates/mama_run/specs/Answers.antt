@@ -17,6 +17,9 @@ use Rattle.mama_genuine.specs.Records.{AreRecords}
 use Rattle.mama_genuine.specs.Gaps.{HasTrueGaps}
 use Rattle.mama_genuine.specs.CalmLinks.{AreLinksCalm}
 use Rattle.mama_genuine.specs.GivenAll.{AreAllGiven}
+use Rattle.mama_check.specs.declared.verdict.Actor.{Actor}
+use Rattle.mama_check.specs.declared.verdict.Verdict.{Verdict}
+use Rattle.mama_check.specs.declared.verdict.Verdict.TheVariants as verdict
 use Rattle.mama_run.specs.declared.status.Status.{Status}
 use Rattle.mama_run.specs.declared.status.Status.TheVariants as s
 use Rattle.mama_run.specs.declared.run.NoLog.{NoLog}
@@ -78,6 +81,8 @@ IfWriteFault (s.BadScript line fault) P = ⊤
 IfWriteFault (s.OverLimit line limit) P = ⊤
 IfWriteFault s.ReadFault P = ⊤
 IfWriteFault (s.WriteFault written) P = P written
+IfWriteFault (s.BadLog line) P = ⊤
+IfWriteFault (s.NotLegal rule actor) P = ⊤
 IfWriteFault s.OutOfMemory P = ⊤
 
 -- a fact of the line and the fault of a bad script
@@ -88,6 +93,8 @@ IfBadScript (s.BadScript line fault) P = P line fault
 IfBadScript (s.OverLimit line limit) P = ⊤
 IfBadScript s.ReadFault P = ⊤
 IfBadScript (s.WriteFault written) P = ⊤
+IfBadScript (s.BadLog line) P = ⊤
+IfBadScript (s.NotLegal rule actor) P = ⊤
 IfBadScript s.OutOfMemory P = ⊤
 
 -- a fact of the line and the limit that it passes; the input as a whole, which passes the first limit, has line 0
@@ -98,9 +105,40 @@ IfOverLimit (s.BadScript line fault) P = ⊤
 IfOverLimit (s.OverLimit line limit) P = P line limit
 IfOverLimit s.ReadFault P = ⊤
 IfOverLimit (s.WriteFault written) P = ⊤
+IfOverLimit (s.BadLog line) P = ⊤
+IfOverLimit (s.NotLegal rule actor) P = ⊤
 IfOverLimit s.OutOfMemory P = ⊤
 
--- a fact of every answer but Ok and a write fault
+-- a fact of the line of a log that does not fit
+abbrev pub IfBadLog : Status → (ℕ → Type 0) → Type 0
+IfBadLog s.Ok P = ⊤
+IfBadLog s.BadWords P = ⊤
+IfBadLog (s.BadScript line fault) P = ⊤
+IfBadLog (s.OverLimit line limit) P = ⊤
+IfBadLog s.ReadFault P = ⊤
+IfBadLog (s.WriteFault written) P = ⊤
+IfBadLog (s.BadLog line) P = P line
+IfBadLog (s.NotLegal rule actor) P = ⊤
+IfBadLog s.OutOfMemory P = ⊤
+
+-- a fact of the rule that a log breaks, and of the actor that breaks it
+abbrev pub IfNotLegal : Status → (ℕ → Actor → Type 0) → Type 0
+IfNotLegal s.Ok P = ⊤
+IfNotLegal s.BadWords P = ⊤
+IfNotLegal (s.BadScript line fault) P = ⊤
+IfNotLegal (s.OverLimit line limit) P = ⊤
+IfNotLegal s.ReadFault P = ⊤
+IfNotLegal (s.WriteFault written) P = ⊤
+IfNotLegal (s.BadLog line) P = ⊤
+IfNotLegal (s.NotLegal rule actor) P = P rule actor
+IfNotLegal s.OutOfMemory P = ⊤
+
+-- the answer where a verdict was written
+abbrev pub answer_in : Verdict → Status
+answer_in (verdict.Legal causal) = s.Ok
+answer_in (verdict.NotLegal rule actor) = s.NotLegal rule actor
+
+-- a fact of every answer but Ok, that a log is not legal, and a write fault
 abbrev pub OnSilent : Status → Type 0 → Type 0
 OnSilent s.Ok P = ⊤
 OnSilent s.BadWords P = P
@@ -108,4 +146,6 @@ OnSilent (s.BadScript line fault) P = P
 OnSilent (s.OverLimit line limit) P = P
 OnSilent s.ReadFault P = P
 OnSilent (s.WriteFault written) P = ⊤
+OnSilent (s.BadLog line) P = P
+OnSilent (s.NotLegal rule actor) P = ⊤
 OnSilent s.OutOfMemory P = P

@@ -1,3 +1,5 @@
 pub mod Command
+pub mod Parts
+pub mod Verdict
 pub mod Answers
 pub mod Status

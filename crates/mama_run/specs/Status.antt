@@ -10,4 +10,6 @@ exit_number (status.BadScript line fault) = 3
 exit_number (status.OverLimit line limit) = 4
 exit_number status.ReadFault = 5
 exit_number (status.WriteFault written) = 6
+exit_number (status.BadLog line) = 7
+exit_number (status.NotLegal rule actor) = 1
 exit_number status.OutOfMemory = 8

@@ -1,11 +1,21 @@
-//! Plays scripts of publishers, subscribers and link faults, and writes what every actor took and called back.
+//! Plays scripts of publishers, subscribers and link faults, and writes what every actor took and called back; and judges
+//! whether such a log is that of a legal run.
 #![tactic(auto)]
 
+mod check;
+#[cfg(test)]
+mod check_tests;
+mod command;
+#[cfg(test)]
+mod damaged;
+mod parts;
 mod run;
 mod status;
 #[cfg(test)]
 mod tests;
 
+pub use check::NoVerdict;
+pub use command::Command;
 use mama_edge::{RealClock, StdSink, StdSource};
 pub use run::{MOST_INPUT, NoLog, run_plain};
 pub use status::Status;
@@ -13,13 +23,26 @@ use std::process::ExitCode;
 use std::{env, io};
 
 const HELP: &str = "usage: mama_run serial
+       mama_run check
 
 serial     reads a script from standard input, plays it on one thread, and writes its log to standard output
+check      reads a script, a line that is just log, and a log from standard input, and writes to standard output whether
+           the log is that of a legal run of the script: 'legal' and a line 'causal yes' or 'causal no', or
+           'not legal L', the number of the first rule that is broken, and the first actor that breaks it
 --help     writes this text
 --version  writes the version
 
-exit status: 0 all was done, 2 the words are no command, 3 the script has a fault, 4 the script passes a limit,
-5 a read failed, 6 a write failed, 8 no memory was found. Each but 0 comes with one line on standard error.
+exit status:
+  0  all was done
+  1  the log is not that of a legal run
+  2  the words are no command
+  3  the script has a fault
+  4  the input or the script passes a limit
+  5  a read failed
+  6  a write failed
+  7  the log does not fit its script's form of a log
+  8  no memory was found
+Each but 0 comes with one line on standard error.
 ";
 
 fn main(rt: HostRuntime) -> io::Result<ExitCode> {

@@ -4,10 +4,16 @@ ghost use Rattle.mama_edge.specs.Told.{Appended, Lost};
 ghost use Rattle.mama_script.specs.Reading.{script_in};
 ghost use Rattle.mama_script.specs.declared.fault.ScriptFault.TheVariants as script;
 ghost use Rattle.mama_seats.specs.Moments.{AreHeard};
-ghost use Rattle.mama_run.specs.Command.{is_serial};
-ghost use Rattle.mama_run.specs.Answers.{GaveAll, IsRun, IsLogOf, IsCause, IfWriteFault, IfBadScript, IfOverLimit, OnSilent};
+ghost use Rattle.mama_check.specs.declared.verdict.Verdict.{Verdict};
+ghost use Rattle.mama_check.specs.declared.verdict.Verdict.TheVariants as verdicts;
+ghost use Rattle.mama_run.specs.Command.{is_serial, is_check, is_command};
+ghost use Rattle.mama_run.specs.Parts.{script_part, log_part};
+ghost use Rattle.mama_run.specs.Verdict.{IsChecked, IsVerdictOf, IsBadLog};
+ghost use Rattle.mama_run.specs.Answers.{GaveAll, IsRun, IsLogOf, IsCause, IfWriteFault, IfBadScript, IfOverLimit, IfBadLog, IfNotLegal, OnSilent};
 
-use crate::status::Status;
+use crate::check::write_verdict;
+use crate::command::{Command, command_of};
+use crate::status::{Status, script_status};
 use mama_callbacks::{rounds_tell_all, rounds_tell_plainly};
 use mama_drive::serial;
 use mama_edge::{Clock, ReadAll, Sink, Source, read_all, write_all_counted};
@@ -33,12 +39,14 @@ pub enum NoLog {
     Memory,
 }
 
-/// Serves the command that the words name: `serial` reads a script from the source, plays it on one thread and writes
-/// its log to the sink. It always returns.
+/// Serves the command that the words name. `serial` reads a script from the source, plays it on one thread and writes
+/// its log to the sink. `check` reads a script, a line `log`, and a log, and writes whether the log is that of a legal run
+/// of the script. It always returns.
 ///
-/// At `Ok` the log is that of the record that the script has where its clients read the moments of that record: `IsRun`
-/// says what is promised of it. Where the clock tells its moments, those of the record are its answers to one call for
-/// each line `now clock`, in the order of the rounds: `AreHeard`. No clause ties want of memory to its cause.
+/// At `Ok` of `serial` the log is that of the record that the script has where its clients read the moments of that record:
+/// `IsRun` says what is promised of it. Where the clock tells its moments, those of the record are its answers to one call
+/// for each line `now clock`, in the order of the rounds: `AreHeard`. At `Ok` of `check` the log is legal, and at `NotLegal`
+/// it is not; `IsVerdictOf` says what was judged. No clause ties want of memory to its cause.
 pub fn run_plain<S: Source, K: Sink, C: Clock>(
     alloc: Global,
     words: &[String],
@@ -47,7 +55,7 @@ pub fn run_plain<S: Source, K: Sink, C: Clock>(
     clock: &mut C,
 ) -> Status
     // The words are no command exactly where that is the answer, and then nothing was read.
-    ensures bad_words { (result ≡ Status.BadWords) ↔ (is_serial (map string_bytes words.now) ≡ false) }
+    ensures bad_words { (result ≡ Status.BadWords) ↔ (is_command (map string_bytes words.now) ≡ false) }
     ensures unread { result ≡ Status.BadWords → source.new ≡ source.old }
 
     // A read fault and a write fault come only where the count of that object rose.
@@ -57,33 +65,79 @@ pub fn run_plain<S: Source, K: Sink, C: Clock>(
     // The input is too long only where one byte more than the limit was taken.
     ensures too_long { IfOverLimit result (λ line limit. line ≡ 0 → (limit ≡ 1) × Lost (S.left source.old) (S.left source.new) 67108865) }
 
+    // At every answer but Ok, that a log is not legal, and a write fault, nothing was written.
+    ensures silent { OnSilent result (sink.new ≡ sink.old) }
+
+    // SERIAL
+
     // A fault or a limit is that of the text that the source gave: its first line that has one, where an object that is
     // not there is looked for last.
-    ensures bad_script { IfBadScript result (λ line fault. (text : List ℕ) × GaveAll (S.left source.old) (S.left source.new) text
+    ensures bad_script { is_serial (map string_bytes words.now) ≡ true → IfBadScript result (λ line fault. (text : List ℕ) × GaveAll (S.left source.old) (S.left source.new) text
         × (script_in text ≡ Err (script.Bad line fault))) }
-    ensures over_limit { IfOverLimit result (λ line limit. (line ≢ 0) → (text : List ℕ) × GaveAll (S.left source.old) (S.left source.new) text
+    ensures over_limit { is_serial (map string_bytes words.now) ≡ true → IfOverLimit result (λ line limit. (line ≢ 0) → (text : List ℕ) × GaveAll (S.left source.old) (S.left source.new) text
         × (script_in text ≡ Err (script.OverLimit line limit))) }
 
     // At Ok the source gave the text of an accepted script and no more, and the log of a run of it was written whole. At
     // a write fault a part of one was written, which is not the whole.
-    ensures ok { result ≡ Status.Ok → (text log : List ℕ) × GaveAll (S.left source.old) (S.left source.new) text × IsLogOf (C.left clock.old) (C.left clock.new) text log
+    ensures ok { is_serial (map string_bytes words.now) ≡ true → result ≡ Status.Ok → (text log : List ℕ) × GaveAll (S.left source.old) (S.left source.new) text × IsLogOf (C.left clock.old) (C.left clock.new) text log
         × Appended (K.written sink.old) (K.written sink.new) log }
-    ensures part { IfWriteFault result (λ written. (text log : List ℕ) × GaveAll (S.left source.old) (S.left source.new) text × IsLogOf (C.left clock.old) (C.left clock.new) text log
+    ensures part { is_serial (map string_bytes words.now) ≡ true → IfWriteFault result (λ written. (text log : List ℕ) × GaveAll (S.left source.old) (S.left source.new) text × IsLogOf (C.left clock.old) (C.left clock.new) text log
         × (written < length log) × Appended (K.written sink.old) (K.written sink.new) (take written log)) }
 
-    // At every other answer nothing was written.
-    ensures silent { OnSilent result (sink.new ≡ sink.old) }
+    // CHECK
+
+    // A fault or a limit is that of the script, which is what the source gave before its first line `log`.
+    ensures bad_script_part { is_check (map string_bytes words.now) ≡ true → IfBadScript result (λ line fault. (text : List ℕ) × GaveAll (S.left source.old) (S.left source.new) text
+        × (script_in (script_part text) ≡ Err (script.Bad line fault))) }
+    ensures over_limit_part { is_check (map string_bytes words.now) ≡ true → IfOverLimit result (λ line limit. (line ≢ 0) → (text : List ℕ) × GaveAll (S.left source.old) (S.left source.new) text
+        × (script_in (script_part text) ≡ Err (script.OverLimit line limit))) }
+
+    // A log is bad only for check, where the script is accepted, and the line is the first behind it that does not fit. It
+    // never is where the source tells an accepted script, the line `log`, and a log that the script can have.
+    ensures bad_log { IfBadLog result (λ line. (is_check (map string_bytes words.now) ≡ true) × (text : List ℕ) × GaveAll (S.left source.old) (S.left source.new) text
+        × IsBadLog (script_part text) (log_part text) line) }
+    ensures fitting { (text : List ℕ) → S.left source.old ≡ Some text → IsChecked text → IfBadLog result (λ line. ⊥) }
+
+    // The verdict on what the source gave was written whole: that the log is legal at Ok, and which rule is broken and by
+    // whom where it is not. At a write fault a part of a verdict was written, which is not the whole.
+    ensures legal { is_check (map string_bytes words.now) ≡ true → result ≡ Status.Ok → (causal : Bool) × (text : List ℕ) × (out : List ℕ) × GaveAll (S.left source.old) (S.left source.new) text
+        × IsVerdictOf text (verdicts.Legal causal) out × Appended (K.written sink.old) (K.written sink.new) out }
+    ensures not_legal { IfNotLegal result (λ rule actor. (is_check (map string_bytes words.now) ≡ true) × (text : List ℕ) × (out : List ℕ) × GaveAll (S.left source.old) (S.left source.new) text
+        × IsVerdictOf text (verdicts.NotLegal rule actor) out × Appended (K.written sink.old) (K.written sink.new) out) }
+    ensures verdict_part { is_check (map string_bytes words.now) ≡ true → IfWriteFault result (λ written. (verdict : Verdict) × (text : List ℕ) × (out : List ℕ) × GaveAll (S.left source.old) (S.left source.new) text
+        × IsVerdictOf text verdict out × (written < length out) × Appended (K.written sink.old) (K.written sink.new) (take written out)) }
 {
-    if !is_command(words) {
+    let Some(command) = command_of(words) else {
         return Status::BadWords;
-    }
+    };
     let text = match read_all(alloc, source, MOST_INPUT) {
         Ok(text) => text,
         Err(ReadAll::ReadFault) => return Status::ReadFault,
         Err(ReadAll::TooLong) => return Status::OverLimit { line: 0, limit: 1 },
         Err(ReadAll::OutOfMemory) => return Status::OutOfMemory,
     };
-    let log = match log_of(alloc, text.as_slice(), clock) {
+    match command {
+        Command::Serial => write_log(alloc, text.as_slice(), sink, clock),
+        Command::Check => write_verdict(alloc, text.as_slice(), sink),
+    }
+}
+
+/// Plays the script that a text spells, and writes its log.
+fn write_log<K: Sink, C: Clock>(alloc: Global, text: &[u8], sink: &mut K, clock: &mut C) -> Status
+    ensures words { result ≢ Status.BadWords }
+    ensures read { result ≢ Status.ReadFault }
+    ensures write_fault { IfWriteFault result (λ written. Rose (K.faults sink.old) (K.faults sink.new)) }
+    ensures bad_script { IfBadScript result (λ line fault. script_in text.now ≡ Err (script.Bad line fault)) }
+    ensures over_limit { IfOverLimit result (λ line limit. (line ≢ 0) × (script_in text.now ≡ Err (script.OverLimit line limit))) }
+    ensures bad_log { IfBadLog result (λ line. ⊥) }
+    ensures not_legal { IfNotLegal result (λ rule actor. ⊥) }
+    ensures ok { result ≡ Status.Ok → (log : List ℕ) × IsLogOf (C.left clock.old) (C.left clock.new) text.now log
+        × Appended (K.written sink.old) (K.written sink.new) log }
+    ensures part { IfWriteFault result (λ written. (log : List ℕ) × IsLogOf (C.left clock.old) (C.left clock.new) text.now log
+        × (written < length log) × Appended (K.written sink.old) (K.written sink.new) (take written log)) }
+    ensures silent { OnSilent result (sink.new ≡ sink.old) }
+{
+    let log = match log_of(alloc, text, clock) {
         Ok(log) => log,
         Err(fault) => return status_of(fault),
     };
@@ -92,16 +146,6 @@ pub fn run_plain<S: Source, K: Sink, C: Clock>(
         Err(fault) => Status::WriteFault {
             written: fault.written,
         },
-    }
-}
-
-/// Whether the words are a command.
-fn is_command(words: &[String]) -> bool
-    ensures { result ≡ is_serial (map string_bytes words.now) }
-{
-    match words {
-        [word] => word.as_str() == "serial",
-        _ => false,
     }
 }
 
@@ -142,25 +186,19 @@ fn play<C: Clock>(alloc: Global, script: &Script, clock: &mut C) -> Result<RunRe
     serial(alloc, script, clock)
 }
 
-/// The answer where there is no log. Only the input as a whole has line 0.
+/// The answer where there is no log.
 fn status_of(fault: NoLog) -> Status
     ensures words { result ≢ Status.BadWords }
     ensures read { result ≢ Status.ReadFault }
     ensures ok { result ≢ Status.Ok }
     ensures written { IfWriteFault result (λ written. ⊥) }
+    ensures log { IfBadLog result (λ line. ⊥) }
+    ensures legal { IfNotLegal result (λ rule actor. ⊥) }
     ensures bad { IfBadScript result (λ line number. fault ≡ NoLog.Script (script.Bad line number)) }
     ensures over { IfOverLimit result (λ line limit. (line ≢ 0) × (fault ≡ NoLog.Script (script.OverLimit line limit))) }
 {
     match fault {
-        NoLog::Script(ScriptFault::Bad { line, fault }) => Status::BadScript { line, fault },
-        NoLog::Script(ScriptFault::OverLimit { line, limit }) => {
-            if line == 0 {
-                Status::OutOfMemory
-            } else {
-                Status::OverLimit { line, limit }
-            }
-        }
-        NoLog::Script(ScriptFault::OutOfMemory) => Status::OutOfMemory,
+        NoLog::Script(fault) => script_status(fault),
         NoLog::Memory => Status::OutOfMemory,
     }
 }

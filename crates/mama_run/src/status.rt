@@ -1,7 +1,11 @@
-ghost use Rattle.std.specs.Prelude.{◌≡◌};
+ghost use Rattle.std.specs.Prelude.{◌≡◌, ◌≢◌};
 ghost use Rattle.std.specs.Process.{exit_status};
+ghost use Rattle.mama_script.specs.declared.fault.ScriptFault.TheVariants as script;
 ghost use Rattle.mama_run.specs.Status.{exit_number};
+ghost use Rattle.mama_run.specs.Answers.{IfWriteFault, IfBadScript, IfOverLimit, IfBadLog, IfNotLegal};
 
+use mama_check::Actor;
+use mama_script::ScriptFault;
 use std::fmt;
 use std::process::ExitCode;
 
@@ -20,6 +24,12 @@ pub enum Status {
     ReadFault,
     /// A write failed, after so many bytes.
     WriteFault { written: u64 },
+    /// The script is accepted, and this is the first line behind it that does not fit. Lines are counted from the script's
+    /// first.
+    BadLog { line: u64 },
+    /// The log is not that of a legal run, as the verdict says that was written: the first rule that is broken, and the
+    /// first actor that breaks it.
+    NotLegal { rule: u8, actor: Actor },
     /// No memory was found.
     OutOfMemory,
 }
@@ -36,6 +46,8 @@ impl Status {
             Status::OverLimit { line: _, limit: _ } => ExitCode::from(4),
             Status::ReadFault => ExitCode::from(5),
             Status::WriteFault { written: _ } => ExitCode::from(6),
+            Status::BadLog { line: _ } => ExitCode::from(7),
+            Status::NotLegal { rule: _, actor: _ } => ExitCode::from(1),
             Status::OutOfMemory => ExitCode::from(8),
         }
     }
@@ -53,7 +65,33 @@ impl fmt::Display for Status {
             Status::OverLimit { line, limit } => write!(f, "over limit {limit}, line {line}"),
             Status::ReadFault => write!(f, "read fault"),
             Status::WriteFault { written: _ } => write!(f, "write fault"),
+            Status::BadLog { line } => write!(f, "bad log, line {line}"),
+            Status::NotLegal { rule: _, actor: _ } => write!(f, "not legal"),
             Status::OutOfMemory => write!(f, "out of memory"),
         }
+    }
+}
+
+/// The answer where a text is no script. Only the input as a whole has line 0.
+pub(crate) fn script_status(fault: ScriptFault) -> Status
+    ensures words { result ≢ Status.BadWords }
+    ensures read { result ≢ Status.ReadFault }
+    ensures ok { result ≢ Status.Ok }
+    ensures written { IfWriteFault result (λ written. ⊥) }
+    ensures log { IfBadLog result (λ line. ⊥) }
+    ensures legal { IfNotLegal result (λ rule actor. ⊥) }
+    ensures bad { IfBadScript result (λ line number. fault ≡ script.Bad line number) }
+    ensures over { IfOverLimit result (λ line limit. (line ≢ 0) × (fault ≡ script.OverLimit line limit)) }
+{
+    match fault {
+        ScriptFault::Bad { line, fault } => Status::BadScript { line, fault },
+        ScriptFault::OverLimit { line, limit } => {
+            if line == 0 {
+                Status::OutOfMemory
+            } else {
+                Status::OverLimit { line, limit }
+            }
+        }
+        ScriptFault::OutOfMemory => Status::OutOfMemory,
     }
 }

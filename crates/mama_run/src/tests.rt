@@ -6,20 +6,20 @@ use mama_edge::{MemoryClock, MemorySink, MemorySource};
 use std::alloc::{AllocError, Global};
 use std::test::Fail;
 
-const FIRST: &[u8] =
+pub(crate) const FIRST: &[u8] =
     b"mama script 1\nqueues 1\ntopic \"EQ.ABC\"\npublisher 0 22:bid:u32:100\nupdate 22:bid:u32:101\nupdate 25:ask:u32:103\nupdate 22:bid:u32:102\nclient\nsub 0 market 0 10 1000\n";
 
-const FIRST_LOG: &[u8] =
+pub(crate) const FIRST_LOG: &[u8] =
     b"mama log 1\nclient 0\npublisher 0\nwant s0.0 initial\nsend\nsend\nsend\ndone\nsettle\nfin\nbridge\nc0 join s0.0\np0 image s0.0 initial 1 0 22:bid:u32:100\np0 publish update 1 1 22:bid:u32:101\nc0 done\np0 publish update 1 2 25:ask:u32:103\np0 publish update 1 3 22:bid:u32:102\np0 done\np0 settled\nq0 bye\ntimers\nc0 done\nb fin\nq0 bye\nqueue 0\nb create 0 s0.0\nb data 0 s0.0 initial 1 0 22:bid:u32:100\nb data 0 s0.0 update 1 1 22:bid:u32:101\nb data 0 s0.0 update 1 2 25:ask:u32:103\nb data 0 s0.0 update 1 3 22:bid:u32:102\nb gone 0 s0.0\nb fin\nt fin\non s0.0\ncreate\nmsg initial 1 0 ok 22:bid:u32:100\nmsg update 1 1 ok 22:bid:u32:101\nmsg update 1 2 ok 25:ask:u32:103\nmsg update 1 3 ok 22:bid:u32:102\ndestroy\nimages\ns0.0 ok 1 3 22:bid:u32:102 25:ask:u32:103\nend\n";
 
-const GAP: &[u8] =
+pub(crate) const GAP: &[u8] =
     b"mama script 1\nqueues 1\ntopic \"EQ.ABC\"\npublisher 0 22:bid:u32:100\nupdate 22:bid:u32:101\nupdate 25:ask:u32:103\nupdate 22:bid:u32:102\nupdate 25:ask:u32:104\nclient\nsub 0 market 0 10 1000\nfault lose 3\n";
 
 // What docs/LOG.md explains line by line.
 const GAP_LOG: &[u8] =
     b"mama log 1\nclient 0\npublisher 0\nwant s0.0 initial\nsend\nsend\nsend\nwant s0.0 recap\nsend\ndone\nsettle\nfin\nbridge\nc0 join s0.0\np0 image s0.0 initial 1 0 22:bid:u32:100\np0 publish update 1 1 22:bid:u32:101\nc0 done\np0 publish update 1 2 25:ask:u32:103\np0 publish update 1 3 22:bid:u32:102\nq0 recap s0.0 1\np0 image s0.0 recap 1 3 22:bid:u32:102 25:ask:u32:103\np0 publish update 1 4 25:ask:u32:104\np0 done\np0 settled\nq0 bye\ntimers\nc0 done\nb fin\nq0 bye\nqueue 0\nb create 0 s0.0\nb data 0 s0.0 initial 1 0 22:bid:u32:100\nb data 0 s0.0 update 1 1 22:bid:u32:101\nb data 0 s0.0 update 1 3 22:bid:u32:102\nb data 0 s0.0 recap 1 3 22:bid:u32:102 25:ask:u32:103\nb data 0 s0.0 update 1 4 25:ask:u32:104\nb gone 0 s0.0\nb fin\nt fin\non s0.0\ncreate\nmsg initial 1 0 ok 22:bid:u32:100\nmsg update 1 1 ok 22:bid:u32:101\ngap 2 2\nquality stale 1\nrequest 1\nmsg update 1 3 stale 22:bid:u32:102\nmsg recap 1 3 ok 22:bid:u32:102 25:ask:u32:103\nquality ok 3\nmsg update 1 4 ok 25:ask:u32:104\ndestroy\nimages\ns0.0 ok 1 4 22:bid:u32:102 25:ask:u32:104\nend\n";
 
-fn words_of(alloc: Global, texts: &[&str]) -> Result<Vec<String>, AllocError> {
+pub(crate) fn words_of(alloc: Global, texts: &[&str]) -> Result<Vec<String>, AllocError> {
     let mut words = Vec::new(alloc);
     for text in texts {
         words.push(String::from_str(alloc, text)?)?;
@@ -27,7 +27,11 @@ fn words_of(alloc: Global, texts: &[&str]) -> Result<Vec<String>, AllocError> {
     Ok(words)
 }
 
-fn source_of(alloc: Global, text: &[u8], failing: &[u64]) -> Result<MemorySource, AllocError> {
+pub(crate) fn source_of(
+    alloc: Global,
+    text: &[u8],
+    failing: &[u64],
+) -> Result<MemorySource, AllocError> {
     let bytes = Vec::from_slice(alloc, text)?;
     let failing = Vec::from_slice(alloc, failing)?;
     Ok(MemorySource::new(bytes, 1000, failing))
@@ -79,7 +83,13 @@ fn tells_a_read_fault_and_bad_words(rt: HostRuntime) -> Result<(), Fail> {
     let status = run_plain(alloc, words.as_slice(), &mut source, &mut sink, &mut clock);
     assert_eq!(rt; status, Status::ReadFault);
     assert_eq!(rt; sink.written().len(), 0);
-    let tables: [&[&str]; 4] = [&[], &["play", "0"], &["serial", "x"], &["gen", "-1"]];
+    let tables: [&[&str]; 5] = [
+        &[],
+        &["play", "0"],
+        &["serial", "x"],
+        &["check", "check"],
+        &["gen", "-1"],
+    ];
     for texts in tables {
         let words = words_of(alloc, texts)?;
         let mut source = source_of(alloc, FIRST, &[])?;

@@ -1,23 +1,44 @@
-use Rattle.std.proofs.Common.{List, ℕ, ◌<◌, ◌≤◌, length, take, subst}
+use Rattle.std.proofs.Common.{List, ℕ, ◌≤◌, map, string_bytes, sym, ap, subst, ◌∙◌}
+use Rattle.std.specs.Global.{Global}
+use Rattle.mama_run.specs.declared.command.Command.{Command}
+use Rattle.mama_run.specs.Parts.{script_part, log_part}
 use Rattle.mama_edge.specs.Told.{Appended}
-use Rattle.mama_run.specs.Answers.{IsLogOf}
+use Rattle.mama_check.specs.declared.verdict.Verdict.TheVariants.{NotLegal}
+use Rattle.mama_run.specs.Verdict.{IsChecked, IsVerdictOf, IsBadLog}
+use Rattle.mama_run.specs.Answers.{IfBadLog, IfNotLegal}
+use Rattle.mama_run.proofs.CommandLemmas.{some_command, check_is}
+use Rattle.mama_run.proofs.AnswerLemmas.{IfBadLog-weaker, IfNotLegal-weaker, gave_is}
 use Rattle.mama_run.proofs.run.run_plain.Goals as goal
 
-pub returns-in-Ok-write_all_counted-clause-ok : goal.returns-in-Ok-write_all_counted-clause-ok
-returns-in-Ok-write_all_counted-clause-ok g c = λ _. (
-  c.in-Ok.text.items,
-  c.in-Ok-log_of.log.items,
-  record { whole = c.in-Ok.ensures.whole; within = subst (λ (count : ℕ). count ≤ 67108864) c.in-Ok.text.ok.0 c.in-Ok.ensures.within },
-  subst (λ (text : List ℕ). IsLogOf (g.C.Clock.left c.args.clock.now) (g.C.Clock.left c.log_of.new.clock) text c.in-Ok-log_of.log.items) c.as_slice.ensures.value c.in-Ok-log_of.ensures.log,
-  subst (λ (log : List ℕ). Appended (g.K.Sink.written c.args.sink.now) (g.K.Sink.written c.write_all_counted.new.sink) log) c.as_slice-2.ensures.value c.in-Ok-write_all_counted.ensures.whole,
-)
+pub returns-clause-bad_log : goal.returns-clause-bad_log
+returns-clause-bad_log g c =
+    let chosen = ap (λ (command : Command). some_command command) (sym c.in-Check.is) ∙ c.in-Some.ensures in
+    IfBadLog-weaker c.write_verdict.result (λ line. IsBadLog (script_part c.in-Ok.text.items) (log_part c.in-Ok.text.items) line) _
+    (λ line bad. (
+      check_is (map (string_bytes {Z = Global}) c.args.words.now) chosen,
+      c.in-Ok.text.items,
+      record { whole = c.in-Ok.ensures.whole; within = subst (λ (count : ℕ). count ≤ 67108864) c.in-Ok.text.ok.0 c.in-Ok.ensures.within },
+      bad,
+    ))
+    (subst (λ (text : List ℕ). IfBadLog c.write_verdict.result (λ line. IsBadLog (script_part text) (log_part text) line)) c.as_slice-in-Check.ensures.value c.write_verdict.ensures.bad_log)
 
-pub returns-clause-part : goal.returns-clause-part
-returns-clause-part g c = (
-  c.in-Ok.text.items,
-  c.in-Ok-log_of.log.items,
-  record { whole = c.in-Ok.ensures.whole; within = subst (λ (count : ℕ). count ≤ 67108864) c.in-Ok.text.ok.0 c.in-Ok.ensures.within },
-  subst (λ (text : List ℕ). IsLogOf (g.C.Clock.left c.args.clock.now) (g.C.Clock.left c.log_of.new.clock) text c.in-Ok-log_of.log.items) c.as_slice.ensures.value c.in-Ok-log_of.ensures.log,
-  subst (λ (log : List ℕ). c.in-Err-write_all_counted.fault.written < length log) c.as_slice-2.ensures.value c.in-Err-write_all_counted.ensures.less,
-  subst (λ (log : List ℕ). Appended (g.K.Sink.written c.args.sink.now) (g.K.Sink.written c.write_all_counted.new.sink) (take c.in-Err-write_all_counted.fault.written log)) c.as_slice-2.ensures.value c.in-Err-write_all_counted.ensures.part,
-)
+pub returns-clause-fitting : goal.returns-clause-fitting
+returns-clause-fitting g c = λ text left checked.
+    c.write_verdict.ensures.fitting (subst (λ (given : List ℕ). IsChecked given) (sym (c.as_slice-in-Check.ensures.value ∙ gave_is _ _ _ text c.in-Ok.ensures.whole left)) checked)
+
+pub returns-clause-not_legal : goal.returns-clause-not_legal
+returns-clause-not_legal g c =
+    let chosen = ap (λ (command : Command). some_command command) (sym c.in-Check.is) ∙ c.in-Some.ensures in
+    let old = g.K.Sink.written c.args.sink.now in
+    let new = g.K.Sink.written c.write_verdict.new.sink in
+    IfNotLegal-weaker c.write_verdict.result (λ rule actor. (out : List ℕ) × IsVerdictOf c.in-Ok.text.items (NotLegal rule actor) out × Appended old new out) _
+    (λ rule actor told. (
+      check_is (map (string_bytes {Z = Global}) c.args.words.now) chosen,
+      c.in-Ok.text.items,
+      told.0,
+      record { whole = c.in-Ok.ensures.whole; within = subst (λ (count : ℕ). count ≤ 67108864) c.in-Ok.text.ok.0 c.in-Ok.ensures.within },
+      told.1,
+      told.2,
+    ))
+    (subst (λ (text : List ℕ). IfNotLegal c.write_verdict.result (λ rule actor. (out : List ℕ) × IsVerdictOf text (NotLegal rule actor) out × Appended old new out))
+    c.as_slice-in-Check.ensures.value c.write_verdict.ensures.not_legal)
