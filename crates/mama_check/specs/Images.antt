@@ -1,5 +1,5 @@
 -- The last images that a record has, object by object.
-use Rattle.std.specs.Prelude.{◌≡◌, ℕ, Bool, false, List, [], ◌∷◌, filter, Some, slice_get, if◌then◌else◌}
+use Rattle.std.specs.Prelude.{◌≡◌, ℕ, List, [], ◌∷◌, filter, Some, slice_get, if◌then◌else◌}
 use Rattle.mama_event.specs.declared.ids.SubId.{SubId}
 use Rattle.mama_event.specs.declared.ids.ObjectId.{ObjectId}
 use Rattle.mama_event.specs.declared.ids.ObjectId.TheVariants.{Sub, Timer, Inbox}
@@ -23,11 +23,6 @@ own_first s (i ∷ images) = if same_sub i.sub s then i ∷ [] else []
 abbrev pub own_rest : SubId → List LastImage → List LastImage
 own_rest s [] = []
 own_rest s (i ∷ images) = if same_sub i.sub s then images else i ∷ images
-
--- a subscription has the first of some images
-abbrev pub is_own_first : SubId → List LastImage → Bool
-is_own_first s [] = false
-is_own_first s (i ∷ images) = same_sub i.sub s
 
 -- the same of an object; only a subscription has an image
 abbrev pub first_for : ObjectId → List LastImage → List LastImage

@@ -7,7 +7,7 @@ ghost use Rattle.mama_queue_seat.specs.Image.{found_image};
 ghost use Rattle.mama_queue_check.specs.Recorded.{AreOf, journals_of, image_by, images_by};
 ghost use Rattle.mama_form.specs.Form.{IsFormed};
 ghost use Rattle.mama_check.specs.First.{IsFirst};
-ghost use Rattle.mama_check.specs.Images.{KeepsImage, own_first, own_rest, is_own_first, first_for, rest_for};
+ghost use Rattle.mama_check.specs.Images.{KeepsImage, own_first, own_rest, first_for, rest_for};
 ghost use Rattle.mama_check.specs.Puts.{AreServed};
 
 use mama_edges::{is_same_head, is_same_message};

@@ -2,7 +2,9 @@
 //!
 //! `specs/Rules.antt` says each rule, for one actor, and `specs/First.antt` what the first actor is that does not keep it.
 //! A function for each rule finds that actor, and [`kept_rules_are_legal`] says that a record is legal exactly where all
-//! keep all of them (`specs/Kept.antt`).
+//! keep all of them (`specs/Kept.antt`). [`check`] gives the verdict on a whole record: legal, or the first rule that is
+//! broken and its first actor. [`is_causal`] says whether its entries could all be taken one after another, each after
+//! what it needs.
 #![tactic(auto)]
 
 mod all;
