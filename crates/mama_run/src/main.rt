@@ -8,6 +8,8 @@ mod check_tests;
 mod command;
 #[cfg(test)]
 mod damaged;
+#[cfg(test)]
+mod morning;
 mod parts;
 mod run;
 mod status;
