@@ -246,7 +246,7 @@ fn add_queues(
 /// Whether one order of all entries and client lines keeps each actor's own order and has each event taken after it was
 /// put. All edges are whole.
 ///
-/// It takes time and memory by the length of the record.
+/// It takes time and memory by the length of the script and of the record. The error is want of memory.
 pub fn is_causal(
     alloc: Global,
     script: &Script,

@@ -25,7 +25,8 @@ fn not_legal(broken: (u8, Actor)) -> Verdict
 /// broken first, and which actor breaks it first. The record has the form of the script's records, as one that was read
 /// from a log has.
 ///
-/// It takes time by the length of the record, but for logarithms, and memory in the same way.
+/// It takes time by the length of the script and of the record, but for logarithms, and for what a bridge costs for the
+/// same entries: a publish, an image, a wish and a Leave cost the links of their topic. The error is want of memory.
 pub fn check(alloc: Global, script: &Script, run: &RunRecord) -> Result<Verdict, OutOfMemory>
     requires { IsFormed script.now run.now }
     ensures exact { IfOk result (Judges script.now run.now) }

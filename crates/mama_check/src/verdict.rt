@@ -7,7 +7,9 @@ pub enum Actor {
     Client(u32),
     /// The publisher of this number.
     Publisher(u32),
+    /// The bridge.
     Bridge,
+    /// The timer service.
     Timers,
     /// The queue of this number.
     Queue(u32),
@@ -21,6 +23,7 @@ pub enum Verdict {
     /// The record is a legal run of its script. It is causal, if one order of all its entries has every take after what put
     /// it.
     Legal { causal: bool },
-    /// The first rule that is broken, from 1 to 9, and for it the first actor.
+    /// The first rule that is broken, from 1 to 8 as docs/LOG.md numbers them, and for it the first actor. The rules 4 and
+    /// 9 follow from the others, so neither is ever the first.
     NotLegal { rule: u8, actor: Actor },
 }

@@ -90,7 +90,8 @@ impl Client {
     }
 
     /// Makes a timer. It ticks when its service hears of a moment that is `interval` milliseconds or more, at least 1,
-    /// after its making, and then after its last tick: once, however many intervals went by.
+    /// after what the service's clock told when it took this event, and then after what it told at the last tick: once,
+    /// however many intervals went by.
     pub fn arm<L>(
         &mut self,
         queue: u32,

@@ -8,7 +8,8 @@
 //! The promises hold for every list of messages, whatever links lose, repeat and reorder. [`image_law`]: an image
 //! that is ok is its sender's record (`ImageLaw` of `specs/Image.antt`). [`gap_law`] and [`stale_law`]: no gap that
 //! is told is false, and an image is called stale for a reason (`specs/Gap.antt`). [`orderly_law`]: over a link
-//! without faults each update is told once and nothing else is (`specs/Orderly.antt`).
+//! without faults, from one sender, each message from the first image on is told once, and nothing else is
+//! (`specs/Orderly.antt`).
 #![tactic(auto)]
 
 mod cache;

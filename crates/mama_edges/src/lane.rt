@@ -8,7 +8,8 @@ use mama_order::Need;
 use std::alloc::Global;
 
 /// What each entry of the bridge's journal needs, if on every edge what it took is all that was put: lists has what each
-/// port put, each event with the number of the entry that put it, and actors names the actor behind each port.
+/// port put, each event with the number of the entry that put it, and actors names the actor behind each port. The answer
+/// is `None` where what was taken is not all that was put; the error is want of memory. So it is of the next two.
 pub fn needs_of_bridge(
     alloc: Global,
     actors: &[usize],

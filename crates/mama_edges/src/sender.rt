@@ -28,7 +28,8 @@ fn step<'a>(
 }
 
 /// What each entry of a publisher's journal needs, if what it took is all that was put to it by this actor, each event
-/// with the number of the entry that put it.
+/// with the number of the entry that put it. An entry that takes no event needs none. The answer is `None` where what was
+/// taken is not all that was put; the error is want of memory.
 pub fn needs_of_sender(
     alloc: Global,
     actor: usize,

@@ -12,13 +12,13 @@ pub enum Callback {
     Create,
     /// A message as it came, with the quality of the image after it. A basic subscription has no image, and hears `Ok`.
     Msg { msg: MarketMsg, quality: Quality },
-    /// The updates numbered `first` to `to`, both included, never came, or were dropped from a full cache before the
-    /// image could take them.
+    /// No update numbered `first` to `to`, both included, was taken since the subscription turned to this sender, or those
+    /// that were taken were dropped from a full cache before the image could take them. A link may still bring some later.
     Gap { first: u32, to: u32 },
     /// The image's quality changed. The number is that of the last update which the image had when it changed: of the
     /// former sender, where another sender's update made it stale.
     Quality { quality: Quality, number: u32 },
-    /// A recap was asked of this sender.
+    /// A recap is wished for from this sender. Whether the bridge asks for it, its own rules say.
     RecapRequest { sender: u32 },
     /// An error, by its code.
     Error { code: u8 },

@@ -42,13 +42,13 @@ pub trait Listener: Tagged {
         requires { orders.old ≡ [] }
         ensures { Heard (on.Quality quality number) (told Self.tagged calls heard plan self.old) (told Self.tagged calls heard plan self.new) orders.new };
 
-    /// The updates numbered `first` to `to`, both included, never came, or were dropped from a full cache before the
-    /// image could take them.
+    /// No update numbered `first` to `to`, both included, was taken since the subscription turned to this sender, or those
+    /// that were taken were dropped from a full cache before the image could take them. A link may still bring some later.
     fn on_gap(&mut self, first: u32, to: u32, orders: &mut Orders)
         requires { orders.old ≡ [] }
         ensures { Heard (on.Gap first to) (told Self.tagged calls heard plan self.old) (told Self.tagged calls heard plan self.new) orders.new };
 
-    /// A recap was asked of this sender.
+    /// A recap is wished for from this sender. Whether the bridge asks for it, its own rules say.
     fn on_recap_request(&mut self, sender: u32, orders: &mut Orders)
         requires { orders.old ≡ [] }
         ensures { Heard (on.RecapRequest sender) (told Self.tagged calls heard plan self.old) (told Self.tagged calls heard plan self.new) orders.new };

@@ -51,6 +51,7 @@ impl Model for Built {
 }
 
 impl Built {
+    /// A record of which nothing was read yet.
     pub fn new(alloc: Global) -> Built
         ensures { result ≡ nothing }
     {
@@ -65,6 +66,7 @@ impl Built {
         }
     }
 
+    /// The record, where all was read.
     pub fn finish(self) -> RunRecord
         ensures { result ≡ self }
     {

@@ -83,6 +83,7 @@ fn next_call<'a>(
     }
 }
 
+/// Reads the callbacks of an object, as many lines as are some, and says what follows them.
 pub fn read_calls<'a>(
     alloc: Global,
     names: &Names,

@@ -27,6 +27,7 @@ fn next_moment<'a>(alloc: Global, text: &'a [u8]) -> Result<Option<(u64, &'a [u8
     }
 }
 
+/// Reads the moments of a client, as many lines as are some, and says what follows them.
 pub fn read_moments<'a>(alloc: Global, text: &'a [u8]) -> Result<(Vec<u64>, &'a [u8]), OutOfMemory>
     ensures { IfOk result (λ read. reading.AreTaken IsMoment part.clock_body text.now read.0.items read.1.now) }
 {
@@ -55,6 +56,7 @@ fn next_publisher_entry<'a>(
     }
 }
 
+/// Reads the entries of a publisher's journal, as many lines as are some, and says what follows them.
 pub fn read_publisher_entries<'a>(
     alloc: Global,
     names: &Names,
@@ -92,6 +94,7 @@ fn next_bridge_entry<'a>(
     }
 }
 
+/// Reads the entries of the bridge's journal, as many lines as are some, and says what follows them.
 pub fn read_bridge_entries<'a>(
     alloc: Global,
     names: &Names,
@@ -124,6 +127,7 @@ fn next_timers_entry<'a>(
     }
 }
 
+/// Reads the entries of the timer service's journal, as many lines as are some, and says what follows them.
 pub fn read_timers_entries<'a>(
     alloc: Global,
     names: &Names,
@@ -156,6 +160,7 @@ fn next_queue_entry<'a>(
     }
 }
 
+/// Reads the entries of a queue's journal, as many lines as are some, and says what follows them.
 pub fn read_queue_entries<'a>(
     alloc: Global,
     names: &Names,

@@ -56,6 +56,7 @@ fn next_image<'a, 'b>(
     }
 }
 
+/// Reads the last images of some objects, in their order and each at most once, and says what follows them.
 pub fn read_images<'a>(
     alloc: Global,
     names: &Names,

@@ -14,7 +14,7 @@ use mama_memory::OutOfMemory;
 use std::alloc::Global;
 
 /// What a bridge put to each publisher, to each queue and to the timer service, each event with the number of the entry
-/// that put it.
+/// that put it, counted from 0.
 #[derive(Debug, Drop)]
 pub struct BridgePuts {
     pub to_publishers: Vec<Vec<(usize, PublisherNote)>>,

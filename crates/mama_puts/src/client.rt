@@ -20,8 +20,8 @@ pub struct ClientPuts {
 }
 
 /// What the client of a number put by its lines, where there are so many queues and its clock told these moments. Lines
-/// are counted from 0; a pause is one that puts nothing, and the one after the last puts that the client is done. The error is want of memory, a number that cannot grow further, or
-/// the next of no queues, which no accepted script asks for.
+/// are counted from 0; a pause is one that puts nothing, and the one after the last puts that the client is done. The error
+/// is want of memory, a number that cannot grow further, or the next of no queues, which no accepted script asks for.
 pub fn puts_of_client(
     alloc: Global,
     number: u32,

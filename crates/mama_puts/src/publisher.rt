@@ -22,8 +22,8 @@ use mama_script::PublisherLine;
 use std::alloc::Global;
 
 /// What the publisher of a number, with this base and these lines, put by its journal, each event with the number of the
-/// entry that put it. The error is want of memory, or a number, a base or a record past its limit, which no accepted
-/// script reaches.
+/// entry that put it, counted from 0. The error is want of memory, or a number, a base or a record past its limit, which
+/// no accepted script reaches.
 pub fn puts_of_publisher(
     alloc: Global,
     number: u32,

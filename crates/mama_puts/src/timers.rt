@@ -15,7 +15,7 @@ use mama_timer::{TimerOut, Timers};
 use std::alloc::Global;
 
 /// What the timer service of a shape put to each queue by its journal, each event with the number of the entry that put
-/// it. The error is want of memory, or a number that cannot grow further.
+/// it, counted from 0. The error is want of memory, or a number that cannot grow further.
 pub fn puts_of_timers(
     alloc: Global,
     shape: &Shape,

@@ -56,7 +56,7 @@ impl<'a> ServedQueue<'a> {
         self.objects.copied_calls(object)
     }
 
-    /// The last image of a subscription.
+    /// The last image of a subscription, or `None` where it has none, as a basic one.
     pub fn image(&self, sub: SubId) -> Result<Option<(ImageHead, Msg)>, OutOfMemory>
         ensures { IfOk result (λ found. found_image sub found ≡ last_image_of self.now sub) }
     {
