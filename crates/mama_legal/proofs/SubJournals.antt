@@ -150,7 +150,7 @@ pub record CameAndWent (script : ScriptData) (run : RunData) (s : SubId) (terms 
   pub was : WasLive script.shape s (heard script.shape run.bridge)
   pub dead : is_live script.shape s (heard script.shape run.bridge) ≡ false
 
-came_by_lines : (script : ScriptData) (run : RunData) → IsOrderly script → AreEdges script run → AreLines script run → (s : SubId) (terms : SubTerms) → s.client < clients_of script.shape
+pub came_by_lines : (script : ScriptData) (run : RunData) → IsOrderly script → AreEdges script run → AreLines script run → (s : SubId) (terms : SubTerms) → s.client < clients_of script.shape
     → terms_of script run s ≡ Some terms → CameAndWent script run s terms
 came_by_lines script run orderly edges lines s terms small says =
     let shape : Shape = script.shape in

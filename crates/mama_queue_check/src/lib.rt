@@ -4,8 +4,8 @@
 //! listeners give the orders of their plans, by the rules of queues as they stand for every list (`deeds` and
 //! `queue_puts_at` of the rules' crate), and shares no code with the queues that run but the strategy's step and the
 //! plans. A [`ServedQueue`] tells what was put, each event with the number of the entry that put it, and the callbacks and
-//! the last image of each object: what it keeps of an object is `seen_of` of `specs/Seen.antt`. [`serve_all`] does it for all queues, and [`have_calls`] and
-//! [`have_images`] compare all of these with what was recorded.
+//! the last image of each object: what it keeps of an object is `seen_of` of `specs/Seen.antt`. [`serve_all`] does it for
+//! all queues, and [`have_calls`] and [`have_images`] compare all of these with what was recorded.
 #![tactic(auto)]
 
 mod calls;
