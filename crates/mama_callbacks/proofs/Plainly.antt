@@ -7,17 +7,17 @@ use Rattle.mama_event.specs.declared.market.MarketMsg.{MarketMsg}
 use Rattle.mama_event.specs.declared.market.SubKind.{SubKind}
 use Rattle.mama_dq.proofs.OrderlyLaw.{orderly_law}
 use Rattle.mama_rules.specs.Bridge.{heard, window}
-use Rattle.mama_legal.proofs.Whole.{whole_edges, shaped}
+use Rattle.mama_legal.proofs.LegalRounds.{rounds_are_legal}
 use Rattle.mama_genuine.proofs.Ordered.{windows_are_in_order}
 use Rattle.mama_genuine.proofs.CalmLinks.{plain}
 use Rattle.mama_callbacks.specs.Told.{strategy}
-use Rattle.mama_callbacks.specs.Plain.{RoundsTellPlainly}
+use Rattle.mama_callbacks.specs.Plain.{LegalRecordsTellPlainly, RoundsTellPlainly}
 
-pub rounds_tell_plainly : RoundsTellPlainly
-rounds_tell_plainly script run orderly is s link market =
+pub legal_records_tell_plainly : LegalRecordsTellPlainly
+legal_records_tell_plainly script run orderly is s link market =
     let sent : List MarketMsg = window script.shape s (heard script.shape run.bridge) in
     let it = plain script run orderly is s link in
-    let ordered = windows_are_in_order script run (shaped script run is) (whole_edges script run is) s link.terms it.place it.came.joined it.publisher it.fed in
+    let ordered = windows_are_in_order script run is.shaped is.edges s link.terms it.place it.came.joined it.publisher it.fed in
     record {
       joined = it.said;
       whole = ap (λ (rows : List FaultRow). strategy link.terms.kind link.terms.cache (through rows sent)) link.faultless
@@ -25,3 +25,6 @@ rounds_tell_plainly script run orderly is s link market =
           ∙ ap (λ (kind : SubKind). strategy kind link.terms.cache sent) market
           ∙ (orderly_law link.terms.cache (it.place + 1) ordered.0 sent ordered.1).calls;
     }
+
+pub rounds_tell_plainly : RoundsTellPlainly
+rounds_tell_plainly script run orderly is = legal_records_tell_plainly script run orderly (rounds_are_legal script run orderly is)

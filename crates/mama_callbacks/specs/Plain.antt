@@ -9,6 +9,7 @@ use Rattle.mama_record.specs.RunData.{RunData}
 use Rattle.mama_script.specs.Script.{ScriptData}
 use Rattle.mama_rounds.specs.Round.{IsRound}
 use Rattle.mama_legal.specs.Streams.{terms_of}
+use Rattle.mama_legal.specs.Legal.{IsLegal}
 use Rattle.mama_legal.specs.Laws.{IsOrderly}
 use Rattle.mama_genuine.specs.CalmLinks.{HasPlainLink}
 use Rattle.mama_callbacks.specs.Told.{strategy}
@@ -24,6 +25,10 @@ pub record IsToldPlainly (script : ScriptData) (run : RunData) (s : SubId) (link
 abbrev pub ArePlainlyTold : ScriptData → RunData → Type 0
 ArePlainlyTold script run = (s : SubId) (link : HasPlainLink script s) → link.terms.kind ≡ Market → IsToldPlainly script run s link
 
--- so it is in the record of a run in rounds
+-- so it is in every legal record, whichever thread ran what when
+abbrev pub LegalRecordsTellPlainly : Type 0
+LegalRecordsTellPlainly = (script : ScriptData) (run : RunData) → IsOrderly script → IsLegal script run → ArePlainlyTold script run
+
+-- and in the record of a run in rounds
 abbrev pub RoundsTellPlainly : Type 0
 RoundsTellPlainly = (script : ScriptData) (run : RunData) → IsOrderly script → IsRound script run → ArePlainlyTold script run

@@ -1,4 +1,4 @@
-ghost use Rattle.mama_callbacks.specs.Plain.{RoundsTellPlainly};
+ghost use Rattle.mama_callbacks.specs.Plain.{LegalRecordsTellPlainly, RoundsTellPlainly};
 ghost use Rattle.mama_callbacks.specs.Told.{LegalRecordsTellAll, RoundsTellAll};
 ghost use Rattle.mama_callbacks.specs.Word.{LastWordsAreTrue};
 
@@ -16,9 +16,14 @@ pub fn rounds_tell_all()
     ensures { RoundsTellAll }
 {}
 
-/// A law: in the record of a run in rounds a market subscription whose line has no fault rows, on a topic that exactly
-/// one publisher has, is told just the messages that were sent to it from the first image on, each once and as ok, as far
-/// as it was not muted.
+/// A law: in a legal record of a script a market subscription whose line has no fault rows, on a topic that exactly one
+/// publisher has, is told just the messages that were sent to it from the first image on, each once and as ok, as far as
+/// it was not muted.
+pub fn legal_records_tell_plainly()
+    ensures { LegalRecordsTellPlainly }
+{}
+
+/// A law: so it is in the record of a run in rounds.
 pub fn rounds_tell_plainly()
     ensures { RoundsTellPlainly }
 {}

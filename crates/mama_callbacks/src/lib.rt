@@ -6,10 +6,13 @@
 //! so up to the order that muted it; nothing follows the notice; and while it is not muted it is told at once
 //! (`specs/Told.antt`). So it is in every legal record, whichever thread ran what when ([`legal_records_tell_all`]), and in
 //! the record of a run in rounds ([`rounds_tell_all`]). Over a plain link that is each message from the first image on, as
-//! ok ([`rounds_tell_plainly`], `specs/Plain.antt`). And the last word on quality is true of the image
+//! ok ([`legal_records_tell_plainly`], `specs/Plain.antt`). And the last word on quality is true of the image
 //! ([`last_words_are_true`], `specs/Word.antt`).
 #![tactic(auto)]
 
 mod laws;
 
-pub use laws::{last_words_are_true, legal_records_tell_all, rounds_tell_all, rounds_tell_plainly};
+pub use laws::{
+    last_words_are_true, legal_records_tell_all, legal_records_tell_plainly, rounds_tell_all,
+    rounds_tell_plainly,
+};

@@ -22,6 +22,9 @@ use Rattle.mama_queue_rules.specs.Queue.{make_in, context_of, messages_of, deeds
 use Rattle.mama_rounds.specs.World.{Setting, orders_by}
 use Rattle.mama_rounds.specs.Round.{setting_of, last_image, image_in}
 use Rattle.mama_callbacks.specs.Told.{LegalRecordsTellAll}
+use Rattle.mama_callbacks.specs.Plain.{LegalRecordsTellPlainly}
+use Rattle.mama_genuine.specs.CalmLinks.{LegalLinksAreCalm}
+use Rattle.mama_genuine.specs.GivenAll.{LegalUpdatesAreGiven}
 use Rattle.mama_genuine.specs.Sent.{DeliveredMessagesAreSent, GivenMessagesAreSent}
 use Rattle.mama_genuine.specs.Records.{OkImagesAreRecords}
 use Rattle.mama_genuine.specs.Gaps.{ToldGapsAreTrue}
@@ -126,11 +129,15 @@ not_kept script run rule of (images k p read done whole told first there) kept =
 pub not_legal : (script : ScriptData) (run : RunData) (rule : ℕ) (of : Actor) → KeptIsLegal → IsOrderly script → IsFormed script run → IsBroken script run rule of → IsLegal script run → ⊥
 not_legal script run rule of law orderly formed broken legal = not_kept script run rule of broken ((law script run orderly formed.counted).1 legal)
 
-pub legal_is_true : LegalRecordsTellAll → DeliveredMessagesAreSent → GivenMessagesAreSent → OkImagesAreRecords → ToldGapsAreTrue → LegalIsTrue
-legal_is_true told sent given records gaps script run orderly legal = record {
+pub legal_is_true : LegalRecordsTellAll → DeliveredMessagesAreSent → GivenMessagesAreSent → OkImagesAreRecords → ToldGapsAreTrue
+    → LegalRecordsTellPlainly → LegalLinksAreCalm → LegalUpdatesAreGiven → LegalIsTrue
+legal_is_true told sent given records gaps plainly calm updates script run orderly legal = record {
   told = told script run orderly legal;
   sent = sent script run legal.shaped legal.edges;
   given = given script run legal.shaped legal.edges legal.calls;
   images = records script run legal.shaped legal.edges legal.calls;
   gaps = gaps script run legal.calls;
+  plainly = plainly script run orderly legal;
+  calm = calm script run orderly legal;
+  updates = updates script run orderly legal;
 }

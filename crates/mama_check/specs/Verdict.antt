@@ -11,9 +11,12 @@ use Rattle.mama_rounds.specs.Round.{setting_of, publishers_from}
 use Rattle.mama_legal.specs.Laws.{IsOrderly}
 use Rattle.mama_legal.specs.Legal.{IsLegal}
 use Rattle.mama_callbacks.specs.Told.{AreTold}
+use Rattle.mama_callbacks.specs.Plain.{ArePlainlyTold}
 use Rattle.mama_genuine.specs.Sent.{AreSent, AreGivenSent}
 use Rattle.mama_genuine.specs.Records.{AreRecords}
 use Rattle.mama_genuine.specs.Gaps.{HasTrueGaps}
+use Rattle.mama_genuine.specs.CalmLinks.{AreLinksCalm}
+use Rattle.mama_genuine.specs.GivenAll.{AreAllGiven}
 use Rattle.mama_check.specs.First.{IsFirst}
 use Rattle.mama_check.specs.Rules.{KeepsMoments, KeepsLines, KeepsPublisherEdge, KeepsBridgeEdges, KeepsTimersEdges, KeepsQueueEdges, KeepsCalls}
 use Rattle.mama_check.specs.Images.{KeepsImage}
@@ -101,13 +104,19 @@ Judges script run (verdict.NotLegal rule actor) = (IsLegal script run → ⊥) �
 
 -- What a legal record promises: each object is told what is meant for it; each message that was delivered, or given to a
 -- listener, is its sender's own; each image that is ok is its sender's record at its number; and each gap that was told
--- is true.
+-- is true. Where the line of a subscription has no fault rows, and exactly one publisher has its topic, it is told no gap
+-- and no change of quality; and if it is a market subscription, it is told just the messages from its first image on, each
+-- once and as ok, and so each update that the bridge took while it was joined with a number above that image's, unless it
+-- was muted.
 pub record IsTrue (script : ScriptData) (run : RunData) : Type 0 where
   pub told : AreTold script run
   pub sent : AreSent (publishers_from 0 script.publishers) run.queues
   pub given : AreGivenSent (publishers_from 0 script.publishers) run.calls
   pub images : AreRecords (publishers_from 0 script.publishers) run.images
   pub gaps : AllZip (HasTrueGaps (setting_of script) run.queues) (setting_of script).objects run.calls
+  pub plainly : ArePlainlyTold script run
+  pub calm : AreLinksCalm script run
+  pub updates : AreAllGiven script run
 
 -- A law: a legal record of a script is true.
 abbrev pub LegalIsTrue : Type 0

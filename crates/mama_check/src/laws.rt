@@ -1,9 +1,10 @@
 ghost use Rattle.mama_check.specs.Kept.{KeptIsLegal};
 ghost use Rattle.mama_check.specs.Verdict.{LegalIsTrue};
 
-use mama_callbacks::legal_records_tell_all;
+use mama_callbacks::{legal_records_tell_all, legal_records_tell_plainly};
 use mama_genuine::{
-    delivered_messages_are_sent, given_messages_are_sent, ok_images_are_records, told_gaps_are_true,
+    delivered_messages_are_sent, given_messages_are_sent, links_of_legal_records_are_calm,
+    ok_images_are_records, told_gaps_are_true, updates_of_legal_records_are_given,
 };
 
 /// A law: a record with a list of moments for each client, a journal for each publisher and queue, and callbacks for the
@@ -21,4 +22,7 @@ pub fn legal_records_are_true()
     given_messages_are_sent();
     ok_images_are_records();
     told_gaps_are_true();
+    legal_records_tell_plainly();
+    links_of_legal_records_are_calm();
+    updates_of_legal_records_are_given();
 }

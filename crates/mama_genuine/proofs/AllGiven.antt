@@ -1,4 +1,4 @@
--- In a run in rounds a market subscription with a plain link, on a topic with one publisher, is given all updates.
+-- In a legal record a market subscription with a plain link, on a topic with one publisher, is given all updates.
 use Rattle.std.specs.Prelude.{slice_index_or, if◌then◌else◌}
 use Rattle.std.specs.List.{AllByRecursion, AllZip, flat_map}
 use Rattle.std.proofs.Common.{◌≡◌, ℕ, ◌+◌, Bool, true, false, List, [], ◌∷◌, ◌++◌, map, refl, sym, ◌∙◌, ap, subst}
@@ -27,15 +27,14 @@ use Rattle.mama_script.specs.Script.{ScriptData}
 use Rattle.mama_record.specs.RunData.{RunData}
 use Rattle.mama_rounds.specs.Client.{Planned}
 use Rattle.mama_rounds.specs.World.{orders_by}
-use Rattle.mama_rounds.specs.Round.{IsRound, setting_of, object_calls, noted}
+use Rattle.mama_rounds.specs.Round.{setting_of, object_calls, noted}
 use Rattle.mama_legal.specs.Laws.{IsOrderly}
 use Rattle.mama_legal.specs.Streams.{is_of, events_of, IsSubJournal}
 use Rattle.mama_legal.proofs.Lives.{same_sub-itself}
-use Rattle.mama_legal.proofs.SubJournals.{sub_journals}
-use Rattle.mama_legal.proofs.Whole.{calls_told, whole_edges}
-use Rattle.mama_legal.proofs.Whole as legal
+use Rattle.mama_legal.specs.Legal.{IsLegal}
+use Rattle.mama_legal.proofs.LegalRounds.{rounds_are_legal}
 use Rattle.mama_genuine.specs.CalmLinks.{HasPlainLink, joined_terms}
-use Rattle.mama_genuine.specs.GivenAll.{given_in, given, updates_among, IsGivenAll, was_muted, AreGivenFor, HasAllGiven, RoundUpdatesAreGiven}
+use Rattle.mama_genuine.specs.GivenAll.{given_in, given, updates_among, IsGivenAll, was_muted, AreGivenFor, HasAllGiven, LegalUpdatesAreGiven, RoundUpdatesAreGiven}
 use Rattle.mama_genuine.proofs.Calm.{not_of}
 use Rattle.mama_genuine.proofs.CalmLinks.{IsPlain, plain, calls_on}
 use Rattle.mama_genuine.proofs.Elements.{all_each}
@@ -87,7 +86,7 @@ given_noted (c ∷ calls) = ap (λ (ms : List MarketMsg). given_in c.0 ++ ms) (g
 
 -- ---- the run
 
-module _ (script : ScriptData) (run : RunData) (orderly : IsOrderly script) (is : IsRound script run) where
+module _ (script : ScriptData) (run : RunData) (orderly : IsOrderly script) (is : IsLegal script run) where
   abbrev taken : SubId → List MarketMsg
   taken s = window script.shape s (heard script.shape run.bridge)
 
@@ -107,8 +106,8 @@ module _ (script : ScriptData) (run : RunData) (orderly : IsOrderly script) (is 
     given_sub : IsGivenAll (taken s) (was_muted (setting_of script) run.queues (Sub s) terms.queue) (calls_on script run orderly is (Sub s) terms.queue)
     given_sub =
         let it : IsPlain script run orderly is s terms = plain script run orderly is s link in
-        let on : IsSubJournal s terms (taken s) journal = (sub_journals script run orderly is).each s terms it.client it.said in
-        let ordered = windows_are_in_order script run (legal.shaped script run is) (whole_edges script run is) s terms it.place it.came.joined it.publisher it.fed in
+        let on : IsSubJournal s terms (taken s) journal = is.subs.each s terms it.client it.said in
+        let ordered = windows_are_in_order script run is.shaped is.edges s terms it.place it.came.joined it.publisher it.fed in
         let all : Part orders s [] done journal = part orders s [] [] journal in
         let passed : List MarketMsg = through terms.faults (taken s) in
         let tail : List QueueNote = map (λ (m : MarketMsg). q.Deliver on.slot s m) passed ++ q.Gone on.slot (Sub s) ∷ [] in
@@ -147,8 +146,11 @@ module _ (script : ScriptData) (run : RunData) (orderly : IsOrderly script) (is 
   has_given : (p : Planned) → OnQueue p → HasAllGiven script run p (object_calls (setting_of script) run.queues p)
   has_given p on = record { object = refl; given = given_object p.object p.queue on }
 
-pub round_updates_are_given : RoundUpdatesAreGiven
-round_updates_are_given script run orderly is =
-    subst (λ told. AllZip (HasAllGiven script run) (setting_of script).objects told) (sym (calls_told script run is).calls)
+pub legal_updates_are_given : LegalUpdatesAreGiven
+legal_updates_are_given script run orderly is =
+    subst (λ told. AllZip (HasAllGiven script run) (setting_of script).objects told) (sym is.calls.calls)
     (all_zipped_with (OnQueue script run orderly is) (HasAllGiven script run) (object_calls (setting_of script) run.queues) (has_given script run orderly is) (setting_of script).objects
     (all_each SubId (λ s. Stands s (joined_terms script s)) (setting_of script).objects (λ s. on_its_queue s script)))
+
+pub round_updates_are_given : RoundUpdatesAreGiven
+round_updates_are_given script run orderly is = legal_updates_are_given script run orderly (rounds_are_legal script run orderly is)

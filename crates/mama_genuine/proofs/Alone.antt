@@ -1,7 +1,8 @@
--- A subscription on a topic that one publisher of the script has is fed by that publisher alone, in every run in rounds.
--- What the bridge took tells what it asked and passed on, and so what the publishers answered and the queues wished. So
--- the next event that it takes is of that publisher too, if all before it were.
-use Rattle.std.specs.Prelude.{slice_index, slice_index_or, slice_get, position, if◌then◌else◌, ◌⊎◌, Option, None, Some}
+-- A subscription on a topic that one publisher of the script has is fed by that publisher alone, wherever every edge is
+-- whole, whichever thread ran what when. No publisher is asked for an update, so the subscription's updates are those that
+-- the publishers of its topic send by their lines, of which there is one. Its queue wishes recaps of the senders of its
+-- updates alone. So the bridge asks no other publisher for an image of it.
+use Rattle.std.specs.Prelude.{◌-◌, slice_index, slice_index_or, slice_get, position, if◌then◌else◌, ◌⊎◌, Option, None, Some}
 use Rattle.std.specs.List.{AllByRecursion, flat_map}
 use Rattle.std.proofs.Common.{◌≡◌, ℕ, zero, suc, ◌+◌, ◌<◌, ◌==◌, Bool, true, false, List, [], ◌∷◌, ◌++◌, length, refl, sym, ◌∙◌, ap, subst, arith, inl, inr, zero-add}
 use Rattle.std.proofs.lemmas.Bool.{both_ways}
@@ -26,6 +27,7 @@ use Rattle.mama_event.specs.declared.to_queue.QueueNote.{QueueNote}
 use Rattle.mama_event.specs.declared.to_queue.QueueNote.TheVariants as q
 use Rattle.mama_event.specs.declared.publisher_entry.PublisherEntry.{PublisherEntry}
 use Rattle.mama_event.specs.declared.publisher_entry.PublisherEntry.TheVariants as entry
+use Rattle.mama_dq.specs.Table.{is_update}
 use Rattle.mama_rules.specs.Ports.{Putter, ByClient, ByPublisher, ByQueue, ByBridge, ByTimers, ByNobody, bridge_putter, queue_putter}
 use Rattle.mama_rules.specs.Bridge.{BridgeEvent, joins, opens, no_event, from_client, from_publisher, from_queue, put_by, heard, sent_to, BridgePut, to_publisher, to_queue, to_timers, bridge_puts}
 use Rattle.mama_rules.specs.Timers.{timers_puts}
@@ -35,24 +37,20 @@ use Rattle.mama_script.specs.Script.{ScriptData}
 use Rattle.mama_script.specs.Tree.{IsShaped}
 use Rattle.mama_record.specs.RunData.{RunData}
 use Rattle.mama_rounds.specs.Client.{bridge_part}
-use Rattle.mama_rounds.specs.World.{Setting, World, no_section, orders_by, publisher_part, queue_part, publisher_did, bridge_took, bridge_turn, timers_took, timers_turn, publisher_took, publisher_turn, queue_took, queue_turn}
-use Rattle.mama_rounds.specs.Stage.{Stage, client_stepped, client_step, entries_done, publisher_stepped, publisher_step, IsStageDrained}
-use Rattle.mama_rounds.specs.Round.{setting_of, start, IsRound}
-use Rattle.mama_legal.specs.Edges.{client_puts, queue_puts, put_on_bridge, put_on_queue, taken_by}
+use Rattle.mama_rounds.specs.World.{Setting, no_section, orders_by, publisher_part, queue_part}
+use Rattle.mama_rounds.specs.Round.{setting_of}
+use Rattle.mama_legal.specs.Edges.{AreEdges, client_puts, queue_puts, put_on_bridge, put_to_publisher, put_on_queue, taken_by}
 use Rattle.mama_legal.specs.Streams.{terms_of}
 use Rattle.mama_legal.proofs.AllSent.{count_publishers}
 use Rattle.mama_legal.proofs.Putters.{by_bridge_port}
-use Rattle.mama_legal.proofs.Stages.{IsKept, drain_keeps, IsKeptByRounds, rounds_keep}
-use Rattle.mama_legal.proofs.Whole.{Running, drained, client_runs, publisher_runs, resting_at_start}
-use Rattle.mama_legal.proofs.Worlds.{Holds, bridge_turn_keeps, timers_turn_keeps, publisher_turn_keeps, queue_turn_keeps}
 use Rattle.mama_genuine.specs.Sent.{Delivers}
 use Rattle.mama_genuine.specs.Order.{IsFedBy}
-use Rattle.mama_genuine.proofs.Elements.{all_if, all_flat_map, all_map, all_by_port, all_weaker, all_push, all_puts_after, all_from_ports, all_by_ports, all_left, all_right}
+use Rattle.mama_genuine.proofs.Elements.{all_if, all_flat_map, all_map, all_any, all_by_port, all_weaker, all_puts_after, all_from_ports, all_by_ports}
 use Rattle.mama_genuine.proofs.Lines.{length-publishers, number-publishers}
 use Rattle.mama_genuine.proofs.Timing.{all_timers_puts}
-use Rattle.mama_genuine.proofs.Asking.{Own}
+use Rattle.mama_genuine.proofs.Asking.{OwnUpdate}
 use Rattle.mama_genuine.proofs.Wishing.{Brings, Wishes, WishPut, all_wished}
-use Rattle.mama_genuine.proofs.Feeding.{Feeds, WantsOf, InPut, all_fed}
+use Rattle.mama_genuine.proofs.Feeding.{Feeds, Wants, InPut, all_fed}
 use Rattle.mama_genuine.proofs.Joining.{Joins, JoinPut, joins_on}
 
 -- ---- the one publisher of a topic
@@ -112,85 +110,35 @@ module _ (wanted : ℕ) where
 
 -- ---- what is put on the bridge's lane
 
-module _ (shape : Shape) (s : SubId) (wanted r : ℕ) (lone : IsOnly wanted shape.publisher_topics r) where
-  first : (n : ℕ) → position (λ (topic : ℕ). topic == wanted) shape.publisher_topics ≡ Some n → n ≡ r
-  first n found =
-      let at = position-Some (λ (topic : ℕ). topic == wanted) shape.publisher_topics n 0 found in
-      lone.alone n at.0 ((Decides-eqb (slice_index shape.publisher_topics n) wanted).0 at.1)
+-- any message, and any number
+abbrev AnyMsg : MarketMsg → Type 0
+AnyMsg m = Unit {0}
 
-  -- the message is the publisher's own, and it answers for the subscription only if it is the one
+abbrev AnyNumber : ℕ → Type 0
+AnyNumber n = Unit {0}
+
+abbrev AnyNote : BridgeNote → Type 0
+AnyNote note = Unit {0}
+
+module _ (s : SubId) (Asked : ℕ → Type 0) where
+  -- a publisher's messages are its own, its image messages are no updates, and one that answers for the subscription is such
   abbrev Answers : ℕ → BridgeNote → Type 0
-  Answers n (b.Publish msg) = Own (n + 1) msg
-  Answers n (b.Image sub msg) = Own (n + 1) msg × (same_sub sub s ≡ true → n ≡ r)
+  Answers n (b.Publish msg) = msg.sender ≡ n + 1
+  Answers n (b.Image sub msg) = (is_update msg.kind ≡ false) × (same_sub sub s ≡ true → Asked n)
   Answers n _ = Unit {0}
-
-  -- what holds of a note that an actor put
-  abbrev PutBy : Putter → BridgeNote → Type 0
-  PutBy (ByClient c) note = Joins s wanted note
-  PutBy (ByPublisher n) note = Answers n note
-  PutBy (ByQueue k) note = Wishes s (r + 1) note
-  PutBy ByBridge note = Unit {0}
-  PutBy ByTimers note = Unit {0}
-  PutBy ByNobody note = Unit {0}
-
-  abbrev pub Fits : ℕ × BridgeNote → Type 0
-  Fits e = PutBy (bridge_putter shape e.0) e.1
-
-  abbrev Feeding : BridgeEvent → Type 0
-  Feeding e = Feeds shape s wanted r first e
-
-  feeding_if : (c : Bool) (e f : BridgeEvent) → Feeding e → Feeding f → Feeding (if c then e else f)
-  feeding_if true e f one two = one
-  feeding_if false e f one two = two
-
-  client_feeds : (c : ℕ) (note : BridgeNote) → Joins s wanted note → Feeding (from_client c note)
-  client_feeds c (b.Join sub terms tag) h = feeding_if (sub.client == c) (joins sub terms tag) no_event h tt
-  client_feeds c (b.OpenInbox inbox terms tag) h = feeding_if (inbox.client == c) (opens inbox terms tag) no_event tt tt
-  client_feeds c _ h = tt
-
-  publisher_feeds : (n : ℕ) → n < publishers_of shape → (note : BridgeNote) → Answers n note → Feeding (from_publisher n note)
-  publisher_feeds n within (b.Publish msg) h = λ same. h ∙ ap (λ (m : ℕ). m + 1) (lone.alone n within same)
-  publisher_feeds n within (b.Image sub msg) h = λ same. h.0 ∙ ap (λ (m : ℕ). m + 1) (h.1 same)
-  publisher_feeds n within _ h = tt
-
-  queue_feeds : (k : ℕ) (note : BridgeNote) → Wishes s (r + 1) note → Feeding (from_queue k note)
-  queue_feeds k (b.RecapWish sub sender) h = h
-  queue_feeds k b.Bye h = tt
-  queue_feeds k _ h = tt
-
-  feeds : (port : ℕ) (note : BridgeNote) → PutBy (bridge_putter shape port) note → Feeding (put_by (bridge_putter shape port) note)
-  feeds port = by_bridge_port shape (λ port who. (note : BridgeNote) → PutBy who note → Feeding (put_by who note))
-      (λ c within note h. client_feeds c note h)
-      (λ n within note h. publisher_feeds n within note h)
-      (λ k within note h. queue_feeds k note h)
-      (λ n past note h. tt) port
-
-  all_feed : (journal : List (ℕ × BridgeNote)) → AllByRecursion Fits journal → AllByRecursion Feeding (heard shape journal)
-  all_feed journal all = all_map Fits Feeding (λ (e : ℕ × BridgeNote). put_by (bridge_putter shape e.0) e.1) (λ e h. feeds e.0 e.1 h) journal all
-
-  abbrev Putting : BridgePut → Type 0
-  Putting put = InPut shape s wanted r first put
-
-  all_puts_fit : (journal : List (ℕ × BridgeNote)) → AllByRecursion Fits journal → AllByRecursion Putting (bridge_puts shape journal)
-  all_puts_fit journal all = all_fed shape s wanted r first (heard shape journal) (all_feed journal all)
-
-  -- ---- what the publishers answer
-
-  abbrev Wanting : ℕ → PublisherNote → Type 0
-  Wanting n note = WantsOf shape s wanted r first n note
 
   abbrev WantEntry : ℕ → PublisherEntry → Type 0
   WantEntry n entry.Send = Unit {0}
   WantEntry n entry.Done = Unit {0}
-  WantEntry n (entry.Took note) = Wanting n note
+  WantEntry n (entry.Took note) = Wants s Asked n note
 
   sent_answers : (n : ℕ) (held : List FieldData) (seq : ℕ) (line : Option SendLine) → AllByRecursion (Answers n) (sent_of n held seq line)
   sent_answers n held seq (Some (SendLine.Update body)) = (refl, tt)
   sent_answers n held seq (Some SendLine.Recap) = (refl, tt)
   sent_answers n held seq None = tt
 
-  asked_answers : (n : ℕ) (held : List FieldData) (seq : ℕ) (asked : PublisherNote) → Wanting n asked → AllByRecursion (Answers n) (answer_of n held seq asked)
-  asked_answers n held seq (note.Want sub kind) h = ((refl, h), tt)
+  asked_answers : (n : ℕ) (held : List FieldData) (seq : ℕ) (asked : PublisherNote) → Wants s Asked n asked → AllByRecursion (Answers n) (answer_of n held seq asked)
+  asked_answers n held seq (note.Want sub kind) h = (h, tt)
   asked_answers n held seq (note.Ask inbox fids) h = (tt, tt)
   asked_answers n held seq note.Settle h = (tt, tt)
   asked_answers n held seq note.Fin h = tt
@@ -202,33 +150,82 @@ module _ (shape : Shape) (s : SubId) (wanted r : ℕ) (lone : IsOnly wanted shap
   entry_answers publisher before entry.Done h = (tt, tt)
   entry_answers publisher before (entry.Took asked) h = asked_answers publisher.number (record_at publisher before) (updates_sent publisher before) asked h
 
-  want_entries : (n : ℕ) (journal : List PublisherEntry) → AllByRecursion (Wanting n) (taken_by journal) → AllByRecursion (WantEntry n) journal
+  want_entries : (n : ℕ) (journal : List PublisherEntry) → AllByRecursion (Wants s Asked n) (taken_by journal) → AllByRecursion (WantEntry n) journal
   want_entries n [] all = tt
   want_entries n (entry.Send ∷ journal) all = (tt, want_entries n journal all)
   want_entries n (entry.Done ∷ journal) all = (tt, want_entries n journal all)
   want_entries n (entry.Took asked ∷ journal) all = (all.0, want_entries n journal all.1)
 
-  publisher_answers : (n : ℕ) (publisher : PublisherScript) → publisher.number ≡ n → (journal : List PublisherEntry) → AllByRecursion (Wanting n) (taken_by journal)
+  publisher_answers : (n : ℕ) (publisher : PublisherScript) → publisher.number ≡ n → (journal : List PublisherEntry) → AllByRecursion (Wants s Asked n) (taken_by journal)
       → AllByRecursion (Answers n) (publisher_puts publisher journal)
   publisher_answers n publisher is journal all =
       subst (λ (m : ℕ). AllByRecursion (Answers m) (publisher_puts publisher journal)) is
       (all_puts_after (WantEntry publisher.number) (Answers publisher.number) (publisher_puts_at publisher) (entry_answers publisher) [] journal
       (subst (λ (m : ℕ). AllByRecursion (WantEntry m) journal) (sym is) (want_entries n journal all)))
 
-  want_part : (n : ℕ) (put : BridgePut) → Putting put → AllByRecursion (Wanting n) (publisher_part n put)
-  want_part n (to_publisher m asked) h =
-      (elim (m == n) as (λ c. (m == n) ≡ c → AllByRecursion (Wanting n) (if c then asked ∷ [] else [])) [
-        | true ↦ λ same. (subst (λ (k : ℕ). Wanting k asked) ((Decides-eqb m n).0 same) h, tt)
+-- ---- what the bridge makes of it
+
+-- What holds of a note that an actor put, by what holds of those of publishers and of queues.
+abbrev PutBy : SubId → ℕ → (ℕ → BridgeNote → Type 0) → (BridgeNote → Type 0) → Putter → BridgeNote → Type 0
+PutBy s wanted FromPublisher FromQueue (ByClient c) note = Joins s wanted note
+PutBy s wanted FromPublisher FromQueue (ByPublisher n) note = FromPublisher n note
+PutBy s wanted FromPublisher FromQueue (ByQueue k) note = FromQueue note
+PutBy s wanted FromPublisher FromQueue ByBridge note = Unit {0}
+PutBy s wanted FromPublisher FromQueue ByTimers note = Unit {0}
+PutBy s wanted FromPublisher FromQueue ByNobody note = Unit {0}
+
+module _ (shape : Shape) (s : SubId) (wanted : ℕ) (FromPublisher : ℕ → BridgeNote → Type 0) (FromQueue : BridgeNote → Type 0)
+    (Mine : MarketMsg → Type 0) (Wished Asked : ℕ → Type 0)
+    (first : (n : ℕ) → position (λ (topic : ℕ). topic == wanted) shape.publisher_topics ≡ Some n → Asked n)
+    (asked : (sender : ℕ) → Wished sender → Asked (sender - 1))
+    (publisher_feeds : (n : ℕ) → n < publishers_of shape → (note : BridgeNote) → FromPublisher n note → Feeds shape s wanted Mine Wished Asked first asked (from_publisher n note))
+    (queue_feeds : (k : ℕ) (note : BridgeNote) → FromQueue note → Feeds shape s wanted Mine Wished Asked first asked (from_queue k note)) where
+  abbrev Feeding : BridgeEvent → Type 0
+  Feeding e = Feeds shape s wanted Mine Wished Asked first asked e
+
+  feeding_if : (c : Bool) (e f : BridgeEvent) → Feeding e → Feeding f → Feeding (if c then e else f)
+  feeding_if true e f one two = one
+  feeding_if false e f one two = two
+
+  client_feeds : (c : ℕ) (note : BridgeNote) → Joins s wanted note → Feeding (from_client c note)
+  client_feeds c (b.Join sub terms tag) h = feeding_if (sub.client == c) (joins sub terms tag) no_event h tt
+  client_feeds c (b.OpenInbox inbox terms tag) h = feeding_if (inbox.client == c) (opens inbox terms tag) no_event tt tt
+  client_feeds c _ h = tt
+
+  feeds : (port : ℕ) (note : BridgeNote) → PutBy s wanted FromPublisher FromQueue (bridge_putter shape port) note → Feeding (put_by (bridge_putter shape port) note)
+  feeds port = by_bridge_port shape (λ port who. (note : BridgeNote) → PutBy s wanted FromPublisher FromQueue who note → Feeding (put_by who note))
+      (λ c within note h. client_feeds c note h)
+      (λ n within note h. publisher_feeds n within note h)
+      (λ k within note h. queue_feeds k note h)
+      (λ n past note h. tt) port
+
+  abbrev Fits : ℕ × BridgeNote → Type 0
+  Fits e = PutBy s wanted FromPublisher FromQueue (bridge_putter shape e.0) e.1
+
+  abbrev Putting : BridgePut → Type 0
+  Putting put = InPut shape s wanted Mine Wished Asked first asked put
+
+  all_puts_fit : (journal : List (ℕ × BridgeNote)) → AllByRecursion Fits journal → AllByRecursion Putting (bridge_puts shape journal)
+  all_puts_fit journal all =
+      all_fed shape s wanted Mine Wished Asked first asked (heard shape journal)
+      (all_map Fits Feeding (λ (e : ℕ × BridgeNote). put_by (bridge_putter shape e.0) e.1) (λ e h. feeds e.0 e.1 h) journal all)
+
+  want_part : (n : ℕ) (put : BridgePut) → Putting put → AllByRecursion (Wants s Asked n) (publisher_part n put)
+  want_part n (to_publisher m note) h =
+      (elim (m == n) as (λ c. (m == n) ≡ c → AllByRecursion (Wants s Asked n) (if c then note ∷ [] else [])) [
+        | true ↦ λ same. (subst (λ (k : ℕ). Wants s Asked k note) ((Decides-eqb m n).0 same) h, tt)
         | false ↦ λ other. tt
       ]) refl
   want_part n (to_queue k event) h = tt
   want_part n (to_timers event) h = tt
 
-  -- ---- what the queues wish
+  -- what each publisher is asked
+  wanted_of : (journal : List (ℕ × BridgeNote)) → AllByRecursion Fits journal → (n : ℕ) → AllByRecursion (Wants s Asked n) (put_to_publisher shape journal n)
+  wanted_of journal all n = all_flat_map Putting (Wants s Asked n) (publisher_part n) (want_part n) (bridge_puts shape journal) (all_puts_fit journal all)
 
-  bring_part : (k : ℕ) (put : BridgePut) → Putting put → AllByRecursion (Brings s (r + 1)) (queue_part k put)
-  bring_part k (to_publisher n asked) h = tt
-  bring_part k (to_queue m event) h = all_if (Brings s (r + 1)) (m == k) (event ∷ []) [] (h, tt) tt
+  bring_part : (k : ℕ) (put : BridgePut) → Putting put → AllByRecursion (Brings s Mine) (queue_part k put)
+  bring_part k (to_publisher n note) h = tt
+  bring_part k (to_queue m event) h = all_if (Brings s Mine) (m == k) (event ∷ []) [] (h, tt) tt
   bring_part k (to_timers event) h = tt
 
   abbrev Never : MarketMsg → Type 0
@@ -237,7 +234,7 @@ module _ (shape : Shape) (s : SubId) (wanted r : ℕ) (lone : IsOnly wanted shap
   abbrev AnyBody : List FieldData → Type 0
   AnyBody body = Unit {0}
 
-  brings_none : (event : QueueNote) → Delivers Never AnyBody event → Brings s (r + 1) event
+  brings_none : (event : QueueNote) → Delivers Never AnyBody event → Brings s Mine event
   brings_none (q.Create slot object make tag) h = tt
   brings_none (q.Deliver slot sub msg) h = absurd h
   brings_none (q.Reply slot inbox body) h = tt
@@ -245,165 +242,167 @@ module _ (shape : Shape) (s : SubId) (wanted r : ℕ) (lone : IsOnly wanted shap
   brings_none (q.Gone slot object) h = tt
   brings_none q.Fin h = tt
 
-  brings_by : (bridge : List (ℕ × BridgeNote)) (timers : List (ℕ × TimersNote)) (k : ℕ) → AllByRecursion Fits bridge → (who : Putter)
-      → AllByRecursion (Brings s (r + 1)) (put_on_queue shape bridge timers k who)
-  brings_by bridge timers k all ByBridge = all_flat_map Putting (Brings s (r + 1)) (queue_part k) (bring_part k) (bridge_puts shape bridge) (all_puts_fit bridge all)
-  brings_by bridge timers k all ByTimers =
-      all_weaker (Delivers Never AnyBody) (Brings s (r + 1)) brings_none (by_port k (timers_puts shape timers))
+  -- what each queue is brought
+  brought_by : (bridge : List (ℕ × BridgeNote)) → AllByRecursion Fits bridge → (timers : List (ℕ × TimersNote)) (k : ℕ) (who : Putter)
+      → AllByRecursion (Brings s Mine) (put_on_queue shape bridge timers k who)
+  brought_by bridge all timers k ByBridge = all_flat_map Putting (Brings s Mine) (queue_part k) (bring_part k) (bridge_puts shape bridge) (all_puts_fit bridge all)
+  brought_by bridge all timers k ByTimers =
+      all_weaker (Delivers Never AnyBody) (Brings s Mine) brings_none (by_port k (timers_puts shape timers))
       (all_by_port (Delivers Never AnyBody) k (timers_puts shape timers) (all_timers_puts Never AnyBody shape timers))
-  brings_by bridge timers k all (ByClient c) = tt
-  brings_by bridge timers k all (ByPublisher n) = tt
-  brings_by bridge timers k all (ByQueue n) = tt
-  brings_by bridge timers k all ByNobody = tt
+  brought_by bridge all timers k (ByClient c) = tt
+  brought_by bridge all timers k (ByPublisher n) = tt
+  brought_by bridge all timers k (ByQueue n) = tt
+  brought_by bridge all timers k ByNobody = tt
 
-  bridge_wish : (put : QueuePut) → WishPut s (r + 1) put → AllByRecursion (Wishes s (r + 1)) (bridge_part put)
-  bridge_wish (queue.to_bridge event) h = (h, tt)
-  bridge_wish (queue.to_timers event) h = tt
+-- ---- the journals of a record
+
+module _ (script : ScriptData) (counted : IsShaped script) (run : RunData) (edges : AreEdges script run)
+    (s : SubId) (wanted r : ℕ) (lone : IsOnly wanted script.shape.publisher_topics r)
+    (known : (c : ℕ) → AllByRecursion (JoinPut s wanted) (client_puts script run.clients c)) where
+  abbrev shape : Shape
+  shape = script.shape
+
+  abbrev setting : Setting
+  setting = setting_of script
+
+  there : (n : ℕ) → n < publishers_of shape → n < length script.publishers
+  there n within = subst (λ (k : ℕ). n < k) (count_publishers script counted) within
 
   bridge_join : (put : QueuePut) → JoinPut s wanted put → AllByRecursion (Joins s wanted) (bridge_part put)
   bridge_join (queue.to_bridge event) h = (h, tt)
   bridge_join (queue.to_timers event) h = tt
 
--- ---- the journals of a world
+  bridge_wish : (put : QueuePut) → WishPut s (r + 1) put → AllByRecursion (Wishes s (r + 1)) (bridge_part put)
+  bridge_wish (queue.to_bridge event) h = (h, tt)
+  bridge_wish (queue.to_timers event) h = tt
 
-module _ (script : ScriptData) (counted : IsShaped script) (s : SubId) (wanted r : ℕ) (lone : IsOnly wanted script.shape.publisher_topics r) where
-  abbrev setting : Setting
-  setting = setting_of script
+  -- what a publisher and a queue put by their journals
+  abbrev publisher_put : ℕ → List BridgeNote
+  publisher_put n = publisher_puts (slice_index_or setting.publishers n no_section) (slice_index_or run.publishers n [])
 
-  abbrev Fitting : ℕ × BridgeNote → Type 0
-  Fitting e = Fits script.shape s wanted r lone e
+  abbrev queue_put : ℕ → List BridgeNote
+  queue_put k = flat_map bridge_part (queue_puts setting (slice_index_or run.queues k []))
 
-  abbrev By : Putter → BridgeNote → Type 0
-  By who event = PutBy script.shape s wanted r lone who event
+  -- what the bridge took, where it is known what publishers and queues put
+  all_fit : (FromPublisher : ℕ → BridgeNote → Type 0) (FromQueue : BridgeNote → Type 0)
+      → ((n : ℕ) → n < publishers_of shape → AllByRecursion (FromPublisher n) (publisher_put n))
+      → ((k : ℕ) → k < queues_of shape → AllByRecursion FromQueue (queue_put k))
+      → AllByRecursion (λ (e : ℕ × BridgeNote). PutBy s wanted FromPublisher FromQueue (bridge_putter shape e.0) e.1) run.bridge
+  all_fit FromPublisher FromQueue publishers queues =
+      all_by_ports (λ port note. PutBy s wanted FromPublisher FromQueue (bridge_putter shape port) note) run.bridge
+      (λ port. subst (AllByRecursion (PutBy s wanted FromPublisher FromQueue (bridge_putter shape port))) (sym (edges.bridge port)) (all_put port))
+    where
+      all_put : (port : ℕ) → AllByRecursion (PutBy s wanted FromPublisher FromQueue (bridge_putter shape port))
+          (put_on_bridge setting (client_puts script run.clients) run.publishers run.queues (bridge_putter shape port))
+      all_put port = by_bridge_port shape (λ port who. AllByRecursion (PutBy s wanted FromPublisher FromQueue who) (put_on_bridge setting (client_puts script run.clients) run.publishers run.queues who))
+          (λ c within. all_flat_map (JoinPut s wanted) (Joins s wanted) bridge_part bridge_join (client_puts script run.clients c) (known c))
+          (λ n within. publishers n within)
+          (λ k within. queues k within)
+          (λ n past. tt) port
 
-  -- what clients put joins the subscription on its topic
-  abbrev JoinAll : (ℕ → List QueuePut) → Type 0
-  JoinAll done = (c : ℕ) → AllByRecursion (JoinPut s wanted) (done c)
+  -- what a publisher puts, where it is known what it was asked
+  answered : (Asked : ℕ → Type 0) → ((n : ℕ) → AllByRecursion (Wants s Asked n) (put_to_publisher shape run.bridge n))
+      → (n : ℕ) → n < publishers_of shape → AllByRecursion (Answers s Asked n) (publisher_put n)
+  answered Asked each n within =
+      publisher_answers s Asked n (slice_index_or setting.publishers n no_section)
+      (number-publishers 0 script.publishers n (subst (λ (k : ℕ). n < k) (sym (length-publishers 0 script.publishers)) (there n within)) ∙ zero-add n)
+      (slice_index_or run.publishers n [])
+      (subst (AllByRecursion (Wants s Asked n)) (sym (edges.publishers n (there n within))) (each n))
 
-  module _ (done : ℕ → List QueuePut) (w : World) (known : JoinAll done) (holds : Holds setting done w) (all : AllByRecursion Fitting w.bridge) where
-    by_publisher : (n : ℕ) → n < publishers_of script.shape
-        → AllByRecursion (By (ByPublisher n)) (publisher_puts (slice_index_or setting.publishers n no_section) (slice_index_or w.publishers n []))
-    by_publisher n within =
-        let there : n < length setting.publishers =
-        subst (λ (k : ℕ). n < k) (count_publishers script counted ∙ sym (length-publishers 0 script.publishers)) within in
-        publisher_answers script.shape s wanted r lone n (slice_index_or setting.publishers n no_section)
-        (number-publishers 0 script.publishers n there ∙ zero-add n) (slice_index_or w.publishers n [])
-        (all_left (Wanting script.shape s wanted r lone n) (taken_by (slice_index_or w.publishers n [])) (slice_index_or w.to_publishers n [])
-        (subst (AllByRecursion (Wanting script.shape s wanted r lone n)) (sym (holds.publishers n there))
-        (all_flat_map (Putting script.shape s wanted r lone) (Wanting script.shape s wanted r lone n) (publisher_part n) (want_part script.shape s wanted r lone n)
-        (bridge_puts script.shape w.bridge) (all_puts_fit script.shape s wanted r lone w.bridge all))))
+  any_put : (n : ℕ) → n < publishers_of shape → AllByRecursion AnyNote (publisher_put n)
+  any_put n within = all_any AnyNote (λ note. tt) (publisher_put n)
 
-    by_queue : (k : ℕ) → k < queues_of script.shape → AllByRecursion (By (ByQueue k)) (flat_map bridge_part (queue_puts setting (slice_index_or w.queues k [])))
-    by_queue k within =
-        let journal : List (ℕ × QueueNote) = slice_index_or w.queues k [] in
-        all_flat_map (WishPut s (r + 1)) (Wishes s (r + 1)) bridge_part (bridge_wish script.shape s wanted r lone) (queue_puts setting journal)
-        (all_wished s (r + 1) (orders_by setting) journal
-        (all_from_ports (Brings s (r + 1)) journal
-        (λ port. all_left (Brings s (r + 1)) (by_port port journal) (by_port port (slice_index_or w.to_queues k []))
-        (subst (AllByRecursion (Brings s (r + 1))) (sym (holds.queues k within port))
-        (brings_by script.shape s wanted r lone w.bridge w.timers k all (queue_putter port))))))
+  any_wish : (k : ℕ) → k < queues_of shape → AllByRecursion AnyNote (queue_put k)
+  any_wish k within = all_any AnyNote (λ note. tt) (queue_put k)
 
-    all_put : (port : ℕ) → AllByRecursion (By (bridge_putter script.shape port)) (put_on_bridge setting done w.publishers w.queues (bridge_putter script.shape port))
-    all_put port = by_bridge_port script.shape (λ port who. AllByRecursion (By who) (put_on_bridge setting done w.publishers w.queues who))
-        (λ c within. all_flat_map (JoinPut s wanted) (Joins s wanted) bridge_part (bridge_join script.shape s wanted r lone) (done c) (known c))
-        (λ n within. by_publisher n within)
-        (λ k within. by_queue k within)
-        (λ n past. tt) port
+  -- no publisher is asked for an update, so only what it sends by its lines is one
 
-    -- what waits for the bridge fits too
-    all_waiting : AllByRecursion Fitting w.to_bridge
-    all_waiting =
-        all_by_ports (λ port event. By (bridge_putter script.shape port) event) w.to_bridge
-        (λ port. all_right (By (bridge_putter script.shape port)) (by_port port w.bridge) (by_port port w.to_bridge)
-        (subst (AllByRecursion (By (bridge_putter script.shape port))) (sym (holds.bridge port)) (all_put port)))
+  abbrev AnyFeeds : BridgeEvent → Type 0
+  AnyFeeds e = Feeds shape s wanted AnyMsg AnyNumber AnyNumber (λ n found. tt) (λ sender wished. tt) e
 
-  -- ---- turns
+  any_publisher_feeds : (n : ℕ) → n < publishers_of shape → (note : BridgeNote) → Unit {0} → AnyFeeds (from_publisher n note)
+  any_publisher_feeds n within (b.Publish msg) h = λ same. tt
+  any_publisher_feeds n within (b.Image sub msg) h = λ same. tt
+  any_publisher_feeds n within _ h = tt
 
-  record Fed (done : ℕ → List QueuePut) (w : World) : Type 0 where
-    pub holds : Holds setting done w
-    pub all : AllByRecursion Fitting w.bridge
+  any_queue_feeds : (k : ℕ) (note : BridgeNote) → Unit {0} → AnyFeeds (from_queue k note)
+  any_queue_feeds k (b.RecapWish sub sender) h = λ same. tt
+  any_queue_feeds k b.Bye h = tt
+  any_queue_feeds k _ h = tt
 
-  module _ (done : ℕ → List QueuePut) (known : JoinAll done) where
-    bridge_fed : (w : World) → Fed done w → Fed done (bridge_turn setting w)
-    bridge_fed w fed = record {
-      holds = bridge_turn_keeps setting done w fed.holds;
-      all = go w.to_bridge (all_waiting done w known fed.holds fed.all);
-    }
-      where
-        go : (lane : List (ℕ × BridgeNote)) → AllByRecursion Fitting lane → AllByRecursion Fitting (bridge_took setting w lane).bridge
-        go [] waiting = fed.all
-        go (e ∷ rest) waiting = all_push Fitting w.bridge e fed.all waiting.0
+  no_updates_asked : (n : ℕ) → AllByRecursion (Wants s AnyNumber n) (put_to_publisher shape run.bridge n)
+  no_updates_asked n =
+      wanted_of shape s wanted (λ n note. AnyNote note) AnyNote AnyMsg AnyNumber AnyNumber (λ n found. tt) (λ sender wished. tt) any_publisher_feeds any_queue_feeds
+      run.bridge (all_fit (λ n note. AnyNote note) AnyNote any_put any_wish) n
 
-    timers_fed : (w : World) → Fed done w → Fed done (timers_turn setting w)
-    timers_fed w fed = record { holds = timers_turn_keeps setting done w fed.holds; all = go w.to_timers }
-      where
-        go : (lane : List (ℕ × TimersNote)) → AllByRecursion Fitting (timers_took setting w lane).bridge
-        go [] = fed.all
-        go (e ∷ rest) = fed.all
+  -- so the updates of the subscription are of the one publisher of its topic, and its queue wishes recaps of no other
 
-    publisher_fed : (n : ℕ) (w : World) → n < publishers_of script.shape → Fed done w → Fed done (publisher_turn setting n w)
-    publisher_fed n w within fed = record { holds = publisher_turn_keeps setting done n w within fed.holds; all = go (slice_index_or w.to_publishers n []) }
-      where
-        go : (lane : List PublisherNote) → AllByRecursion Fitting (publisher_took setting n w lane).bridge
-        go [] = fed.all
-        go (e ∷ rest) = fed.all
+  abbrev UpdateFeeds : BridgeEvent → Type 0
+  UpdateFeeds e = Feeds shape s wanted (OwnUpdate (r + 1)) AnyNumber AnyNumber (λ n found. tt) (λ sender wished. tt) e
 
-    queue_fed : (k : ℕ) (w : World) → k < queues_of script.shape → Fed done w → Fed done (queue_turn setting k w)
-    queue_fed k w within fed = record { holds = queue_turn_keeps setting done k w within fed.holds; all = go (slice_index_or w.to_queues k []) }
-      where
-        go : (lane : List (ℕ × QueueNote)) → AllByRecursion Fitting (queue_took setting k w lane).bridge
-        go [] = fed.all
-        go (e ∷ rest) = fed.all
+  update_publisher_feeds : (n : ℕ) → n < publishers_of shape → (note : BridgeNote) → Answers s AnyNumber n note → UpdateFeeds (from_publisher n note)
+  update_publisher_feeds n within (b.Publish msg) h = λ same update. h ∙ ap (λ (m : ℕ). m + 1) (lone.alone n within same)
+  update_publisher_feeds n within (b.Image sub msg) h = λ same update. absurd (both_ways (is_update msg.kind) h.0 update)
+  update_publisher_feeds n within _ h = tt
 
-    kept : IsKept setting (Fed done)
-    kept = record { bridge = bridge_fed; timers = timers_fed; publisher = publisher_fed; queue = queue_fed }
+  update_queue_feeds : (k : ℕ) (note : BridgeNote) → Unit {0} → UpdateFeeds (from_queue k note)
+  update_queue_feeds k (b.RecapWish sub sender) h = λ same. tt
+  update_queue_feeds k b.Bye h = tt
+  update_queue_feeds k _ h = tt
 
-  -- ---- rounds
+  updates_brought : (k : ℕ) (who : Putter) → AllByRecursion (Brings s (OwnUpdate (r + 1))) (put_on_queue shape run.bridge run.timers k who)
+  updates_brought k who =
+      brought_by shape s wanted (Answers s AnyNumber) AnyNote (OwnUpdate (r + 1)) AnyNumber AnyNumber (λ n found. tt) (λ sender wished. tt) update_publisher_feeds update_queue_feeds
+      run.bridge (all_fit (Answers s AnyNumber) AnyNote (answered AnyNumber no_updates_asked) any_wish) run.timers k who
 
-  module _ (total : ℕ → List QueuePut) (known : JoinAll total) where
-    record FedStage (stage : Stage) : Type 0 where
-      pub running : Running setting total stage
-      pub all : AllByRecursion Fitting stage.world.bridge
+  own_wishes : (k : ℕ) → k < queues_of shape → AllByRecursion (Wishes s (r + 1)) (queue_put k)
+  own_wishes k within =
+      let journal : List (ℕ × QueueNote) = slice_index_or run.queues k [] in
+      all_flat_map (WishPut s (r + 1)) (Wishes s (r + 1)) bridge_part bridge_wish (queue_puts setting journal)
+      (all_wished s (r + 1) (orders_by setting) journal
+      (all_from_ports (Brings s (OwnUpdate (r + 1))) journal
+      (λ port. subst (AllByRecursion (Brings s (OwnUpdate (r + 1)))) (sym (edges.queues k within port)) (updates_brought k (queue_putter port)))))
 
-    drained_fed : (stage after : Stage) → FedStage stage → IsStageDrained setting stage after → FedStage after
-    drained_fed stage after fed is =
-        let done : ℕ → List QueuePut = fed.running.done in
-        let so_far : JoinAll done = λ c. all_left (JoinPut s wanted) (done c) _ (subst (AllByRecursion (JoinPut s wanted)) (sym (fed.running.steps c)) (known c)) in
-        record {
-          running = drained setting total stage after fed.running is;
-          all = (drain_keeps setting (Fed done) (kept done so_far) stage.world after.world is.world (record { holds = fed.running.world; all = fed.all })).all;
-        }
+  -- so no other publisher is asked for an image of it
 
-    client_fed : (c : ℕ) (stage : Stage) → c < clients_of script.shape → FedStage stage → FedStage (client_step setting c stage)
-    client_fed c stage within fed = record { running = client_runs setting total c stage within fed.running; all = go (slice_index_or stage.clients c []) }
-      where
-        go : (left : List (List QueuePut)) → AllByRecursion Fitting (client_stepped setting c stage left).world.bridge
-        go [] = fed.all
-        go (step ∷ rest) = fed.all
+  abbrev Lone : ℕ → Type 0
+  Lone n = n ≡ r
 
-    publisher_steps_fed : (n : ℕ) (stage : Stage) → n < publishers_of script.shape → FedStage stage → FedStage (publisher_step setting n stage)
-    publisher_steps_fed n stage within fed = record { running = publisher_runs setting total n stage within fed.running; all = go (slice_index_or stage.publishers n []) }
-      where
-        entries : (w : World) (es : List PublisherEntry) → AllByRecursion Fitting w.bridge → AllByRecursion Fitting (entries_done setting n w es).bridge
-        entries w [] all = all
-        entries w (e ∷ es) all = entries (publisher_did setting n w e) es all
+  abbrev OfLone : ℕ → Type 0
+  OfLone sender = sender ≡ r + 1
 
-        go : (left : List (List PublisherEntry)) → AllByRecursion Fitting (publisher_stepped setting n stage left).world.bridge
-        go [] = fed.all
-        go (step ∷ rest) = entries stage.world step fed.all
+  first_lone : (n : ℕ) → position (λ (topic : ℕ). topic == wanted) shape.publisher_topics ≡ Some n → Lone n
+  first_lone n found =
+      let at = position-Some (λ (topic : ℕ). topic == wanted) shape.publisher_topics n 0 found in
+      lone.alone n at.0 ((Decides-eqb (slice_index shape.publisher_topics n) wanted).0 at.1)
 
-    kept_by_rounds : IsKeptByRounds setting FedStage
-    kept_by_rounds = record {
-      client = λ c stage after within fed is. drained_fed (client_step setting c stage) after (client_fed c stage within fed) is;
-      publisher = λ n stage after within fed is. drained_fed (publisher_step setting n stage) after (publisher_steps_fed n stage within fed) is;
-    }
+  less_one : (sender : ℕ) → OfLone sender → Lone (sender - 1)
+  less_one sender is = omega arith
 
-  -- ---- the run
+  abbrev LoneFeeds : BridgeEvent → Type 0
+  LoneFeeds e = Feeds shape s wanted AnyMsg OfLone Lone first_lone less_one e
 
-  sent_by : (port : ℕ) (event : BridgeNote) → By (bridge_putter script.shape port) event
+  lone_publisher_feeds : (n : ℕ) → n < publishers_of shape → (note : BridgeNote) → Unit {0} → LoneFeeds (from_publisher n note)
+  lone_publisher_feeds n within (b.Publish msg) h = λ same. tt
+  lone_publisher_feeds n within (b.Image sub msg) h = λ same. tt
+  lone_publisher_feeds n within _ h = tt
+
+  lone_queue_feeds : (k : ℕ) (note : BridgeNote) → Wishes s (r + 1) note → LoneFeeds (from_queue k note)
+  lone_queue_feeds k (b.RecapWish sub sender) h = h
+  lone_queue_feeds k b.Bye h = tt
+  lone_queue_feeds k _ h = tt
+
+  lone_asked : (n : ℕ) → AllByRecursion (Wants s Lone n) (put_to_publisher shape run.bridge n)
+  lone_asked n =
+      wanted_of shape s wanted (λ n note. AnyNote note) (Wishes s (r + 1)) AnyMsg OfLone Lone first_lone less_one lone_publisher_feeds lone_queue_feeds
+      run.bridge (all_fit (λ n note. AnyNote note) (Wishes s (r + 1)) any_put own_wishes) n
+
+  -- ---- what is sent to the subscription
+
+  sent_by : (port : ℕ) (event : BridgeNote) → PutBy s wanted (Answers s Lone) AnyNote (bridge_putter script.shape port) event
       → (sent_to script.shape s wanted (put_by (bridge_putter script.shape port) event) ≡ []) ⊎ (port ≡ bridge_port_of_publisher script.shape r)
   sent_by port = by_bridge_port script.shape
-      (λ port who. (event : BridgeNote) → By who event → (sent_to script.shape s wanted (put_by who event) ≡ []) ⊎ (port ≡ bridge_port_of_publisher script.shape r))
+      (λ port who. (event : BridgeNote) → PutBy s wanted (Answers s Lone) AnyNote who event → (sent_to script.shape s wanted (put_by who event) ≡ []) ⊎ (port ≡ bridge_port_of_publisher script.shape r))
       (λ c within event h. inl (client_none c event))
       (λ n within event h. publisher_sends n within event h)
       (λ k within event h. inl (queue_none k event))
@@ -422,7 +421,7 @@ module _ (script : ScriptData) (counted : IsShaped script) (s : SubId) (wanted r
       queue_none k b.Bye = refl
       queue_none k _ = refl
 
-      publisher_sends : (n : ℕ) → n < publishers_of script.shape → (event : BridgeNote) → Answers script.shape s wanted r lone n event
+      publisher_sends : (n : ℕ) → n < publishers_of script.shape → (event : BridgeNote) → Answers s Lone n event
           → (sent_to script.shape s wanted (from_publisher n event) ≡ []) ⊎ (clients_of script.shape + n ≡ bridge_port_of_publisher script.shape r)
       publisher_sends n within (b.Publish msg) h =
           (elim (slice_index script.shape.publisher_topics n == wanted) as (λ c. (slice_index script.shape.publisher_topics n == wanted) ≡ c
@@ -437,18 +436,19 @@ module _ (script : ScriptData) (counted : IsShaped script) (s : SubId) (wanted r
           ]) refl
       publisher_sends n within _ h = inl refl
 
-  pub fed_by : (run : RunData) → IsRound script run → (terms : SubTerms) → terms_of script run s ≡ Some terms → terms.topic ≡ wanted
-      → IsFedBy script.shape s wanted r run.bridge
-  fed_by run is terms said topic =
-      let total : ℕ → List QueuePut = client_puts script run.clients in
-      let known : JoinAll total = λ c. subst (λ (n : ℕ). AllByRecursion (JoinPut s n) (total c)) topic (joins_on s script run.clients terms said c) in
-      let last : FedStage total known is.last =
-      rounds_keep setting (FedStage total known) (kept_by_rounds total known) is.count (start script run.clients) is.last is.rounds
-      (record { running = (resting_at_start script run.clients).running; all = tt }) in
-      record {
-        known = lone.known;
-        topic = lone.topic;
-        alone = all_weaker Fitting (λ (e : ℕ × BridgeNote). (sent_to script.shape s wanted (put_by (bridge_putter script.shape e.0) e.1) ≡ []) ⊎ (e.0 ≡ bridge_port_of_publisher script.shape r))
-            (λ e h. sent_by e.0 e.1 h) run.bridge
-            (subst (λ (recorded : RunData). AllByRecursion Fitting recorded.bridge) (sym is.told) last.all);
-      }
+  pub fed_by : IsFedBy script.shape s wanted r run.bridge
+  fed_by = record {
+    known = lone.known;
+    topic = lone.topic;
+    alone = all_weaker (λ (e : ℕ × BridgeNote). PutBy s wanted (Answers s Lone) AnyNote (bridge_putter script.shape e.0) e.1)
+        (λ (e : ℕ × BridgeNote). (sent_to script.shape s wanted (put_by (bridge_putter script.shape e.0) e.1) ≡ []) ⊎ (e.0 ≡ bridge_port_of_publisher script.shape r))
+        (λ e h. sent_by e.0 e.1 h) run.bridge
+        (all_fit (Answers s Lone) AnyNote (answered Lone lone_asked) any_wish);
+  }
+
+-- Where every edge is whole, the one publisher of its topic feeds a subscription that the lines join.
+pub fed_alone : (script : ScriptData) → IsShaped script → (run : RunData) → AreEdges script run → (s : SubId) (wanted r : ℕ) → IsOnly wanted script.shape.publisher_topics r
+    → (terms : SubTerms) → terms_of script run s ≡ Some terms → terms.topic ≡ wanted → IsFedBy script.shape s wanted r run.bridge
+fed_alone script counted run edges s wanted r lone terms said topic =
+    fed_by script counted run edges s wanted r lone
+    (λ c. subst (λ (n : ℕ). AllByRecursion (JoinPut s n) (client_puts script run.clients c)) topic (joins_on s script run.clients terms said c))

@@ -1,4 +1,4 @@
--- In a run in rounds a plain link on a topic with one publisher is calm.
+-- In a legal record a plain link on a topic with one publisher is calm.
 use Rattle.std.specs.Prelude.{Some}
 use Rattle.std.specs.List.{AllByRecursion, AllZip}
 use Rattle.std.proofs.Common.{◌≡◌, ℕ, ◌<◌, ◌≤◌, List, [], length, map, refl, sym, ◌∙◌, subst, ⊎_elim}
@@ -16,22 +16,22 @@ use Rattle.mama_script.specs.Script.{ScriptData}
 use Rattle.mama_record.specs.RunData.{RunData}
 use Rattle.mama_rounds.specs.Client.{Planned}
 use Rattle.mama_rounds.specs.World.{orders_by}
-use Rattle.mama_rounds.specs.Round.{IsRound, setting_of, object_calls, noted}
+use Rattle.mama_rounds.specs.Round.{setting_of, object_calls, noted}
 use Rattle.mama_legal.specs.Laws.{IsOrderly}
 use Rattle.mama_legal.specs.Streams.{terms_of}
 use Rattle.mama_legal.proofs.AllSent.{count_publishers}
-use Rattle.mama_legal.proofs.SubJournals.{CameAndWent, came_and_went}
-use Rattle.mama_legal.proofs.Whole.{calls_told, whole_edges}
-use Rattle.mama_legal.proofs.Whole as legal
+use Rattle.mama_legal.proofs.SubJournals.{CameAndWent, came_by_lines}
+use Rattle.mama_legal.specs.Legal.{IsLegal}
+use Rattle.mama_legal.proofs.LegalRounds.{rounds_are_legal}
 use Rattle.mama_genuine.specs.Faultless.{IsCalm}
 use Rattle.mama_genuine.specs.Order.{IsFedBy}
-use Rattle.mama_genuine.specs.CalmLinks.{HasPlainLink, AreCalmFor, HasCalmCalls, RoundLinksAreCalm}
-use Rattle.mama_genuine.proofs.Alone.{only, fed_by}
+use Rattle.mama_genuine.specs.CalmLinks.{HasPlainLink, AreCalmFor, HasCalmCalls, LegalLinksAreCalm, RoundLinksAreCalm}
+use Rattle.mama_genuine.proofs.Alone.{only, fed_alone}
 use Rattle.mama_genuine.proofs.Calm.{faultless_is_calm}
 use Rattle.mama_genuine.proofs.Joining.{of_client, same_terms}
 use Rattle.mama_genuine.proofs.Truths.{all_zipped}
 
-module _ (script : ScriptData) (run : RunData) (orderly : IsOrderly script) (is : IsRound script run) where
+module _ (script : ScriptData) (run : RunData) (orderly : IsOrderly script) (is : IsLegal script run) where
   -- a subscription with a plain link came and went, and one publisher fed it
   pub record IsPlain (s : SubId) (terms : SubTerms) : Type 0 where
     pub client : s.client < clients_of script.shape
@@ -49,10 +49,10 @@ module _ (script : ScriptData) (run : RunData) (orderly : IsOrderly script) (is 
       record {
         client = small;
         said = said;
-        came = came_and_went script run orderly is s link.terms small said;
+        came = came_by_lines script run orderly is.edges is.lines s link.terms small said;
         place = found.0;
         publisher = subst (λ (n : ℕ). found.0 < n) (count_publishers script orderly.shaped) found.1.known;
-        fed = fed_by script orderly.shaped s link.terms.topic found.0 found.1 run is link.terms said refl;
+        fed = fed_alone script orderly.shaped run is.edges s link.terms.topic found.0 found.1 link.terms said refl;
       }
 
   abbrev pub calls_on : ObjectId → ℕ → List CallNote
@@ -62,10 +62,10 @@ module _ (script : ScriptData) (run : RunData) (orderly : IsOrderly script) (is 
   calm_sub s queue link =
       let it : IsPlain s link.terms = plain s link in
       ⊎_elim
-      (λ there. faultless_is_calm script run (legal.shaped script run is) (whole_edges script run is) s link.terms it.place it.came.joined link.faultless
+      (λ there. faultless_is_calm script run is.shaped is.edges s link.terms it.place it.came.joined link.faultless
       it.publisher it.fed it.came.was it.came.dead (record { object = Sub s; queue = queue; plan = [] }) refl there)
       (λ past. subst (λ (journal : List (ℕ × QueueNote)). AllByRecursion (λ (n : CallNote). IsCalm n.call) (map noted (calls_of (Sub s) (deeds (orders_by (setting_of script)) journal))))
-      (sym (get_or_past run.queues queue [] (subst (λ (n : ℕ). n ≤ queue) (sym (legal.shaped script run is).queues) past))) tt)
+      (sym (get_or_past run.queues queue [] (subst (λ (n : ℕ). n ≤ queue) (sym is.shaped.queues) past))) tt)
       (cases_lt queue (queues_of script.shape))
 
   calm_object : (o : ObjectId) (queue : ℕ) → AreCalmFor script o (calls_on o queue)
@@ -76,7 +76,10 @@ module _ (script : ScriptData) (run : RunData) (orderly : IsOrderly script) (is 
   has_calm : (p : Planned) → HasCalmCalls script p (object_calls (setting_of script) run.queues p)
   has_calm p = record { object = refl; calm = calm_object p.object p.queue }
 
-pub round_links_are_calm : RoundLinksAreCalm
-round_links_are_calm script run orderly is =
-    subst (λ told. AllZip (HasCalmCalls script) (setting_of script).objects told) (sym (calls_told script run is).calls)
+pub legal_links_are_calm : LegalLinksAreCalm
+legal_links_are_calm script run orderly is =
+    subst (λ told. AllZip (HasCalmCalls script) (setting_of script).objects told) (sym is.calls.calls)
     (all_zipped (HasCalmCalls script) (object_calls (setting_of script) run.queues) (has_calm script run orderly is) (setting_of script).objects)
+
+pub round_links_are_calm : RoundLinksAreCalm
+round_links_are_calm script run orderly is = legal_links_are_calm script run orderly (rounds_are_legal script run orderly is)

@@ -1,9 +1,10 @@
--- What the bridge puts for a subscription on a topic that one publisher has: it asks that publisher alone for images, and
--- passes on that publisher's messages alone.
+-- What the bridge puts for a subscription on a topic: whatever holds of the messages that are sent to it holds of those
+-- that are passed on, and what holds of each sender of which a recap is wished, and of the first publisher of the topic,
+-- holds of each publisher that is asked for an image. No update is ever asked for.
 use Rattle.std.specs.Prelude.{◌-◌, ◌&&◌, not, position, slice_index, if◌then◌else◌, Option, None, Some}
 use Rattle.std.specs.List.{AllByRecursion, list_any, flat_map}
 use Rattle.std.specs.Option.{option_or}
-use Rattle.std.proofs.Common.{◌≡◌, ℕ, ◌+◌, ◌==◌, true, false, List, [], ◌∷◌, ◌++◌, map, refl, sym, subst, arith}
+use Rattle.std.proofs.Common.{◌≡◌, ℕ, ◌==◌, true, false, List, [], ◌∷◌, ◌++◌, map, refl, sym, subst}
 use Rattle.std.proofs.lemmas.Bool.Decides.{Decides-eqb}
 use Rattle.mama_msg.specs.Field.{FieldData}
 use Rattle.mama_journal.specs.Journal.{all_puts, turns, first_said, numbers_below}
@@ -27,53 +28,55 @@ use Rattle.mama_event.specs.declared.to_publisher.PublisherNote.{PublisherNote}
 use Rattle.mama_event.specs.declared.to_publisher.PublisherNote.TheVariants as p
 use Rattle.mama_event.specs.declared.to_queue.Make.TheVariants as make
 use Rattle.mama_event.specs.declared.to_timers.TimersNote.TheVariants as t
+use Rattle.mama_dq.specs.Table.{is_update}
 use Rattle.mama_rules.specs.Bridge.{BridgeEvent, joins, leaves, opens, closes, asks, publishes, images, replies, wishes, client_done, sends_done, settled, bye, no_event, terms_in, is_live, live_subs, open_inboxes, sent_to, sent_with, window, faults_of, inbox_faults_of, inbox_terms_in, reply_window, replied_to, joins_sub, opens_inbox, is_open, is_settling, has_ending, free_slot, may_wish, BridgePut, to_publisher, to_queue, to_timers, place_of, to_place, to_found, to_first, wants_image, delivered, replied, gone, passed_on, passed, passed_reply, ended, ended_inbox, answer, settle_begins, ending_comes, bridge_reaction}
 use Rattle.mama_legal.proofs.Lives.{same_sub-is}
 use Rattle.mama_genuine.proofs.Elements.{all_append, all_if, all_flat_map, all_flat, all_mapped, all_puts_known, all_puts_so_far, all_each}
 use Rattle.mama_genuine.proofs.Linked.{all_passed_on, all_rest}
-use Rattle.mama_genuine.proofs.Asking.{Own}
 use Rattle.mama_genuine.proofs.Wishing.{Brings}
 
-module _ (shape : Shape) (s : SubId) (wanted r : ℕ) (first : (n : ℕ) → position (λ (topic : ℕ). topic == wanted) shape.publisher_topics ≡ Some n → n ≡ r) where
-  -- the event joins the subscription on the topic alone, and what it brings or wishes is of the publisher
+-- a publisher that is asked for an image of the subscription is such, and no publisher is asked for an update
+abbrev pub Wants : SubId → (ℕ → Type 0) → ℕ → PublisherNote → Type 0
+Wants s Asked n (p.Want sub kind) = (is_update kind ≡ false) × (same_sub sub s ≡ true → Asked n)
+Wants s Asked n (p.Ask inbox fids) = Unit {0}
+Wants s Asked n p.Settle = Unit {0}
+Wants s Asked n p.Fin = Unit {0}
+
+module _ (shape : Shape) (s : SubId) (wanted : ℕ) (Mine : MarketMsg → Type 0) (Wished Asked : ℕ → Type 0)
+    (first : (n : ℕ) → position (λ (topic : ℕ). topic == wanted) shape.publisher_topics ≡ Some n → Asked n)
+    (asked : (sender : ℕ) → Wished sender → Asked (sender - 1)) where
+  -- the event joins the subscription on the topic alone, and what it brings or wishes is such
   abbrev pub Feeds : BridgeEvent → Type 0
   Feeds (joins sub terms tag) = same_sub sub s ≡ true → terms.topic ≡ wanted
   Feeds (leaves sub) = Unit {0}
   Feeds (opens i terms tag) = Unit {0}
   Feeds (closes i) = Unit {0}
   Feeds (asks i topic fids) = Unit {0}
-  Feeds (publishes n msg) = slice_index shape.publisher_topics n ≡ wanted → Own (r + 1) msg
-  Feeds (images sub msg) = same_sub sub s ≡ true → Own (r + 1) msg
+  Feeds (publishes n msg) = slice_index shape.publisher_topics n ≡ wanted → Mine msg
+  Feeds (images sub msg) = same_sub sub s ≡ true → Mine msg
   Feeds (replies i body) = Unit {0}
-  Feeds (wishes sub sender) = same_sub sub s ≡ true → sender ≡ r + 1
+  Feeds (wishes sub sender) = same_sub sub s ≡ true → Wished sender
   Feeds (client_done c) = Unit {0}
   Feeds (sends_done n) = Unit {0}
   Feeds (settled n) = Unit {0}
   Feeds (bye k) = Unit {0}
   Feeds no_event = Unit {0}
 
-  -- no other publisher is asked for an image of the subscription
-  abbrev pub WantsOf : ℕ → PublisherNote → Type 0
-  WantsOf n (p.Want sub kind) = same_sub sub s ≡ true → n ≡ r
-  WantsOf n (p.Ask inbox fids) = Unit {0}
-  WantsOf n p.Settle = Unit {0}
-  WantsOf n p.Fin = Unit {0}
-
   abbrev pub InPut : BridgePut → Type 0
-  InPut (to_publisher n note) = WantsOf n note
-  InPut (to_queue k note) = Brings s (r + 1) note
+  InPut (to_publisher n note) = Wants s Asked n note
+  InPut (to_queue k note) = Brings s Mine note
   InPut (to_timers note) = Unit {0}
 
   -- ---- what goes into the link
 
-  all_sent_to : (e : BridgeEvent) → Feeds e → AllByRecursion (Own (r + 1)) (sent_to shape s wanted e)
+  all_sent_to : (e : BridgeEvent) → Feeds e → AllByRecursion Mine (sent_to shape s wanted e)
   all_sent_to (publishes n msg) h =
-      (elim (slice_index shape.publisher_topics n == wanted) as (λ c. (slice_index shape.publisher_topics n == wanted) ≡ c → AllByRecursion (Own (r + 1)) (if c then msg ∷ [] else [])) [
+      (elim (slice_index shape.publisher_topics n == wanted) as (λ c. (slice_index shape.publisher_topics n == wanted) ≡ c → AllByRecursion Mine (if c then msg ∷ [] else [])) [
         | true ↦ λ same. (h ((Decides-eqb (slice_index shape.publisher_topics n) wanted).0 same), tt)
         | false ↦ λ other. tt
       ]) refl
   all_sent_to (images sub msg) h =
-      (elim (same_sub sub s) as (λ c. same_sub sub s ≡ c → AllByRecursion (Own (r + 1)) (if c then msg ∷ [] else [])) [
+      (elim (same_sub sub s) as (λ c. same_sub sub s ≡ c → AllByRecursion Mine (if c then msg ∷ [] else [])) [
         | true ↦ λ same. (h same, tt)
         | false ↦ λ other. tt
       ]) refl
@@ -99,28 +102,28 @@ module _ (shape : Shape) (s : SubId) (wanted r : ℕ) (first : (n : ℕ) → pos
   said_topic [] all = tt
   said_topic (e ∷ es) all = or_topic (terms_in s e) (first_said (terms_in s) es) (term_topic e all.0) (said_topic es all.1)
 
-  all_sent_with : (terms : Option SubTerms) → OnTopic terms → (e : BridgeEvent) → Feeds e → AllByRecursion (Own (r + 1)) (sent_with shape s terms e)
+  all_sent_with : (terms : Option SubTerms) → OnTopic terms → (e : BridgeEvent) → Feeds e → AllByRecursion Mine (sent_with shape s terms e)
   all_sent_with None on e h = tt
-  all_sent_with (Some terms) on e h = subst (λ (topic : ℕ). AllByRecursion (Own (r + 1)) (sent_to shape s topic e)) (sym on) (all_sent_to e h)
+  all_sent_with (Some terms) on e h = subst (λ (topic : ℕ). AllByRecursion Mine (sent_to shape s topic e)) (sym on) (all_sent_to e h)
 
-  all_sent : (before : List BridgeEvent) (e : BridgeEvent) → AllByRecursion Feeds before → Feeds e → AllByRecursion (Own (r + 1)) (sent_with shape s (first_said (terms_in s) before) e)
+  all_sent : (before : List BridgeEvent) (e : BridgeEvent) → AllByRecursion Feeds before → Feeds e → AllByRecursion Mine (sent_with shape s (first_said (terms_in s) before) e)
   all_sent before e all h = all_sent_with (first_said (terms_in s) before) (said_topic before all) e h
 
-  all_window : (es : List BridgeEvent) → AllByRecursion Feeds es → AllByRecursion (Own (r + 1)) (window shape s es)
+  all_window : (es : List BridgeEvent) → AllByRecursion Feeds es → AllByRecursion Mine (window shape s es)
   all_window es all =
-      all_puts_known Feeds (Own (r + 1)) (λ (before : List BridgeEvent) (e : BridgeEvent). if is_live shape s before then sent_with shape s (first_said (terms_in s) before) e else [])
-      (λ before e so h. all_if (Own (r + 1)) (is_live shape s before) (sent_with shape s (first_said (terms_in s) before) e) [] (all_sent before e so h) tt) [] es tt all
+      all_puts_known Feeds Mine (λ (before : List BridgeEvent) (e : BridgeEvent). if is_live shape s before then sent_with shape s (first_said (terms_in s) before) e else [])
+      (λ before e so h. all_if Mine (is_live shape s before) (sent_with shape s (first_said (terms_in s) before) e) [] (all_sent before e so h) tt) [] es tt all
 
   -- ---- what the bridge puts
 
-  placed : (place : Option (ℕ × ℕ)) (event : ℕ → QueueNote) → ((slot : ℕ) → Brings s (r + 1) (event slot)) → AllByRecursion InPut (to_place place event)
+  placed : (place : Option (ℕ × ℕ)) (event : ℕ → QueueNote) → ((slot : ℕ) → Brings s Mine (event slot)) → AllByRecursion InPut (to_place place event)
   placed None event h = tt
   placed (Some place) event h = (h place.1, tt)
 
-  all_delivered : (sub : SubId) (sofar : List BridgePut) (msgs : List MarketMsg) → (same_sub sub s ≡ true → AllByRecursion (Own (r + 1)) msgs) → AllByRecursion InPut (delivered sub sofar msgs)
+  all_delivered : (sub : SubId) (sofar : List BridgePut) (msgs : List MarketMsg) → (same_sub sub s ≡ true → AllByRecursion Mine msgs) → AllByRecursion InPut (delivered sub sofar msgs)
   all_delivered sub sofar msgs all =
-      all_flat_map (λ (m : MarketMsg). same_sub sub s ≡ true → Own (r + 1) m) InPut (λ (m : MarketMsg). to_place (place_of (Sub sub) sofar) (λ slot. q.Deliver slot sub m))
-      (λ m h. placed (place_of (Sub sub) sofar) (λ slot. q.Deliver slot sub m) (λ slot. h)) msgs (all_each (same_sub sub s ≡ true) (λ same. Own (r + 1)) msgs all)
+      all_flat_map (λ (m : MarketMsg). same_sub sub s ≡ true → Mine m) InPut (λ (m : MarketMsg). to_place (place_of (Sub sub) sofar) (λ slot. q.Deliver slot sub m))
+      (λ m h. placed (place_of (Sub sub) sofar) (λ slot. q.Deliver slot sub m) (λ slot. h)) msgs (all_each (same_sub sub s ≡ true) (λ same. Mine) msgs all)
 
   all_replied : (i : InboxId) (sofar : List BridgePut) (bodies : List (List FieldData)) → AllByRecursion InPut (replied i sofar bodies)
   all_replied i sofar bodies =
@@ -130,7 +133,7 @@ module _ (shape : Shape) (s : SubId) (wanted r : ℕ) (first : (n : ℕ) → pos
   all_gone : (o : ObjectId) (sofar : List BridgePut) → AllByRecursion InPut (gone o sofar)
   all_gone o sofar = placed (place_of o sofar) (λ slot. q.Gone slot o) (λ slot. tt)
 
-  all_found : (found : Option ℕ) (note : PublisherNote) → ((n : ℕ) → found ≡ Some n → WantsOf n note) → AllByRecursion InPut (to_found found note)
+  all_found : (found : Option ℕ) (note : PublisherNote) → ((n : ℕ) → found ≡ Some n → Wants s Asked n note) → AllByRecursion InPut (to_found found note)
   all_found None note h = tt
   all_found (Some n) note h = (h n refl, tt)
 
@@ -138,15 +141,12 @@ module _ (shape : Shape) (s : SubId) (wanted r : ℕ) (first : (n : ℕ) → pos
   wants_first : (topic : ℕ) (sub : SubId) → (same_sub sub s ≡ true → topic ≡ wanted) → AllByRecursion InPut (to_first shape topic (p.Want sub Initial))
   wants_first topic sub on =
       all_found (position (λ (n : ℕ). n == topic) shape.publisher_topics) (p.Want sub Initial)
-      (λ n found same. first n (subst (λ (wished : ℕ). position (λ (m : ℕ). m == wished) shape.publisher_topics ≡ Some n) (on same) found))
+      (λ n found. (refl, λ same. first n (subst (λ (wished : ℕ). position (λ (m : ℕ). m == wished) shape.publisher_topics ≡ Some n) (on same) found)))
 
   all_wanted : (sub : SubId) (kind : SubKind) (topic : ℕ) → (same_sub sub s ≡ true → topic ≡ wanted) → AllByRecursion InPut (wants_image shape sub kind topic)
   all_wanted sub Basic topic on = tt
   all_wanted sub Market topic on = wants_first topic sub on
   all_wanted sub Snapshot topic on = wants_first topic sub on
-
-  less_one : (sender : ℕ) → sender ≡ r + 1 → sender - 1 ≡ r
-  less_one sender is = omega arith
 
   module _ (before : List BridgeEvent) (sofar : List BridgePut) (all : AllByRecursion Feeds before) where
     abbrev faults : SubId → List FaultRow
@@ -155,15 +155,15 @@ module _ (shape : Shape) (s : SubId) (wanted r : ℕ) (first : (n : ℕ) → pos
     all_passed : (e : BridgeEvent) (sub : SubId) → Feeds e → AllByRecursion InPut (passed shape before sofar e sub)
     all_passed e sub h =
         all_delivered sub sofar (passed_on (faults sub) (window shape sub before) (sent_with shape sub (first_said (terms_in sub) before) e))
-        (λ same. subst (λ (x : SubId). AllByRecursion (Own (r + 1)) (passed_on (faults x) (window shape x before) (sent_with shape x (first_said (terms_in x) before) e))) (sym (same_sub-is sub s same))
-        (all_passed_on (Own (r + 1)) (faults s) (window shape s before) (sent_with shape s (first_said (terms_in s) before) e) (all_window before all) (all_sent before e all h)))
+        (λ same. subst (λ (x : SubId). AllByRecursion Mine (passed_on (faults x) (window shape x before) (sent_with shape x (first_said (terms_in x) before) e))) (sym (same_sub-is sub s same))
+        (all_passed_on Mine (faults s) (window shape s before) (sent_with shape s (first_said (terms_in s) before) e) (all_window before all) (all_sent before e all h)))
 
     all_ended : (sub : SubId) → AllByRecursion InPut (ended shape before sofar sub)
     all_ended sub =
         all_append InPut (delivered sub sofar (rest (faults sub) (window shape sub before))) (gone (Sub sub) sofar)
         (all_delivered sub sofar (rest (faults sub) (window shape sub before))
-        (λ same. subst (λ (x : SubId). AllByRecursion (Own (r + 1)) (rest (faults x) (window shape x before))) (sym (same_sub-is sub s same))
-        (all_rest (Own (r + 1)) (faults s) (window shape s before) (all_window before all))))
+        (λ same. subst (λ (x : SubId). AllByRecursion Mine (rest (faults x) (window shape x before))) (sym (same_sub-is sub s same))
+        (all_rest Mine (faults s) (window shape s before) (all_window before all))))
         (all_gone (Sub sub) sofar)
 
     all_ended_inbox : (i : InboxId) → AllByRecursion InPut (ended_inbox shape before sofar i)
@@ -191,7 +191,7 @@ module _ (shape : Shape) (s : SubId) (wanted r : ℕ) (first : (n : ℕ) → pos
         (all_replied i sofar (passed_on (inbox_faults_of (first_said (inbox_terms_in i) before)) (reply_window shape i before) (replied_to i (replies i body)))) tt
     all_answered (wishes sub sender) h =
         all_if InPut (is_live shape sub before && may_wish shape before sofar sub sender (first_said (terms_in sub) before)) (to_publisher (sender - 1) (p.Want sub Recap) ∷ []) []
-        (λ same. less_one sender (h same), tt) tt
+        ((refl, λ same. asked sender (h same)), tt) tt
     all_answered _ h = tt
 
     all_settling : (e : BridgeEvent) → AllByRecursion InPut (settle_begins shape before e)

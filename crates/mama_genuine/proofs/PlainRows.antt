@@ -1,7 +1,7 @@
 -- Worked rows of plain links, and of what is given, computed by their definitions.
-use Rattle.std.specs.Prelude.{Some, Option, if◌then◌else◌}
+use Rattle.std.specs.Prelude.{Some}
 use Rattle.std.specs.List.{filter}
-use Rattle.std.proofs.Common.{◌≡◌, ℕ, suc, false, List, [], ◌∷◌, ◌++◌, refl, ◌∙◌, ap, subst}
+use Rattle.std.proofs.Common.{◌≡◌, ℕ, false, List, [], ◌∷◌, ◌++◌, refl, ◌∙◌, ap, subst}
 use Rattle.mama_link.specs.declared.faults.FaultRow.{FaultRow}
 use Rattle.mama_link.specs.declared.faults.Fault.TheVariants.{Lose}
 use Rattle.mama_event.specs.declared.ids.SubId.{SubId}

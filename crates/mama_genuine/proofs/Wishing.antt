@@ -1,4 +1,4 @@
--- A queue wishes recaps for a subscription of the sender alone that all its messages are of.
+-- A queue wishes recaps for a subscription of the sender alone that all its updates are of.
 use Rattle.std.specs.Prelude.{◌&&◌, not, if◌then◌else◌, Option, Some, None}
 use Rattle.std.specs.List.{AllByRecursion, flat_map}
 use Rattle.std.proofs.Common.{◌≡◌, ℕ, ◌+◌, ◌==◌, true, false, List, [], ◌∷◌, ◌++◌, map, length, refl, sym, subst}
@@ -24,17 +24,20 @@ use Rattle.mama_dq.specs.Strategy.{callbacks_of}
 use Rattle.mama_queue_rules.specs.Queue.{Deed, handled, called, calls_of, messages_in, messages_of, is_muted, is_destroy, made, make_in, context_of, served, deeds, deeds_at, QueuePut, to_bridge, to_timers, order_put, wish_put, puts_of, is_fin, bye_put, queue_puts_at}
 use Rattle.mama_legal.proofs.Lives.{same_sub-is}
 use Rattle.mama_genuine.proofs.Elements.{all_append, all_if, all_flat_map, all_mapped, all_puts_known, all_puts_so_far}
-use Rattle.mama_genuine.proofs.Asking.{Asks, Own, all_ask}
+use Rattle.mama_genuine.proofs.Asking.{Asks, OwnUpdate, all_ask}
+
+-- the note brings the subscription no other message than such
+abbrev pub Brings : SubId → (MarketMsg → Type 0) → QueueNote → Type 0
+Brings s Such (q.Create slot object make tag) = Unit {0}
+Brings s Such (q.Deliver slot sub msg) = same_sub sub s ≡ true → Such msg
+Brings s Such (q.Reply slot inbox body) = Unit {0}
+Brings s Such (q.Tick slot timer moment) = Unit {0}
+Brings s Such (q.Gone slot object) = Unit {0}
+Brings s Such q.Fin = Unit {0}
 
 module _ (s : SubId) (own : ℕ) where
-  -- the note brings the subscription no message of another sender
-  abbrev pub Brings : QueueNote → Type 0
-  Brings (q.Create slot object make tag) = Unit {0}
-  Brings (q.Deliver slot sub msg) = same_sub sub s ≡ true → Own own msg
-  Brings (q.Reply slot inbox body) = Unit {0}
-  Brings (q.Tick slot timer moment) = Unit {0}
-  Brings (q.Gone slot object) = Unit {0}
-  Brings q.Fin = Unit {0}
+  abbrev Mine : MarketMsg → Type 0
+  Mine = OwnUpdate own
 
   -- the note wishes the subscription no recap of another sender
   abbrev pub Wishes : BridgeNote → Type 0
@@ -46,7 +49,7 @@ module _ (s : SubId) (own : ℕ) where
   WishPut (to_timers note) = Unit {0}
 
   abbrev InDeed : Deed → Type 0
-  InDeed (handled sub msg) = same_sub sub s ≡ true → Own own msg
+  InDeed (handled sub msg) = same_sub sub s ≡ true → Mine msg
   InDeed (called object call given) = same_object object (Sub s) ≡ true → Asks own call
 
   -- ---- what a queue does
@@ -61,15 +64,15 @@ module _ (s : SubId) (own : ℕ) where
         (all_made o sofar cs (λ same. (each same).1))
         (λ same. (each same).0, all_made o (sofar ++ deed ∷ []) cs (λ same. (each same).1))
 
-    all_in : (d : Deed) → InDeed d → AllByRecursion (Own own) (messages_in s d)
+    all_in : (d : Deed) → InDeed d → AllByRecursion Mine (messages_in s d)
     all_in (handled sub msg) h =
-        (elim (same_sub sub s) as (λ c. same_sub sub s ≡ c → AllByRecursion (Own own) (if c then msg ∷ [] else [])) [
+        (elim (same_sub sub s) as (λ c. same_sub sub s ≡ c → AllByRecursion Mine (if c then msg ∷ [] else [])) [
           | true ↦ λ same. (h same, tt)
           | false ↦ λ other. tt
         ]) refl
     all_in (called object call given) h = tt
 
-    asked : (how : Option Make) (messages : List MarketMsg) (msg : MarketMsg) → AllByRecursion (Own own) messages → Own own msg
+    asked : (how : Option Make) (messages : List MarketMsg) (msg : MarketMsg) → AllByRecursion Mine messages → Mine msg
         → AllByRecursion (Asks own) (callbacks_of (context_of how messages) msg)
     asked (Some (make.Sub kind cache)) messages msg all is = all_ask own kind cache messages msg all is
     asked (Some make.Timer) messages msg all is = all_ask own Basic 0 messages msg all is
@@ -80,12 +83,12 @@ module _ (s : SubId) (own : ℕ) where
       abbrev calls_for : SubId → MarketMsg → List Callback
       calls_for sub msg = callbacks_of (context_of (first_said (λ (e : ℕ × QueueNote). make_in (Sub sub) e.1) before) (messages_of sub sofar)) msg
 
-      delivered : (sub : SubId) (msg : MarketMsg) → (same_sub sub s ≡ true → Own own msg) → same_sub sub s ≡ true → AllByRecursion (Asks own) (calls_for sub msg)
+      delivered : (sub : SubId) (msg : MarketMsg) → (same_sub sub s ≡ true → Mine msg) → same_sub sub s ≡ true → AllByRecursion (Asks own) (calls_for sub msg)
       delivered sub msg h same =
           subst (λ (r : SubId). AllByRecursion (Asks own) (calls_for r msg)) (sym (same_sub-is sub s same))
-          (asked (first_said (λ (e : ℕ × QueueNote). make_in (Sub s) e.1) before) (messages_of s sofar) msg (all_flat_map InDeed (Own own) (messages_in s) all_in sofar so) (h same))
+          (asked (first_said (λ (e : ℕ × QueueNote). make_in (Sub s) e.1) before) (messages_of s sofar) msg (all_flat_map InDeed (Mine) (messages_in s) all_in sofar so) (h same))
 
-      all_served : (note : QueueNote) → Brings note → AllByRecursion InDeed (served orders before sofar note)
+      all_served : (note : QueueNote) → Brings s Mine note → AllByRecursion InDeed (served orders before sofar note)
       all_served (q.Create slot object make tag) h = all_made object sofar (on.Create ∷ []) (λ same. (tt, tt))
       all_served (q.Deliver slot sub msg) h =
           all_if InDeed (is_muted (Sub sub) sofar) [] (handled sub msg ∷ made orders (Sub sub) (sofar ++ handled sub msg ∷ []) (calls_for sub msg))
@@ -96,7 +99,7 @@ module _ (s : SubId) (own : ℕ) where
       all_served q.Fin h = tt
 
     abbrev Taken : ℕ × QueueNote → Type 0
-    Taken e = Brings e.1
+    Taken e = Brings s Mine e.1
 
     all_deeds : (journal : List (ℕ × QueueNote)) → AllByRecursion Taken journal → AllByRecursion InDeed (deeds orders journal)
     all_deeds journal all =

@@ -14,6 +14,7 @@ use Rattle.mama_rounds.specs.Client.{Planned}
 use Rattle.mama_rounds.specs.Round.{IsRound, setting_of}
 use Rattle.mama_legal.specs.Edges.{client_puts}
 use Rattle.mama_legal.specs.Streams.{terms_put}
+use Rattle.mama_legal.specs.Legal.{IsLegal}
 use Rattle.mama_legal.specs.Laws.{IsOrderly}
 use Rattle.mama_genuine.specs.Faultless.{IsCalm}
 
@@ -48,6 +49,10 @@ pub record HasCalmCalls (script : ScriptData) (p : Planned) (c : ObjectCalls) : 
 abbrev pub AreLinksCalm : ScriptData → RunData → Type 0
 AreLinksCalm script run = AllZip (HasCalmCalls script) (setting_of script).objects run.calls
 
--- so it is in the record of a run in rounds
+-- so it is in every legal record, whichever thread ran what when
+abbrev pub LegalLinksAreCalm : Type 0
+LegalLinksAreCalm = (script : ScriptData) (run : RunData) → IsOrderly script → IsLegal script run → AreLinksCalm script run
+
+-- and in the record of a run in rounds
 abbrev pub RoundLinksAreCalm : Type 0
 RoundLinksAreCalm = (script : ScriptData) (run : RunData) → IsOrderly script → IsRound script run → AreLinksCalm script run

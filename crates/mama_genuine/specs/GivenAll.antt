@@ -18,6 +18,7 @@ use Rattle.mama_script.specs.Script.{ScriptData}
 use Rattle.mama_rounds.specs.Client.{Planned}
 use Rattle.mama_rounds.specs.World.{Setting, orders_by}
 use Rattle.mama_rounds.specs.Round.{IsRound, setting_of}
+use Rattle.mama_legal.specs.Legal.{IsLegal}
 use Rattle.mama_legal.specs.Laws.{IsOrderly}
 use Rattle.mama_genuine.specs.CalmLinks.{HasPlainLink}
 
@@ -70,6 +71,10 @@ pub record HasAllGiven (script : ScriptData) (run : RunData) (p : Planned) (c : 
 abbrev pub AreAllGiven : ScriptData → RunData → Type 0
 AreAllGiven script run = AllZip (HasAllGiven script run) (setting_of script).objects run.calls
 
--- so it is in the record of a run in rounds
+-- so it is in every legal record, whichever thread ran what when
+abbrev pub LegalUpdatesAreGiven : Type 0
+LegalUpdatesAreGiven = (script : ScriptData) (run : RunData) → IsOrderly script → IsLegal script run → AreAllGiven script run
+
+-- and in the record of a run in rounds
 abbrev pub RoundUpdatesAreGiven : Type 0
 RoundUpdatesAreGiven = (script : ScriptData) (run : RunData) → IsOrderly script → IsRound script run → AreAllGiven script run

@@ -1,7 +1,7 @@
-ghost use Rattle.mama_genuine.specs.CalmLinks.{RoundLinksAreCalm};
+ghost use Rattle.mama_genuine.specs.CalmLinks.{LegalLinksAreCalm, RoundLinksAreCalm};
 ghost use Rattle.mama_genuine.specs.Faultless.{FaultlessLinksAreCalm};
 ghost use Rattle.mama_genuine.specs.Order.{WindowsAreInOrder};
-ghost use Rattle.mama_genuine.specs.GivenAll.{RoundUpdatesAreGiven};
+ghost use Rattle.mama_genuine.specs.GivenAll.{LegalUpdatesAreGiven, RoundUpdatesAreGiven};
 ghost use Rattle.mama_genuine.specs.Gaps.{ToldGapsAreTrue, RoundGapsAreTrue};
 ghost use Rattle.mama_genuine.specs.Records.{OkImagesAreRecords, RoundImagesAreRecords};
 ghost use Rattle.mama_genuine.specs.Sent.{DeliveredMessagesAreSent, GivenMessagesAreSent, RoundGivenAreSent, RoundMessagesAreSent};
@@ -68,15 +68,25 @@ pub fn told_gaps_of_rounds_are_true()
     ensures { RoundGapsAreTrue }
 {}
 
-/// A law: in the record of a run in rounds a subscription whose line has no fault rows, on a topic that exactly one
-/// publisher of the script has, is told no gap and no change of quality, and asks for no recap.
+/// A law: in a legal record a subscription whose line has no fault rows, on a topic that exactly one publisher of the
+/// script has, is told no gap and no change of quality, and asks for no recap.
+pub fn links_of_legal_records_are_calm()
+    ensures { LegalLinksAreCalm }
+{}
+
+/// A law: so it is in the record of a run in rounds.
 pub fn links_of_rounds_are_calm()
     ensures { RoundLinksAreCalm }
 {}
 
-/// A law: in the record of a run in rounds a market subscription whose line has no fault rows, on a topic that exactly one
-/// publisher of the script has, is given each message that was sent to it while it was live, from its first image on,
-/// once and in order, unless it was muted: and so each update that is numbered above that image.
+/// A law: in a legal record a market subscription whose line has no fault rows, on a topic that exactly one publisher of
+/// the script has, is given each message that was sent to it while it was live, from its first image on, once and in
+/// order, unless it was muted: and so each update that is numbered above that image.
+pub fn updates_of_legal_records_are_given()
+    ensures { LegalUpdatesAreGiven }
+{}
+
+/// A law: so it is in the record of a run in rounds.
 pub fn updates_of_rounds_are_given()
     ensures { RoundUpdatesAreGiven }
 {}

@@ -10,18 +10,19 @@
 //! a hole ([`windows_are_in_order`], `specs/Order.antt`); and where that link has no faults, its listener is told no gap and
 //! no change of quality ([`faultless_links_are_calm`], `specs/Faultless.antt`).
 //!
-//! In a run in rounds one publisher alone feeds a subscription if exactly one publisher of the script has its topic. So
-//! where its line has no fault rows it is told no gap and no change of quality ([`links_of_rounds_are_calm`],
-//! `specs/CalmLinks.antt`), and a market subscription is given all updates ([`updates_of_rounds_are_given`],
-//! `specs/GivenAll.antt`). That needs rounds: a recap is wished of the sender whose messages came, and it comes of the
-//! publisher that was asked, so it is by the order in which things happen that no other publisher is ever asked.
+//! In a legal record one publisher alone feeds a subscription if exactly one publisher of the script has its topic. So
+//! where its line has no fault rows it is told no gap and no change of quality ([`links_of_legal_records_are_calm`],
+//! `specs/CalmLinks.antt`), and a market subscription is given all updates ([`updates_of_legal_records_are_given`],
+//! `specs/GivenAll.antt`). The reason is in the rules alone, and not in the order in which things happen: a recap is
+//! wished only of a sender whose updates came, and no publisher is asked for an update.
 #![tactic(auto)]
 
 mod laws;
 
 pub use laws::{
     delivered_messages_are_sent, faultless_links_are_calm, given_messages_are_sent,
-    given_messages_of_rounds_are_sent, links_of_rounds_are_calm, messages_of_rounds_are_sent,
-    ok_images_are_records, ok_images_of_rounds_are_records, told_gaps_are_true,
-    told_gaps_of_rounds_are_true, updates_of_rounds_are_given, windows_are_in_order,
+    given_messages_of_rounds_are_sent, links_of_legal_records_are_calm, links_of_rounds_are_calm,
+    messages_of_rounds_are_sent, ok_images_are_records, ok_images_of_rounds_are_records,
+    told_gaps_are_true, told_gaps_of_rounds_are_true, updates_of_legal_records_are_given,
+    updates_of_rounds_are_given, windows_are_in_order,
 };

@@ -1,6 +1,6 @@
 ghost use Rattle.std.specs.Prelude.{List, ℕ, ⊤, ◌≡◌, ◌≢◌, ◌+◌, ◌<◌, ◌↔◌, [], Some, None, Bool, true, false, map, take, length, string_bytes, Err, IfOk, IfErr, IfSome};
 ghost use Rattle.mama_edge.specs.Count.{Rose};
-ghost use Rattle.mama_edge.specs.Told.{Appended, Lost};
+ghost use Rattle.mama_edge.specs.Told.{Appended, Lost, LostAtMost};
 ghost use Rattle.mama_script.specs.Reading.{script_in};
 ghost use Rattle.mama_script.specs.declared.fault.ScriptFault.TheVariants as script;
 ghost use Rattle.mama_seats.specs.Moments.{AreHeard};
@@ -62,11 +62,15 @@ pub fn run_plain<S: Source, K: Sink, C: Clock>(
     ensures read_fault { result ≡ Status.ReadFault → Rose (S.faults source.old) (S.faults source.new) }
     ensures write_fault { IfWriteFault result (λ written. Rose (K.faults sink.old) (K.faults sink.new)) }
 
-    // The input is too long only where one byte more than the limit was taken.
+    // At a read fault no more than the limit was taken. The input is too long only where one byte more was.
+    ensures read_part { result ≡ Status.ReadFault → LostAtMost (S.left source.old) (S.left source.new) 67108864 }
     ensures too_long { IfOverLimit result (λ line limit. line ≡ 0 → (limit ≡ 1) × Lost (S.left source.old) (S.left source.new) 67108865) }
 
     // At every answer but Ok, that a log is not legal, and a write fault, nothing was written.
     ensures silent { OnSilent result (sink.new ≡ sink.old) }
+
+    // Only serial calls the clock.
+    ensures still { is_serial (map string_bytes words.now) ≡ false → clock.new ≡ clock.old }
 
     // SERIAL
 
