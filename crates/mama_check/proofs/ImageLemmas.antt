@@ -30,7 +30,7 @@ pub record Stand (ps : List Planned) (images : List LastImage) : Type 0 where
 same_is : (a b : SubId) → same_sub a b ≡ true → a ≡ b
 same_is a b h = (same_sub-Decides a b).0 h
 
-is_same : (a b : SubId) → a ≡ b → same_sub a b ≡ true
+pub is_same : (a b : SubId) → a ≡ b → same_sub a b ≡ true
 is_same a b h = (same_sub-Decides a b).1 h
 
 turned : (a b : SubId) → same_sub a b ≡ true → same_sub b a ≡ true
@@ -74,7 +74,7 @@ head_not p ps i images order other = record {
 }
 
 -- a subscription that is not among the objects has no image
-absent : (s : SubId) (ps : List Planned) (images : List LastImage) → times s ps ≡ 0 → Stand ps images → images_for (Sub s) images ≡ []
+pub absent : (s : SubId) (ps : List Planned) (images : List LastImage) → times s ps ≡ 0 → Stand ps images → images_for (Sub s) images ≡ []
 absent s ps [] none order = refl
 absent s [] (i ∷ images) none order = absurd (true≢false (sym order.stands))
 absent s (p ∷ ps) (i ∷ images) none order =

@@ -7,6 +7,7 @@ pub mod Alone
 pub mod ImageLemmas
 pub mod ImageWalk
 pub mod VerdictLemmas
+pub mod FormLaw
 pub mod BrokenLemmas
 pub mod CheckLemmas
 pub mod Causes

@@ -66,7 +66,7 @@ other_one s t h b other =
     ap (λ (d : Bool). if d then one else []) other
 
 module _ (setting : Setting) (queues : List (List (ℕ × QueueNote))) where
-  abbrev context : (p : Planned) (s : SubId) → ContextData
+  abbrev pub context : (p : Planned) (s : SubId) → ContextData
   context p s = context_of (first_said (λ (e : ℕ × QueueNote). make_in (Sub s) e.1) (slice_index_or queues p.queue [])) (messages_of s (deeds (orders_by setting) (slice_index_or queues p.queue [])))
 
   wanted_own : (p : Planned) (o : ObjectId) → images_for o (last_image setting queues (record p { object = o })) ≡ last_image setting queues (record p { object = o })

@@ -4,7 +4,7 @@ use Rattle.mama_event.specs.Ports.{queues_of}
 use Rattle.mama_script.specs.Script.{ScriptData}
 use Rattle.mama_record.specs.RunData.{RunData}
 use Rattle.mama_rounds.specs.Round.{setting_of}
-use Rattle.mama_form.specs.Form.{IsCounted}
+use Rattle.mama_form.specs.Form.{IsCounted, IsFormed}
 use Rattle.mama_legal.specs.Laws.{IsOrderly}
 use Rattle.mama_legal.specs.Legal.{IsLegal}
 use Rattle.mama_check.specs.Rules.{KeepsMoments, KeepsLines, KeepsPublisherEdge, KeepsBridgeEdges, KeepsTimersEdges, KeepsQueueEdges, KeepsCalls, KeepsImages}
@@ -24,3 +24,7 @@ pub record AreKept (script : ScriptData) (run : RunData) : Type 0 where
 -- of subscriptions, timers and inboxes and the last events, follows from the edges.
 abbrev pub KeptIsLegal : Type 0
 KeptIsLegal = (script : ScriptData) (run : RunData) → IsOrderly script → IsCounted script run → AreKept script run ↔ IsLegal script run
+
+-- A law: a legal record has the form of the script's records, so that it may be judged.
+abbrev pub LegalIsFormed : Type 0
+LegalIsFormed = (script : ScriptData) (run : RunData) → IsLegal script run → IsFormed script run

@@ -1,4 +1,4 @@
-ghost use Rattle.mama_check.specs.Kept.{KeptIsLegal};
+ghost use Rattle.mama_check.specs.Kept.{KeptIsLegal, LegalIsFormed};
 ghost use Rattle.mama_check.specs.Verdict.{LegalIsTrue};
 
 use mama_callbacks::{legal_records_tell_all, legal_records_tell_plainly};
@@ -11,6 +11,11 @@ use mama_genuine::{
 /// objects of the script is legal exactly where all rules are kept.
 pub fn kept_rules_are_legal()
     ensures { KeptIsLegal }
+{}
+
+/// A law: a legal record has the form of the script's records, so that [`check`](crate::check) may judge it.
+pub fn legal_records_are_formed()
+    ensures { LegalIsFormed }
 {}
 
 /// A law: what a legal record promises is true of it.

@@ -27,7 +27,7 @@ pub use edges::{
 };
 pub use images::first_of_images;
 pub use judging::check;
-pub use laws::{kept_rules_are_legal, legal_records_are_true};
+pub use laws::{kept_rules_are_legal, legal_records_are_formed, legal_records_are_true};
 pub use lines::{first_of_lines, first_of_moments};
 pub use mama_memory::OutOfMemory;
 pub use objects::first_of_calls;

@@ -4,7 +4,7 @@ use Rattle.std.specs.List.{AllByRecursion, Contains}
 use Rattle.std.specs.Option.{option_or}
 use Rattle.std.proofs.Common.{◌≡◌, ℕ, ◌+◌, Bool, true, false, List, [], ◌∷◌, ◌++◌, length, refl, sym, ◌∙◌, ap, subst, inl, inr, ⊎_elim, append_assoc}
 use Rattle.std.proofs.lemmas.List.Concat.{flat_map-append}
-use Rattle.std.proofs.lemmas.List.Elements.{recursion_from_All, All-contains_itself}
+use Rattle.std.proofs.lemmas.List.Elements.{recursion_from_All, All-from_recursion, All-contains, All-contains_itself}
 use Rattle.mama_journal.specs.Journal.{puts_so_far, first_said}
 use Rattle.mama_event.specs.Object.{same_sub, same_object}
 use Rattle.mama_event.specs.EqualityLaws.{same_sub-Decides}
@@ -23,7 +23,7 @@ use Rattle.mama_event.specs.declared.to_queue.Make.TheVariants as make
 use Rattle.mama_event.specs.declared.to_queue.QueueNote.{QueueNote}
 use Rattle.mama_event.specs.declared.to_queue.QueueNote.TheVariants as q
 use Rattle.mama_dq.specs.Context.{ContextData, new_context}
-use Rattle.mama_dq.specs.Gap.{TellsTrueGap, stretch_of}
+use Rattle.mama_dq.specs.Gap.{IsTrueGap, TellsTrueGap, stretch_of}
 use Rattle.mama_dq.specs.Strategy.{step_by, callbacks_of, fold}
 use Rattle.mama_dq.proofs.GapLaw.{gap_law}
 use Rattle.mama_dq.proofs.StaleLaw.{stale_law}
@@ -54,6 +54,14 @@ module _ (orders : ObjectId → ℕ → List Order) (s : SubId) (how : Option Ma
   DeedTells messages (handled sub msg) = Unit {0}
   DeedTells messages (called object call given) = same_object object (Sub s) ≡ true → Tells messages call
 
+  -- each gap that a message tells is true, and it calls the image stale for a reason
+  gaps_true : (messages : List MarketMsg) (first to : ℕ) (other : IsMadeBy (kind_of how) (size_of how) messages (on.Gap first to))
+      → IsTrueGap (stretch_of (kind_of how) (size_of how) other.before other.message) other.message.sender first to
+  gaps_true messages first to other =
+      let True : Callback → Type 0 = TellsTrueGap (stretch_of (kind_of how) (size_of how) other.before other.message) other.message.sender in
+      let calls : List Callback = callbacks_of (fold (kind_of how) (size_of how) other.before) other.message in
+      All-contains True calls (on.Gap first to) (All-from_recursion True calls (gap_law (kind_of how) (size_of how) other.before other.message)) other.made
+
   -- what was told stays true while more messages are handled
   abbrev later_made : (messages more : List MarketMsg) (call : Callback) → IsMadeBy (kind_of how) (size_of how) messages call
       → IsMadeBy (kind_of how) (size_of how) (messages ++ more) call
@@ -66,9 +74,13 @@ module _ (orders : ObjectId → ℕ → List Order) (s : SubId) (how : Option Ma
   }
 
   later_tells : (messages more : List MarketMsg) (call : Callback) → Tells messages call → Tells (messages ++ more) call
-  later_tells messages more (on.Gap first to) told = record { by = later_made messages more (on.Gap first to) told.by; gap = told.gap }
+  later_tells messages more (on.Gap first to) told = record { by = later_made messages more (on.Gap first to) told.by; gap = told.gap; each = gaps_true (messages ++ more) first to }
   later_tells messages more (on.Quality quality.Ok n) told = later_made messages more (on.Quality quality.Ok n) told
-  later_tells messages more (on.Quality quality.Stale n) told = record { by = later_made messages more (on.Quality quality.Stale n) told.by; reason = told.reason }
+  later_tells messages more (on.Quality quality.Stale n) told = record {
+    by = later_made messages more (on.Quality quality.Stale n) told.by;
+    reason = told.reason;
+    each = λ other. stale_law (kind_of how) (size_of how) other.before other.message;
+  }
   later_tells messages more (on.RecapRequest sender) told = later_made messages more (on.RecapRequest sender) told
   later_tells messages more on.Create told = tt
   later_tells messages more (on.Msg m q) told = tt
@@ -99,9 +111,13 @@ module _ (orders : ObjectId → ℕ → List Order) (s : SubId) (how : Option Ma
     by_it call made = record { before = before; message = m; later = later; cut = cut; made = made }
 
     true_call : (call : Callback) → TellsTrueGap (stretch_of (kind_of how) (size_of how) before m) m.sender call × Contains own_calls call → Tells messages call
-    true_call (on.Gap first to) (gap, made) = record { by = by_it (on.Gap first to) made; gap = gap }
+    true_call (on.Gap first to) (gap, made) = record { by = by_it (on.Gap first to) made; gap = gap; each = gaps_true messages first to }
     true_call (on.Quality quality.Ok n) (gap, made) = by_it (on.Quality quality.Ok n) made
-    true_call (on.Quality quality.Stale n) (gap, made) = record { by = by_it (on.Quality quality.Stale n) made; reason = stale_law (kind_of how) (size_of how) before m }
+    true_call (on.Quality quality.Stale n) (gap, made) = record {
+      by = by_it (on.Quality quality.Stale n) made;
+      reason = stale_law (kind_of how) (size_of how) before m;
+      each = λ other. stale_law (kind_of how) (size_of how) other.before other.message;
+    }
     true_call (on.RecapRequest sender) (gap, made) = by_it (on.RecapRequest sender) made
     true_call on.Create both = tt
     true_call (on.Msg given q) both = tt

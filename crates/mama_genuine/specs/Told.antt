@@ -33,15 +33,20 @@ pub record IsMadeBy (kind : SubKind) (size : ℕ) (messages : List MarketMsg) (c
   pub made : Contains (callbacks_of (fold kind size before) message) call
 
 -- A gap is true of the messages that a subscription handled: one of them tells it, and each of its numbers is missing
--- among those up to that one, or was dropped by a full cache, since the subscription last turned to the sender.
+-- among those up to that one, or was dropped by a full cache, since the subscription last turned to the sender. So it is
+-- with each of the messages that tells it, if it is told more than once.
 pub record IsToldOf (kind : SubKind) (size : ℕ) (messages : List MarketMsg) (first to : ℕ) : Type 0 where
   pub by : IsMadeBy kind size messages (on.Gap first to)
   pub gap : IsTrueGap (stretch_of kind size by.before by.message) by.message.sender first to
+  pub each : (other : IsMadeBy kind size messages (on.Gap first to)) → IsTrueGap (stretch_of kind size other.before other.message) other.message.sender first to
 
--- The message that calls the image stale tells a gap right before, or turns the subscription to another sender.
+-- The message that calls the image stale tells a gap right before, or turns the subscription to another sender; and so
+-- does each, if it is called so more than once.
 pub record HasReason (kind : SubKind) (size : ℕ) (messages : List MarketMsg) (n : ℕ) : Type 0 where
   pub by : IsMadeBy kind size messages (on.Quality quality.Stale n)
   pub reason : (stale_after_gap false (callbacks_of (fold kind size by.before) by.message) ≡ true) ⊎ (action_of (fold kind size by.before) by.message ≡ Switch)
+  pub each : (other : IsMadeBy kind size messages (on.Quality quality.Stale n))
+      → (stale_after_gap false (callbacks_of (fold kind size other.before) other.message) ≡ true) ⊎ (action_of (fold kind size other.before) other.message ≡ Switch)
 
 abbrev pub TellsQuality : SubKind → ℕ → List MarketMsg → Quality → ℕ → Type 0
 TellsQuality kind size messages quality.Ok n = IsMadeBy kind size messages (on.Quality quality.Ok n)

@@ -6,17 +6,11 @@ use Rattle.mama_script.specs.Reading.{script_in}
 use Rattle.mama_script.specs.declared.fault.ScriptFault.TheVariants as f
 use Rattle.mama_record.specs.RunData.{RunData}
 use Rattle.mama_record.specs.LogText.{log_text}
-use Rattle.std.specs.List.{AllZip}
-use Rattle.mama_rounds.specs.Round.{IsRound, publishers_from, setting_of}
+use Rattle.mama_rounds.specs.Round.{IsRound}
 use Rattle.mama_seats.specs.Moments.{AreHeard}
 use Rattle.mama_legal.specs.Legal.{IsLegal}
-use Rattle.mama_callbacks.specs.Told.{AreTold}
-use Rattle.mama_callbacks.specs.Plain.{ArePlainlyTold}
-use Rattle.mama_genuine.specs.Sent.{AreSent, AreGivenSent}
-use Rattle.mama_genuine.specs.Records.{AreRecords}
-use Rattle.mama_genuine.specs.Gaps.{HasTrueGaps}
-use Rattle.mama_genuine.specs.CalmLinks.{AreLinksCalm}
-use Rattle.mama_genuine.specs.GivenAll.{AreAllGiven}
+use Rattle.mama_form.specs.Form.{IsFormed}
+use Rattle.mama_check.specs.Verdict.{IsTrue}
 use Rattle.mama_check.specs.declared.verdict.Actor.{Actor}
 use Rattle.mama_check.specs.declared.verdict.Verdict.{Verdict}
 use Rattle.mama_check.specs.declared.verdict.Verdict.TheVariants as verdict
@@ -41,18 +35,13 @@ pub record GaveAll (old new : Option (List ℕ)) (text : List ℕ) : Type 0 wher
 -- is its sender's record at its number; and each gap that was told is true. Where the line of a subscription has no fault
 -- rows, and exactly one publisher has its topic, it is told no gap and no change of quality; and if it is a market
 -- subscription, it is told just the messages from its first image on, each once and as ok, and so each update that the bridge
--- took between its Join and its first Leave or the ending with a number above that image's, unless it was muted.
+-- took between its Join and its first Leave or the ending with a number above that image's, unless it was muted. These are
+-- promised of every legal record (IsTrue). It has the form of the script's records, so that a checker may judge it.
 pub record IsRun (script : ScriptData) (run : RunData) : Type 0 where
   pub round : IsRound script run
   pub legal : IsLegal script run
-  pub told : AreTold script run
-  pub plainly : ArePlainlyTold script run
-  pub messages : AreSent (publishers_from 0 script.publishers) run.queues
-  pub given : AreGivenSent (publishers_from 0 script.publishers) run.calls
-  pub images : AreRecords (publishers_from 0 script.publishers) run.images
-  pub gaps : AllZip (HasTrueGaps (setting_of script) run.queues) (setting_of script).objects run.calls
-  pub calm : AreLinksCalm script run
-  pub updates : AreAllGiven script run
+  pub formed : IsFormed script run
+  pub promised : IsTrue script run
 
 -- The text spells an accepted script, and the log is that of a run of it, its ports named by the script's shape. The clock
 -- was called once for each line that reads it, in the order in which the rounds come to those lines, and the moments in

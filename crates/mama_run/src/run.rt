@@ -14,13 +14,9 @@ ghost use Rattle.mama_run.specs.Answers.{GaveAll, IsRun, IsLogOf, IsCause, IfWri
 use crate::check::write_verdict;
 use crate::command::{Command, command_of};
 use crate::status::{Status, script_status};
-use mama_callbacks::{rounds_tell_all, rounds_tell_plainly};
+use mama_check::{legal_records_are_formed, legal_records_are_true};
 use mama_drive::serial;
 use mama_edge::{Clock, ReadAll, Sink, Source, read_all, write_all_counted};
-use mama_genuine::{
-    given_messages_of_rounds_are_sent, links_of_rounds_are_calm, messages_of_rounds_are_sent,
-    ok_images_of_rounds_are_records, told_gaps_of_rounds_are_true, updates_of_rounds_are_given,
-};
 use mama_legal::round_is_legal;
 use mama_memory::OutOfMemory;
 use mama_record::{RunRecord, print_log};
@@ -179,14 +175,8 @@ fn play<C: Clock>(alloc: Global, script: &Script, clock: &mut C) -> Result<RunRe
 {
     let _shape = script.shape();
     round_is_legal();
-    rounds_tell_all();
-    rounds_tell_plainly();
-    messages_of_rounds_are_sent();
-    given_messages_of_rounds_are_sent();
-    ok_images_of_rounds_are_records();
-    told_gaps_of_rounds_are_true();
-    links_of_rounds_are_calm();
-    updates_of_rounds_are_given();
+    legal_records_are_formed();
+    legal_records_are_true();
     serial(alloc, script, clock)
 }
 

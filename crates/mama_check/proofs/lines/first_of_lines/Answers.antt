@@ -1,4 +1,4 @@
-use Rattle.std.proofs.Common.{◌≡◌, ◌<◌, ℕ, List, [], length, ap, sym, subst, ◌∙◌, below_more, true≢false}
+use Rattle.std.proofs.Common.{◌<◌, ℕ, List, [], length, sym, subst, ◌∙◌, below_more, true≢false}
 use Rattle.std.specs.Prelude.{slice_index_or}
 use Rattle.std.specs.List.{flat_map}
 use Rattle.mama_rounds.specs.World.{no_section}
