@@ -11,6 +11,7 @@ use Rattle.mama_seats.specs.Moments.{AreHeard}
 use Rattle.mama_legal.specs.Legal.{IsLegal}
 use Rattle.mama_form.specs.Form.{IsFormed}
 use Rattle.mama_check.specs.Verdict.{IsTrue}
+use Rattle.mama_check.specs.Causal.{IsCausal}
 use Rattle.mama_check.specs.declared.verdict.Actor.{Actor}
 use Rattle.mama_check.specs.declared.verdict.Verdict.{Verdict}
 use Rattle.mama_check.specs.declared.verdict.Verdict.TheVariants as verdict
@@ -36,11 +37,13 @@ pub record GaveAll (old new : Option (List ℕ)) (text : List ℕ) : Type 0 wher
 -- rows, and exactly one publisher has its topic, it is told no gap and no change of quality; and if it is a market
 -- subscription, it is told just the messages from its first image on, each once and as ok, and so each update that the bridge
 -- took between its Join and its first Leave or the ending with a number above that image's, unless it was muted. These are
--- promised of every legal record (IsTrue). It has the form of the script's records, so that a checker may judge it.
+-- promised of every legal record (IsTrue). It has the form of the script's records, so that a checker may judge it; and it is
+-- causal: one order of all entries and lines has each event taken after it was put.
 pub record IsRun (script : ScriptData) (run : RunData) : Type 0 where
   pub round : IsRound script run
   pub legal : IsLegal script run
   pub formed : IsFormed script run
+  pub causal : IsCausal script run
   pub promised : IsTrue script run
 
 -- The text spells an accepted script, and the log is that of a run of it, its ports named by the script's shape. The clock

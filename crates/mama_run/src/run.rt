@@ -14,6 +14,7 @@ ghost use Rattle.mama_run.specs.Answers.{GaveAll, IsRun, IsLogOf, IsCause, IfWri
 use crate::check::write_verdict;
 use crate::command::{Command, command_of};
 use crate::status::{Status, script_status};
+use mama_causal::rounds_are_causal;
 use mama_check::{legal_records_are_formed, legal_records_are_true};
 use mama_drive::serial;
 use mama_edge::{Clock, ReadAll, Sink, Source, read_all, write_all_counted};
@@ -175,6 +176,7 @@ fn play<C: Clock>(alloc: Global, script: &Script, clock: &mut C) -> Result<RunRe
 {
     let _shape = script.shape();
     round_is_legal();
+    rounds_are_causal();
     legal_records_are_formed();
     legal_records_are_true();
     serial(alloc, script, clock)
