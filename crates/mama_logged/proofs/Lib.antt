@@ -1,0 +1,17 @@
+pub mod Fits
+pub mod Accepted
+pub mod Declared
+pub mod Standing
+pub mod ClientsFit
+pub mod PlansFit
+pub mod Bodies
+pub mod SendersFit
+pub mod Few
+pub mod Once
+pub mod SlotsFit
+pub mod TimersFit
+pub mod BridgeFits
+pub mod StrategyFits
+pub mod QueuesFit
+pub mod Logged
+pub mod OneRecord
