@@ -3,3 +3,4 @@ pub mod PartLemmas
 pub mod VerdictLemmas
 pub mod CommandLemmas
 pub mod AnswerLemmas
+pub mod OwnLemmas

@@ -1,19 +1,21 @@
 -- What is said of a text by what is said of its parts.
-use Rattle.std.proofs.Common.{◌≡◌, ℕ, ◌+◌, ◌<◌, ◌≤◌, Bool, true, false, eqb, List, [], ◌∷◌, ◌++◌, length, Option, Some, None, refl, sym, ap, subst, ◌∙◌, length-append, arith}
+use Rattle.std.proofs.Common.{◌≡◌, ℕ, ◌+◌, ◌<◌, ◌≤◌, Bool, true, false, eqb, List, [], ◌∷◌, ◌++◌, length, Option, Some, None, Ok, refl, sym, ap, subst, ◌∙◌, length-append, arith}
 use Rattle.std.specs.Prelude.{codes}
 use Rattle.mama_edge.specs.Told.{Appended}
 use Rattle.mama_words.specs.Parting.{pieces, onto_first}
 use Rattle.mama_script.specs.Script.{ScriptData}
-use Rattle.mama_script.specs.Tree.{IsScript, script_text}
-use Rattle.mama_script.proofs.Parsed.{found_script}
+use Rattle.mama_script.specs.Tree.{IsScript, script_text, lines_of}
+use Rattle.mama_script.proofs.Parsed.{found_script, only_that}
+use Rattle.mama_script.proofs.Whole.{script_again}
 use Rattle.mama_record.specs.RunData.{RunData}
 use Rattle.mama_record.specs.LogText.{line, log_text}
 use Rattle.mama_log_text.specs.Logged.{IsLogged}
 use Rattle.mama_log_text.specs.Unfit.{IsFirstUnfit, Unfit}
 use Rattle.mama_check.specs.declared.verdict.Verdict.{Verdict}
 use Rattle.mama_check.specs.declared.verdict.Verdict.TheVariants as verdict
-use Rattle.mama_run.specs.Parts.{cut_at_log, line_count}
-use Rattle.mama_run.specs.Verdict.{IsChecked, IsVerdictOf, IsJudged, IsBadLog, verdict_text}
+use Rattle.mama_script.specs.Reading.{script_in}
+use Rattle.mama_run.specs.Parts.{cut_at_log, before_cut, script_part, line_count}
+use Rattle.mama_run.specs.Verdict.{IsChecked, TellsOnly, IsVerdictOf, IsJudged, IsBadLog, verdict_text}
 use Rattle.mama_run.specs.Answers.{answer_in}
 use Rattle.mama_run.specs.declared.status.Status.TheVariants as status
 use Rattle.mama_run.proofs.PartLemmas.{cut_makes_text, script_is_cut}
@@ -50,25 +52,6 @@ pub unfit_log : (script : ScriptData) (front log : List ℕ) (count number : ℕ
 unfit_log script front log count number accepted spelled counted u =
     record { script = script; accepted = accepted; spelled = spelled; unfit = (number, u, ap (λ (n : ℕ). n + 1 + number) counted) }
 
-pub judged_text : (script : ScriptData) (front log : List ℕ) (v : Verdict) → IsScript script → front ≡ script_text script → IsJudged script log v
-    → IsVerdictOf (front ++ (line (codes "log") ++ log)) v (verdict_text v)
-judged_text script front log v accepted spelled j = record {
-  script = script;
-  accepted = accepted;
-  run = j.run;
-  logged = j.logged;
-  whole = ap (λ (t : List ℕ). t ++ (line (codes "log") ++ log)) spelled ∙ ap (λ (t : List ℕ). script_text script ++ (line (codes "log") ++ t)) j.whole;
-  judged = j.judged;
-  legal = j.legal;
-  told = refl;
-}
-
--- what was written, where the answer is Ok
-pub legal_answer : (text out : List ℕ) (old new : Option (List ℕ)) (v : Verdict) → answer_in v ≡ status.Ok → IsVerdictOf text v out → Appended old new out
-    → (causal : Bool) × (told : List ℕ) × IsVerdictOf text (verdict.Legal causal) told × Appended old new told
-legal_answer text out old new (verdict.Legal causal) e judged appended = (causal, out, judged, appended)
-legal_answer text out old new (verdict.NotLegal rule actor) e judged appended = absurd cc
-
 script_is : (s t : ScriptData) → found_script s ≡ found_script t → s ≡ t
 script_is s t e = cc
 
@@ -79,6 +62,59 @@ pub record Fits (script : ScriptData) (log : List ℕ) (run : RunData) : Type 0 
 
 pub same_fits : (s t : ScriptData) (log : List ℕ) (run : RunData) → found_script s ≡ found_script t → IsLogged s run → log ≡ log_text s.shape run → Fits t log run
 same_fits s t log run e logged whole = subst (λ (x : ScriptData). Fits x log run) (script_is s t e) (record { logged = logged; whole = whole })
+
+-- ---- one text, one script and one log
+
+abbrev pair_of : List ℕ → List ℕ → Option (List ℕ × List ℕ)
+pair_of a b = Some (a, b)
+
+abbrev some_pair : List ℕ × List ℕ → Option (List ℕ × List ℕ)
+some_pair x = Some x
+
+some_is : (x y : List ℕ × List ℕ) → some_pair x ≡ some_pair y → x ≡ y
+some_is x y e = cc
+
+pair_is : (a b c d : List ℕ) → pair_of a b ≡ pair_of c d → (a ≡ c) × (b ≡ d)
+pair_is a b c d e =
+    let same : (a, b) ≡ (c, d) = some_is (a, b) (c, d) e in
+    (ap (λ (p : List ℕ × List ℕ). p.0) same, ap (λ (p : List ℕ × List ℕ). p.1) same)
+
+-- two accepted scripts that one text spells are one
+one_script : (s t : ScriptData) → IsScript s → IsScript t → script_text t ≡ script_text s → found_script s ≡ found_script t
+one_script s t is other same = only_that (script_text t) s t other (script_again (lines_of t) other.accepted) is same
+
+tells_only : (script : ScriptData) (text log : List ℕ) (run : RunData) → IsScript script → text ≡ script_text script ++ (line (codes "log") ++ log)
+    → ((other : RunData) → IsLogged script other → log ≡ log_text script.shape other → run ≡ other) → TellsOnly text script run
+tells_only script text log run accepted whole only s r is logged told =
+    let cut : pair_of (script_text script) log ≡ pair_of (script_text s) (log_text s.shape r) =
+    sym (ap cut_at_log whole ∙ script_is_cut script log accepted) ∙ ap cut_at_log told ∙ script_is_cut s (log_text s.shape r) is in
+    let parts = pair_is (script_text script) log (script_text s) (log_text s.shape r) cut in
+    let same : found_script s ≡ found_script script = one_script s script is accepted parts.0 in
+    let fits : Fits script log r = same_fits s script log r same logged parts.1 in
+    (script_is s script same, sym (only r fits.logged fits.whole))
+
+pub judged_text : (script : ScriptData) (front log : List ℕ) (v : Verdict) → IsScript script → front ≡ script_text script → IsJudged script log v
+    → IsVerdictOf (front ++ (line (codes "log") ++ log)) v (verdict_text v)
+judged_text script front log v accepted spelled j =
+    let text : List ℕ = front ++ (line (codes "log") ++ log) in
+    let whole : text ≡ script_text script ++ (line (codes "log") ++ log) = ap (λ (t : List ℕ). t ++ (line (codes "log") ++ log)) spelled in
+    record {
+      script = script;
+      accepted = accepted;
+      run = j.run;
+      logged = j.logged;
+      whole = whole ∙ ap (λ (t : List ℕ). script_text script ++ (line (codes "log") ++ t)) j.whole;
+      only = tells_only script text log j.run accepted whole j.only;
+      judged = j.judged;
+      legal = j.legal;
+      told = refl;
+    }
+
+-- what was written, where the answer is Ok
+pub legal_answer : (text out : List ℕ) (old new : Option (List ℕ)) (v : Verdict) → answer_in v ≡ status.Ok → IsVerdictOf text v out → Appended old new out
+    → (causal : Bool) × (told : List ℕ) × IsVerdictOf text (verdict.Legal causal) told × Appended old new told
+legal_answer text out old new (verdict.Legal causal) e judged appended = (causal, out, judged, appended)
+legal_answer text out old new (verdict.NotLegal rule actor) e judged appended = absurd cc
 
 -- ---- the parts of a text
 
@@ -96,20 +132,6 @@ pub record AreParts (front log : List ℕ) : Type 0 where
   pub logged : IsLogged script run
   pub whole : log ≡ log_text script.shape run
 
-abbrev pair_of : List ℕ → List ℕ → Option (List ℕ × List ℕ)
-pair_of a b = Some (a, b)
-
-abbrev some_pair : List ℕ × List ℕ → Option (List ℕ × List ℕ)
-some_pair x = Some x
-
-some_is : (x y : List ℕ × List ℕ) → some_pair x ≡ some_pair y → x ≡ y
-some_is x y e = cc
-
-pair_is : (a b c d : List ℕ) → pair_of a b ≡ pair_of c d → (a ≡ c) × (b ≡ d)
-pair_is a b c d e =
-    let same : (a, b) ≡ (c, d) = some_is (a, b) (c, d) e in
-    (ap (λ (p : List ℕ × List ℕ). p.0) same, ap (λ (p : List ℕ × List ℕ). p.1) same)
-
 checked_is_cut : (text : List ℕ) (checked : IsChecked text) → cut_at_log text ≡ pair_of (script_text checked.script) (log_text checked.script.shape checked.run)
 checked_is_cut text checked = ap cut_at_log checked.whole ∙ script_is_cut checked.script (log_text checked.script.shape checked.run) checked.accepted
 
@@ -120,3 +142,8 @@ checked_parts text front log cut checked =
 
 pub checked_has_log : (text : List ℕ) → None ≡ cut_at_log text → IsChecked text → ⊥
 checked_has_log text cut checked = let e : None ≡ pair_of (script_text checked.script) (log_text checked.script.shape checked.run) = cut ∙ checked_is_cut text checked in cc
+
+-- the script of a text that is checked is accepted
+pub checked_script : (text : List ℕ) (checked : IsChecked text) → script_in (script_part text) ≡ Ok (lines_of checked.script)
+checked_script text checked =
+    ap (λ (cut : Option (List ℕ × List ℕ)). script_in (before_cut text cut)) (checked_is_cut text checked) ∙ script_again (lines_of checked.script) checked.accepted.accepted

@@ -3,3 +3,4 @@ pub mod Parts
 pub mod Verdict
 pub mod Answers
 pub mod Status
+pub mod Own

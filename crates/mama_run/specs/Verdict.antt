@@ -49,23 +49,30 @@ pub record IsChecked (text : List ℕ) : Type 0 where
   pub logged : IsLogged script run
   pub whole : text ≡ script_text script ++ (line (codes "log") ++ log_text script.shape run)
 
--- The text is an accepted script, the line `log`, and the log of a record of that script; the verdict is that on the
--- record, with what is promised of one that is legal; and these are the verdict's lines.
+-- a text tells this record of this script, and no other of any
+abbrev pub TellsOnly : List ℕ → ScriptData → RunData → Type 0
+TellsOnly text script run = (s : ScriptData) (r : RunData) → IsScript s → IsLogged s r → text ≡ script_text s ++ (line (codes "log") ++ log_text s.shape r)
+    → (s ≡ script) × (r ≡ run)
+
+-- The text is an accepted script, the line `log`, and the log of a record of that script, and tells no other; the verdict
+-- is that on the record, with what is promised of one that is legal; and these are the verdict's lines.
 pub record IsVerdictOf (text : List ℕ) (verdict : Verdict) (out : List ℕ) : Type 0 where
   pub script : ScriptData
   pub accepted : IsScript script
   pub run : RunData
   pub logged : IsLogged script run
   pub whole : text ≡ script_text script ++ (line (codes "log") ++ log_text script.shape run)
+  pub only : TellsOnly text script run
   pub judged : Judges script run verdict
   pub legal : OnLegal verdict (IsTrue script run)
   pub told : out ≡ verdict_text verdict
 
--- a log of a script, and the verdict on the record that it tells
+-- a log of a script, and the verdict on the one record that it tells
 pub record IsJudged (script : ScriptData) (log : List ℕ) (verdict : Verdict) : Type 0 where
   pub run : RunData
   pub logged : IsLogged script run
   pub whole : log ≡ log_text script.shape run
+  pub only : (other : RunData) → IsLogged script other → log ≡ log_text script.shape other → run ≡ other
   pub judged : Judges script run verdict
   pub legal : OnLegal verdict (IsTrue script run)
 

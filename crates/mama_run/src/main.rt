@@ -2,12 +2,17 @@
 //! whether such a log is that of a legal run.
 #![tactic(auto)]
 
+ghost use Rattle.std.specs.Prelude.{◌≡◌};
+ghost use Rattle.std.specs.Process.{exit_status};
+ghost use Rattle.mama_run.specs.Status.{exit_number};
+
 mod check;
 #[cfg(test)]
 mod check_tests;
 mod command;
 #[cfg(test)]
 mod damaged;
+mod laws;
 #[cfg(test)]
 mod morning;
 mod parts;
@@ -18,6 +23,7 @@ mod tests;
 
 pub use check::NoVerdict;
 pub use command::Command;
+pub use laws::logs_of_serial_are_legal;
 use mama_edge::{RealClock, StdSink, StdSource};
 pub use run::{MOST_INPUT, NoLog, run_plain};
 pub use status::Status;
@@ -87,7 +93,9 @@ fn written(whole: bool) -> Status {
 }
 
 /// Tells any status but Ok on standard error, and gives the exit status.
-fn end(rt: &HostRuntime, status: Status) -> ExitCode {
+fn end(rt: &HostRuntime, status: Status) -> ExitCode
+    ensures { exit_status result ≡ exit_number status }
+{
     if status != Status::Ok {
         let _ = eprintln!(rt; "mama_run: {status}");
     }

@@ -1,7 +1,8 @@
-ghost use Rattle.std.specs.Prelude.{List, ℕ, ⊤, ◌≡◌, ◌≢◌, ◌+◌, ◌<◌, ◌↔◌, [], Some, None, Bool, true, false, map, take, length, string_bytes, Err, IfOk, IfErr, IfSome};
+ghost use Rattle.std.specs.Prelude.{List, ℕ, ⊤, ◌≡◌, ◌≢◌, ◌+◌, ◌<◌, ◌≤◌, ◌↔◌, [], Some, None, Bool, true, false, map, take, length, string_bytes, Err, IfOk, IfErr, IfSome};
 ghost use Rattle.mama_edge.specs.Count.{Rose};
 ghost use Rattle.mama_edge.specs.Told.{Appended, Lost, LostAtMost};
 ghost use Rattle.mama_script.specs.Reading.{script_in};
+ghost use Rattle.mama_script.specs.Tree.{script_text};
 ghost use Rattle.mama_script.specs.declared.fault.ScriptFault.TheVariants as script;
 ghost use Rattle.mama_seats.specs.Moments.{AreHeard};
 ghost use Rattle.mama_check.specs.declared.verdict.Verdict.{Verdict};
@@ -9,7 +10,7 @@ ghost use Rattle.mama_check.specs.declared.verdict.Verdict.TheVariants as verdic
 ghost use Rattle.mama_run.specs.Command.{is_serial, is_check, is_command};
 ghost use Rattle.mama_run.specs.Parts.{script_part, log_part};
 ghost use Rattle.mama_run.specs.Verdict.{IsChecked, IsVerdictOf, IsBadLog};
-ghost use Rattle.mama_run.specs.Answers.{GaveAll, IsRun, IsLogOf, IsCause, IfWriteFault, IfBadScript, IfOverLimit, IfBadLog, IfNotLegal, OnSilent};
+ghost use Rattle.mama_run.specs.Answers.{GaveAll, IsRun, IsLogOf, IsCause, IfWriteFault, IfBadScript, IfOverLimit, IfBadLog, IfNotLegal, OnUnplayed, OnNoScript, OnSilent};
 
 use crate::check::write_verdict;
 use crate::command::{Command, command_of};
@@ -19,6 +20,7 @@ use mama_check::{legal_records_are_formed, legal_records_are_true};
 use mama_drive::serial;
 use mama_edge::{Clock, ReadAll, Sink, Source, read_all, write_all_counted};
 use mama_legal::round_is_legal;
+use mama_logged::{legal_records_are_logged, logs_tell_one_record, moments_fit};
 use mama_memory::OutOfMemory;
 use mama_record::{RunRecord, print_log};
 use mama_script::{Script, ScriptFault, parse};
@@ -59,15 +61,18 @@ pub fn run_plain<S: Source, K: Sink, C: Clock>(
     ensures read_fault { result ≡ Status.ReadFault → Rose (S.faults source.old) (S.faults source.new) }
     ensures write_fault { IfWriteFault result (λ written. Rose (K.faults sink.old) (K.faults sink.new)) }
 
-    // At a read fault no more than the limit was taken. The input is too long only where one byte more was.
+    // At a read fault and at want of memory no more than the limit was taken. The input is too long only where one byte
+    // more was.
     ensures read_part { result ≡ Status.ReadFault → LostAtMost (S.left source.old) (S.left source.new) 67108864 }
+    ensures memory_part { result ≡ Status.OutOfMemory → LostAtMost (S.left source.old) (S.left source.new) 67108864 }
     ensures too_long { IfOverLimit result (λ line limit. line ≡ 0 → (limit ≡ 1) × Lost (S.left source.old) (S.left source.new) 67108865) }
 
     // At every answer but Ok, that a log is not legal, and a write fault, nothing was written.
     ensures silent { OnSilent result (sink.new ≡ sink.old) }
 
-    // Only serial calls the clock.
+    // Only serial calls the clock, and only for a script that it plays.
     ensures still { is_serial (map string_bytes words.now) ≡ false → clock.new ≡ clock.old }
+    ensures unplayed { OnUnplayed result (clock.new ≡ clock.old) }
 
     // SERIAL
 
@@ -94,10 +99,13 @@ pub fn run_plain<S: Source, K: Sink, C: Clock>(
         × (script_in (script_part text) ≡ Err (script.OverLimit line limit))) }
 
     // A log is bad only for check, where the script is accepted, and the line is the first behind it that does not fit. It
-    // never is where the source tells an accepted script, the line `log`, and a log that the script can have.
+    // never is where the source tells an accepted script, the line `log`, and a log that the script can have; nor is that
+    // script refused then.
     ensures bad_log { IfBadLog result (λ line. (is_check (map string_bytes words.now) ≡ true) × (text : List ℕ) × GaveAll (S.left source.old) (S.left source.new) text
         × IsBadLog (script_part text) (log_part text) line) }
     ensures fitting { (text : List ℕ) → S.left source.old ≡ Some text → IsChecked text → IfBadLog result (λ line. ⊥) }
+    ensures fitting_script { is_check (map string_bytes words.now) ≡ true → (text : List ℕ) → S.left source.old ≡ Some text → IsChecked text
+        → IfBadScript result (λ line fault. ⊥) × IfOverLimit result (λ line limit. line ≡ 0) }
 
     // The verdict on what the source gave was written whole: that the log is legal at Ok, and which rule is broken and by
     // whom where it is not. At a write fault a part of a verdict was written, which is not the whole.
@@ -125,6 +133,7 @@ pub fn run_plain<S: Source, K: Sink, C: Clock>(
 
 /// Plays the script that a text spells, and writes its log.
 fn write_log<K: Sink, C: Clock>(alloc: Global, text: &[u8], sink: &mut K, clock: &mut C) -> Status
+    requires { length text.now ≤ 67108864 }
     ensures words { result ≢ Status.BadWords }
     ensures read { result ≢ Status.ReadFault }
     ensures write_fault { IfWriteFault result (λ written. Rose (K.faults sink.old) (K.faults sink.new)) }
@@ -137,6 +146,7 @@ fn write_log<K: Sink, C: Clock>(alloc: Global, text: &[u8], sink: &mut K, clock:
     ensures part { IfWriteFault result (λ written. (log : List ℕ) × IsLogOf (C.left clock.old) (C.left clock.new) text.now log
         × (written < length log) × Appended (K.written sink.old) (K.written sink.new) (take written log)) }
     ensures silent { OnSilent result (sink.new ≡ sink.old) }
+    ensures unplayed { OnUnplayed result (clock.new ≡ clock.old) }
 {
     let log = match log_of(alloc, text, clock) {
         Ok(log) => log,
@@ -152,8 +162,10 @@ fn write_log<K: Sink, C: Clock>(alloc: Global, text: &[u8], sink: &mut K, clock:
 
 /// The log of the script that the text spells, or why there is none.
 fn log_of<C: Clock>(alloc: Global, text: &[u8], clock: &mut C) -> Result<Vec<u8>, NoLog>
+    requires { length text.now ≤ 67108864 }
     ensures log { IfOk result (λ log. IsLogOf (C.left clock.old) (C.left clock.new) text.now log.items) }
     ensures cause { IfErr result (λ cause. IsCause text.now cause) }
+    ensures unplayed { IfErr result (λ cause. OnNoScript cause (clock.new ≡ clock.old)) }
 {
     let script = match parse(alloc, text) {
         Ok(script) => script,
@@ -163,6 +175,8 @@ fn log_of<C: Clock>(alloc: Global, text: &[u8], clock: &mut C) -> Result<Vec<u8>
         Ok(run) => run,
         Err(OutOfMemory) => return Err(NoLog::Memory),
     };
+    let _shape = script.shape();
+    logs_tell_one_record();
     match print_log(alloc, script.shape(), &run) {
         Ok(log) => Ok(log),
         Err(OutOfMemory) => Err(NoLog::Memory),
@@ -171,6 +185,7 @@ fn log_of<C: Clock>(alloc: Global, text: &[u8], clock: &mut C) -> Result<Vec<u8>
 
 /// Plays the script on one thread, with what is promised of the record.
 fn play<C: Clock>(alloc: Global, script: &Script, clock: &mut C) -> Result<RunRecord, OutOfMemory>
+    requires { length (script_text script.now) ≤ 67108864 }
     ensures run { IfOk result (λ run. IsRun script.now run) }
     ensures clock { IfOk result (λ run. AreHeard (C.left clock.old) (C.left clock.new) script.now.clients run.clients) }
 {
@@ -178,8 +193,11 @@ fn play<C: Clock>(alloc: Global, script: &Script, clock: &mut C) -> Result<RunRe
     round_is_legal();
     rounds_are_causal();
     legal_records_are_formed();
+    legal_records_are_logged();
     legal_records_are_true();
-    serial(alloc, script, clock)
+    let played = serial(alloc, script, clock)?;
+    moments_fit(played.clients());
+    Ok(played)
 }
 
 /// The answer where there is no log.
@@ -192,6 +210,7 @@ fn status_of(fault: NoLog) -> Status
     ensures legal { IfNotLegal result (λ rule actor. ⊥) }
     ensures bad { IfBadScript result (λ line number. fault ≡ NoLog.Script (script.Bad line number)) }
     ensures over { IfOverLimit result (λ line limit. (line ≢ 0) × (fault ≡ NoLog.Script (script.OverLimit line limit))) }
+    ensures memory { fault ≡ NoLog.Memory → result ≡ Status.OutOfMemory }
 {
     match fault {
         NoLog::Script(fault) => script_status(fault),
