@@ -1,6 +1,6 @@
 //! The top call over memory: worked scripts, faults of reading and writing, and words.
 
-use crate::run::run_plain;
+use crate::run::{MOST_INPUT, run_plain};
 use crate::status::Status;
 use mama_edge::{MemoryClock, MemorySink, MemorySource};
 use std::alloc::{AllocError, Global};
@@ -299,6 +299,26 @@ fn tells_what_passes_a_limit(rt: HostRuntime) -> Result<(), Fail> {
         let mut sink = MemorySink::new(alloc, 4000, 1000, Vec::new(alloc))?;
         let status = run_plain(alloc, words.as_slice(), &mut source, &mut sink, &mut clock);
         assert_eq!(rt; status, answer);
+    }
+    Ok(())
+}
+
+#[test]
+fn takes_the_longest_input_and_at_most_a_byte_more(rt: HostRuntime) -> Result<(), Fail> {
+    let alloc = rt.alloc();
+    let words = words_of(alloc, &["serial"])?;
+    for (length, answer, left) in [
+        (MOST_INPUT, Status::BadScript { line: 1, fault: 1 }, 0usize),
+        (MOST_INPUT + 2, Status::OverLimit { line: 0, limit: 1 }, 1),
+    ] {
+        let bytes = vec![in alloc; b'x'; length]?;
+        let mut source = MemorySource::new(bytes, 1_000_000, Vec::new(alloc));
+        let mut sink = MemorySink::new(alloc, 100, 100, Vec::new(alloc))?;
+        let mut clock = MemoryClock::new(Vec::new(alloc));
+        let status = run_plain(alloc, words.as_slice(), &mut source, &mut sink, &mut clock);
+        assert_eq!(rt; status, answer);
+        assert_eq!(rt; source.left().len(), left);
+        assert_eq!(rt; sink.written().len(), 0);
     }
     Ok(())
 }
