@@ -10,11 +10,12 @@ use Rattle.mama_event.specs.declared.ids.ObjectId.TheVariants.{Sub, Inbox}
 use Rattle.mama_event.specs.declared.market.MarketMsg.{MarketMsg}
 use Rattle.mama_event.specs.declared.to_queue.QueueNote.TheVariants as q
 use Rattle.mama_event.specs.declared.to_queue.ToQueue.TheVariants as queued
-use Rattle.mama_rules.specs.Bridge.{BridgePut, to_queue}
-use Rattle.mama_bridge_rules.specs.Table.{SubRow, InboxRow, sub_delivered, inbox_replied, sub_emits, inbox_emits, sub_ends, inbox_ends}
+use Rattle.mama_rules_services.specs.Bridge.{BridgePut, to_queue}
+use Rattle.mama_laws_bridge.specs.Table.{SubRow, InboxRow, sub_delivered, inbox_replied, sub_emits, inbox_emits, sub_ends, inbox_ends}
 use Rattle.mama_bridge.specs.declared.out.BridgeOut.{BridgeOut}
 use Rattle.mama_bridge.specs.declared.out.BridgeOut.TheVariants as out
-use Rattle.mama_bridge.specs.Outs.{put_note, listeners, listener_in, Adds}
+use Rattle.mama_bridge.specs.Outs.{put_note, listeners, listener_in}
+use Rattle.mama_bridge.specs.Desk.{Adds}
 use Rattle.mama_bridge.specs.Links.{sub_outs, emit_outs, end_outs, inbox_outs, inbox_emit_outs, inbox_end_outs}
 
 module _ {L : Type 0} (tagged : L → ObjectId) where

@@ -13,8 +13,8 @@ use Rattle.mama_event.specs.declared.to_bridge.ToBridge.{ToBridge}
 use Rattle.mama_event.specs.declared.to_bridge.ToBridge.TheVariants as event
 use Rattle.mama_event.specs.declared.to_queue.Make.TheVariants as make
 use Rattle.mama_event.specs.declared.to_queue.QueueNote.TheVariants as q
-use Rattle.mama_rules.specs.Bridge.{BridgeEvent, no_event, joins, opens, from_publisher, from_queue, BridgePut, to_queue, wants_image}
-use Rattle.mama_bridge_rules.specs.Table.{Table, table_puts, has_joined, has_opened, slot_for}
+use Rattle.mama_rules_services.specs.Bridge.{BridgeEvent, no_event, joins, opens, from_publisher, from_queue, BridgePut, to_queue, wants_image}
+use Rattle.mama_laws_bridge.specs.Table.{Table, table_puts, has_joined, has_opened, slot_for}
 use Rattle.mama_bridge.specs.Ids.{is_sub_among, is_inbox_among}
 use Rattle.mama_bridge.specs.declared.out.BridgeOut.{BridgeOut}
 use Rattle.mama_bridge.specs.declared.desk.Desk.{Desk}

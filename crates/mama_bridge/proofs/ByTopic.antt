@@ -11,8 +11,8 @@ use Rattle.std.proofs.lemmas.List.Elements.{filter-append}
 use Rattle.mama_event.specs.Object.{same_sub}
 use Rattle.mama_event.specs.declared.ids.SubId.{SubId}
 use Rattle.mama_event.specs.declared.market.MarketMsg.{MarketMsg}
-use Rattle.mama_bridge_rules.specs.Laws.{Alone}
-use Rattle.mama_bridge_rules.specs.Table.{sub_passed, SubRow, of_sub, sub_wished, changed, without}
+use Rattle.mama_laws_bridge.specs.Laws.{Alone}
+use Rattle.mama_laws_bridge.specs.Table.{sub_passed, SubRow, of_sub, sub_wished, changed, without}
 use Rattle.mama_bridge.specs.declared.live.Live.{Live}
 use Rattle.mama_bridge.specs.declared.places.Place.{Place}
 use Rattle.mama_bridge.specs.declared.out.BridgeOut.{BridgeOut}

@@ -4,7 +4,7 @@ use Rattle.std.proofs.Common.{◌≡◌, ℕ, zero, suc, ◌+◌, ◌<◌, ◌==
 use Rattle.std.proofs.lemmas.List.Sums.{sum_by-cons}
 use Rattle.std.proofs.lemmas.Bool.{and_parts}
 use Rattle.std.proofs.lemmas.Bool.Decides.{nat_tests}
-use Rattle.mama_bridge_rules.specs.Table.{all_set}
+use Rattle.mama_laws_bridge.specs.Table.{all_set}
 
 abbrev pub unset : List Bool → ℕ
 unset flags = count_by (λ (flag : Bool). not flag) flags

@@ -5,8 +5,8 @@ use Rattle.std.proofs.Common.{◌≡◌, ℕ, true, List, ◌++◌, map, filter,
 use Rattle.mama_event.specs.declared.ids.SubId.{SubId}
 use Rattle.mama_event.specs.Object.{same_sub}
 use Rattle.mama_event.specs.EqualityLaws.{same_sub-Decides}
-use Rattle.mama_bridge_rules.specs.Table.{SubRow, of_sub, changed, without}
-use Rattle.mama_bridge_rules.specs.Laws.{Alone}
+use Rattle.mama_laws_bridge.specs.Table.{SubRow, of_sub, changed, without}
+use Rattle.mama_laws_bridge.specs.Laws.{Alone}
 use Rattle.mama_bridge.specs.declared.subs.SubLink.{SubLink}
 use Rattle.mama_bridge.specs.Links.{SubView, sub_seen, sub_view}
 use Rattle.mama_bridge.proofs.TheOne.{done_found, left_found, done_none, left_none}

@@ -10,9 +10,9 @@ use Rattle.std.specs.declared.result.Result.{Result}
 use Rattle.std.specs.declared.result.Result.TheVariants.{Ok, Err}
 use Rattle.mama_msg.specs.Field.{FieldData}
 use Rattle.mama_journal.specs.Journal.{count_of}
-use Rattle.mama_rules.specs.Bridge.{slot_on}
+use Rattle.mama_rules_services.specs.Bridge.{slot_on}
 use Rattle.mama_slots.specs.Slots.{SlotData, in_use, IsNext}
-use Rattle.mama_bridge_rules.specs.Table.{SubRow, InboxRow, sub_slots, inbox_slots, of_inbox, inbox_passed, changed, without, kept}
+use Rattle.mama_laws_bridge.specs.Table.{SubRow, InboxRow, sub_slots, inbox_slots, of_inbox, inbox_passed, changed, without, kept}
 use Rattle.mama_bridge.specs.Held.{AreHeld, StayHeld, Frees}
 use Rattle.mama_bridge.specs.declared.places.Place.{Place}
 use Rattle.mama_bridge.specs.declared.inboxes.InboxLink.{InboxLink}

@@ -9,7 +9,7 @@ use Rattle.std.proofs.lemmas.List.Sums.{sum_by-append}
 use Rattle.mama_event.specs.EqualityLaws.{same_inbox-Decides}
 use Rattle.mama_event.specs.Object.{same_inbox}
 use Rattle.mama_event.specs.declared.ids.InboxId.{InboxId}
-use Rattle.mama_bridge_rules.specs.Table.{InboxRow, of_inbox, changed, without}
+use Rattle.mama_laws_bridge.specs.Table.{InboxRow, of_inbox, changed, without}
 use Rattle.mama_bridge.specs.Ids.{inbox_cmp, is_inbox_among}
 use Rattle.mama_bridge.specs.Links.{InboxView, inbox_seen, inbox_view, inbox_held, Each}
 use Rattle.mama_bridge.specs.Opened.{LinksIndexed, is_link_of}

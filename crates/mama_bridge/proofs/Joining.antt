@@ -19,12 +19,13 @@ use Rattle.mama_event.specs.declared.to_publisher.PublisherNote.TheVariants as p
 use Rattle.mama_event.specs.declared.to_timers.ToTimers.TheVariants as timed
 use Rattle.mama_event.specs.declared.to_timers.TimersNote.TheVariants as t
 use Rattle.mama_event.specs.Ports.{publishers_of, queues_of}
-use Rattle.mama_rules.specs.Bridge.{BridgePut, to_publisher, to_queue, to_timers, slot_on, wants_image}
-use Rattle.mama_bridge_rules.specs.Table.{InboxRow, Table, inbox_slots, is_ended_by, is_settling_by, kept, sub_ends, inbox_ends, settles_all, ends_all}
+use Rattle.mama_rules_services.specs.Bridge.{BridgePut, to_publisher, to_queue, to_timers, slot_on, wants_image}
+use Rattle.mama_laws_bridge.specs.Table.{InboxRow, Table, inbox_slots, is_ended_by, is_settling_by, kept, sub_ends, inbox_ends, settles_all, ends_all}
 use Rattle.mama_bridge.specs.declared.out.BridgeOut.{BridgeOut}
 use Rattle.mama_bridge.specs.declared.out.BridgeOut.TheVariants as out
 use Rattle.mama_bridge.specs.declared.inboxes.InboxLink.{InboxLink}
-use Rattle.mama_bridge.specs.Outs.{put_note, listeners, listener_in, Adds}
+use Rattle.mama_bridge.specs.Outs.{put_note, listeners, listener_in}
+use Rattle.mama_bridge.specs.Desk.{Adds}
 use Rattle.mama_bridge.specs.Links.{InboxView, inbox_seen, inbox_view, inbox_link_slots, first_outs, image_outs, end_outs, inbox_end_outs, settle_outs, fin_outs}
 use Rattle.mama_bridge.proofs.Adding.{Says, says_none, says_append, says_map, says_ends, says_inbox_ends}
 use Rattle.mama_bridge.proofs.Wishing.{says_first}

@@ -6,10 +6,11 @@ use Rattle.mama_event.specs.declared.shape.Shape.{Shape}
 use Rattle.mama_event.specs.declared.to_bridge.BridgeNote.{BridgeNote}
 use Rattle.mama_event.specs.declared.to_bridge.BridgeNote.TheVariants as b
 use Rattle.mama_event.specs.Ports.{clients_of, publishers_of, queues_of}
-use Rattle.mama_rules.specs.Ports.{Putter as Actor, bridge_putter}
-use Rattle.mama_rules.specs.Bridge.{BridgeEvent, put_by, heard, bridge_puts_at}
-use Rattle.mama_bridge_rules.specs.Table.{Table, table_puts, table_of, table_after, table_next, empty_table, all_set, marked, client_in, sender_in, settler_in, leaver_in}
-use Rattle.mama_bridge_rules.specs.Laws.{RowsAreLive, FlagsTell, TableTells, TableGrows, all_left}
+use Rattle.mama_rules_services.specs.Ports.{Putter as Actor, bridge_putter}
+use Rattle.mama_rules_services.specs.Bridge.{BridgeEvent, put_by, heard, bridge_puts_at}
+use Rattle.mama_laws_bridge.specs.Table.{Table, table_puts, table_of, table_after, table_next, empty_table, all_set, marked, client_in, sender_in, settler_in, leaver_in}
+use Rattle.mama_laws_bridge.specs.Byes.{all_left}
+use Rattle.mama_laws_bridge.specs.Laws.{RowsAreLive, FlagsTell, TableTells, TableGrows}
 use Rattle.mama_bridge.specs.Ids.{is_inbox_among}
 use Rattle.mama_bridge.specs.declared.desk.Desk.{Desk}
 use Rattle.mama_bridge.specs.declared.putter.Putter.{Putter}

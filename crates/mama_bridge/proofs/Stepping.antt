@@ -12,7 +12,7 @@ use Rattle.mama_msg.specs.Field.{FieldData}
 use Rattle.mama_event.specs.declared.market.MarketMsg.{MarketMsg}
 use Rattle.mama_event.specs.declared.ids.ObjectId.TheVariants.{Sub, Inbox}
 use Rattle.mama_event.specs.declared.to_queue.ToQueue.TheVariants as queued
-use Rattle.mama_bridge_rules.specs.Table.{SubRow, InboxRow, sub_passed, changed}
+use Rattle.mama_laws_bridge.specs.Table.{SubRow, InboxRow, sub_passed, changed}
 use Rattle.mama_bridge.specs.declared.out.BridgeOut.{BridgeOut}
 use Rattle.mama_bridge.specs.declared.out.BridgeOut.TheVariants as out
 use Rattle.mama_bridge.specs.declared.subs.SubLink.{SubLink}

@@ -4,8 +4,8 @@ use Rattle.std.specs.List.{list_any, position_or_len, flat_map}
 use Rattle.std.proofs.Common.{◌≡◌, ℕ, zero, suc, ◌+◌, ◌<◌, Bool, true, false, not, ◌||◌, cond, List, [], ◌∷◌, ◌++◌, length, map, filter, get_or, set, take, drop, None, Some, refl, sym, ◌∙◌, ap, arith, subst, append-nil}
 use Rattle.std.proofs.lemmas.List.Quantifiers.{position-Some}
 use Rattle.std.proofs.lemmas.Bool.Decides.{nat_tests}
-use Rattle.mama_bridge_rules.specs.Table.{changed, without}
-use Rattle.mama_bridge_rules.specs.Laws.{Alone}
+use Rattle.mama_laws_bridge.specs.Table.{changed, without}
+use Rattle.mama_laws_bridge.specs.Laws.{Alone}
 
 -- where nothing is found, nothing passes
 place_tells : {X : Type 0} (p : X → Bool) (xs : List X) → list_any p xs ≡ nat_lt (position_or_len p xs) (length xs)

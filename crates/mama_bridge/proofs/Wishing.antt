@@ -11,8 +11,8 @@ use Rattle.mama_event.specs.declared.to_publisher.ToPublisher.TheVariants as ask
 use Rattle.mama_event.specs.declared.to_publisher.PublisherNote.TheVariants as p
 use Rattle.mama_event.specs.Ports.{publishers_of}
 use Rattle.mama_event.specs.ToPublisher.{note_of as publisher_note_of}
-use Rattle.mama_rules.specs.Bridge.{BridgePut, to_publisher, to_found}
-use Rattle.mama_bridge_rules.specs.Table.{SubRow, of_sub, may_ask, sub_wished, sub_wishes, changed}
+use Rattle.mama_rules_services.specs.Bridge.{BridgePut, to_publisher, to_found}
+use Rattle.mama_laws_bridge.specs.Table.{SubRow, of_sub, may_ask, sub_wished, sub_wishes, changed}
 use Rattle.mama_bridge.specs.declared.out.BridgeOut.{BridgeOut}
 use Rattle.mama_bridge.specs.declared.out.BridgeOut.TheVariants as out
 use Rattle.mama_bridge.specs.Links.{wish_outs, first_outs}

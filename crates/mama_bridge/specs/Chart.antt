@@ -1,4 +1,4 @@
--- The first publisher of each topic.
+-- inner: The first publisher of each topic.
 use Rattle.std.specs.Prelude.{◌≡◌, ℕ, ◌==◌, List, position}
 use Rattle.std.specs.Ordering.{nat_cmp}
 use Rattle.std.specs.BTreeMap.{BTreeMap, get}

@@ -1,5 +1,5 @@
--- What ties what a bridge keeps to the table of what it heard.
-use Rattle.std.specs.Prelude.{◌≡◌, ℕ, ◌<◌, false, List, [], map, if◌then◌else◌}
+-- inner: What ties what a bridge keeps to the table of what it heard.
+use Rattle.std.specs.Prelude.{◌≡◌, ℕ, ◌<◌, false, List, [], ◌++◌, map, if◌then◌else◌}
 use Rattle.std.specs.List.{list_any}
 use Rattle.mama_event.specs.declared.ids.InboxId.{InboxId}
 use Rattle.mama_event.specs.declared.ids.ObjectId.{ObjectId}
@@ -8,16 +8,22 @@ use Rattle.mama_event.specs.Object.{same_sub, same_inbox}
 use Rattle.mama_event.specs.declared.to_bridge.BridgeNote.{BridgeNote}
 use Rattle.mama_event.specs.declared.to_bridge.ToBridge.{ToBridge}
 use Rattle.mama_event.specs.Ports.{publishers_of}
-use Rattle.mama_rules.specs.Bridge.{BridgeEvent, heard}
-use Rattle.mama_bridge_rules.specs.Table.{SubRow, InboxRow, Table, table_next, table_puts, table_of, all_set}
-use Rattle.mama_bridge_rules.specs.Laws.{Alone}
+use Rattle.mama_rules_services.specs.Bridge.{BridgeEvent, BridgePut, heard}
+use Rattle.mama_laws_bridge.specs.Table.{SubRow, InboxRow, Table, table_next, table_puts, table_of, all_set}
+use Rattle.mama_laws_bridge.specs.Laws.{Alone}
 use Rattle.mama_bridge.specs.declared.out.BridgeOut.{BridgeOut}
 use Rattle.mama_bridge.specs.declared.desk.Desk.{Desk}
-use Rattle.mama_bridge.specs.Outs.{Adds, brought, is_create}
+use Rattle.mama_bridge.specs.Outs.{put_note, listeners, brought, is_create}
 use Rattle.mama_bridge.specs.Ids.{is_inbox_among}
 use Rattle.mama_bridge.specs.Links.{inbox_seen, inbox_view}
 use Rattle.mama_bridge.specs.Held.{AreHeld}
 use Rattle.mama_bridge.specs.Live.{IsLive}
+
+module _ {L : Type 0} where
+  -- the new list is the old one and then these puts, with these listeners
+  pub record Adds (tagged : L → ObjectId) (old new : List (BridgeOut L)) (more : List BridgePut) (carried : List L) : Type 0 where
+    pub puts : map (put_note tagged) new ≡ map (put_note tagged) old ++ more
+    pub listeners : listeners new ≡ listeners old ++ carried
 
 -- what is kept stands for a table
 pub record Stands (table : Table) (desk : Desk) : Type 0 where

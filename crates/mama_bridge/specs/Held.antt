@@ -1,9 +1,9 @@
--- Which slots are in use, as the rows of a table have them.
+-- inner: Which slots are in use, as the rows of a table have them.
 use Rattle.std.specs.Prelude.{◌≡◌, ℕ, Bool, false, not, ◌&&◌, ◌==◌, List, ◌++◌, if◌then◌else◌}
 use Rattle.std.specs.List.{list_any}
 use Rattle.mama_journal.specs.Journal.{count_of}
 use Rattle.mama_slots.specs.Slots.{SlotData, in_use}
-use Rattle.mama_bridge_rules.specs.Table.{SubRow, InboxRow, sub_slots, inbox_slots}
+use Rattle.mama_laws_bridge.specs.Table.{SubRow, InboxRow, sub_slots, inbox_slots}
 
 -- a slot that is in use is one row's and no other's, and a slot that is free is no row's
 abbrev pub AreHeld : SlotData → List SubRow → List InboxRow → Type 0

@@ -1,4 +1,4 @@
--- Ids that are kept in order.
+-- inner: Ids that are kept in order.
 use Rattle.std.specs.Prelude.{Bool, List}
 use Rattle.std.specs.List.{list_any}
 use Rattle.std.specs.BTreeMap.{is_at}

@@ -1,6 +1,7 @@
 pub mod Outs
 pub mod Links
 pub mod Desk
+pub mod Done
 pub mod Routing
 pub mod Putters
 pub mod Held

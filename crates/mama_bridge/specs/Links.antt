@@ -1,4 +1,4 @@
--- What contracts see of the links that a bridge keeps, and what ties them to rows.
+-- inner: What contracts see of the links that a bridge keeps, and what ties them to rows.
 use Rattle.std.specs.Prelude.{◌≡◌, ℕ, ◌+◌, ◌-◌, Bool, true, ◌==◌, nat_lt, List, [], ◌∷◌, ◌++◌, length, map, filter, sum_by, Option, None, Some, option_to_list, if◌then◌else◌}
 use Rattle.std.specs.List.{flat_map}
 use Rattle.mama_msg.specs.Field.{FieldData}
@@ -18,8 +18,8 @@ use Rattle.mama_event.specs.declared.to_publisher.ToPublisher.{ToPublisher}
 use Rattle.mama_event.specs.declared.to_publisher.ToPublisher.TheVariants as asked
 use Rattle.mama_event.specs.declared.to_timers.ToTimers.TheVariants as timed
 use Rattle.mama_journal.specs.Journal.{numbers_below}
-use Rattle.mama_bridge_rules.specs.Laws.{Alone}
-use Rattle.mama_bridge_rules.specs.Table.{SubRow, InboxRow, of_sub, of_inbox, sub_passed, inbox_passed, sub_wished, changed, without, inbox_slots}
+use Rattle.mama_laws_bridge.specs.Laws.{Alone}
+use Rattle.mama_laws_bridge.specs.Table.{SubRow, InboxRow, of_sub, of_inbox, sub_passed, inbox_passed, sub_wished, changed, without, inbox_slots}
 use Rattle.mama_slots.specs.Slots.{SlotData}
 use Rattle.mama_bridge.specs.Held.{Frees}
 use Rattle.mama_bridge.specs.declared.out.BridgeOut.{BridgeOut}

@@ -1,4 +1,4 @@
--- The links of the live subscriptions by topic, and their places in order of joining.
+-- inner: The links of the live subscriptions by topic, and their places in order of joining.
 use Rattle.std.specs.Prelude.{◌≡◌, ℕ, ◌<◌, Bool, false, ◌==◌, List, [], ◌∷◌, ◌++◌, ◌||◌, map, filter, sum_by, Option, None, Some, option_to_list, IfNone, if◌then◌else◌}
 use Rattle.std.specs.List.{list_any, flat_map}
 use Rattle.std.specs.Ordering.{nat_cmp}
@@ -7,8 +7,8 @@ use Rattle.std.specs.VecDeque.{deque_len, deque_capacity}
 use Rattle.std.specs.declared.collections.VecDeque.{VecDeque}
 use Rattle.mama_event.specs.Object.{same_sub}
 use Rattle.mama_event.specs.declared.ids.SubId.{SubId}
-use Rattle.mama_bridge_rules.specs.Laws.{Alone}
-use Rattle.mama_bridge_rules.specs.Table.{SubRow, InboxRow, of_sub, sub_slots, changed, without, kept}
+use Rattle.mama_laws_bridge.specs.Laws.{Alone}
+use Rattle.mama_laws_bridge.specs.Table.{SubRow, InboxRow, of_sub, sub_slots, changed, without, kept}
 use Rattle.mama_slots.specs.Slots.{SlotData}
 use Rattle.mama_bridge.specs.Held.{Frees}
 use Rattle.mama_bridge.specs.declared.live.Live.{Live}

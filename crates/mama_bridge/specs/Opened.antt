@@ -1,4 +1,4 @@
--- Who opened an inbox, and the links of those that are open.
+-- inner: Who opened an inbox, and the links of those that are open.
 use Rattle.std.specs.Prelude.{ℕ, Bool, List, [], Option}
 use Rattle.std.specs.BTreeMap.{BTreeMap}
 use Rattle.mama_link.specs.Link.{standing_after}

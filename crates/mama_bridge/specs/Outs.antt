@@ -1,5 +1,5 @@
--- What the bridge puts on lanes, as plain data and as the listeners that go with it.
-use Rattle.std.specs.Prelude.{◌≡◌, Bool, true, false, List, [], ◌∷◌, ◌++◌, map}
+-- believed: What the bridge puts on lanes, as plain data and as the listeners that go with it.
+use Rattle.std.specs.Prelude.{Bool, true, false, List, [], ◌∷◌}
 use Rattle.std.specs.List.{flat_map}
 use Rattle.mama_event.specs.declared.ids.ObjectId.{ObjectId}
 use Rattle.mama_event.specs.declared.to_queue.ToQueue.{ToQueue}
@@ -12,7 +12,7 @@ use Rattle.mama_event.specs.declared.to_bridge.ToBridge.TheVariants as event
 use Rattle.mama_event.specs.ToQueue.{note_of as queue_note_of}
 use Rattle.mama_event.specs.ToPublisher.{note_of as publisher_note_of}
 use Rattle.mama_event.specs.ToTimers.{note_of as timers_note_of}
-use Rattle.mama_rules.specs.Bridge.{BridgePut, to_publisher, to_queue, to_timers}
+use Rattle.mama_rules_services.specs.Bridge.{BridgePut, to_publisher, to_queue, to_timers}
 use Rattle.mama_bridge.specs.declared.out.BridgeOut.{BridgeOut}
 use Rattle.mama_bridge.specs.declared.out.BridgeOut.TheVariants as out
 
@@ -46,11 +46,6 @@ module _ {L : Type 0} where
   brought (event.Join sub terms listener) = listener ∷ []
   brought (event.OpenInbox inbox terms listener) = listener ∷ []
   brought _ = []
-
-  -- the new list is the old one and then these puts, with these listeners
-  pub record Adds (tagged : L → ObjectId) (old new : List (BridgeOut L)) (more : List BridgePut) (carried : List L) : Type 0 where
-    pub puts : map (put_note tagged) new ≡ map (put_note tagged) old ++ more
-    pub listeners : listeners new ≡ listeners old ++ carried
 
 -- whether a put makes an object
 abbrev pub is_create : BridgePut → Bool

@@ -1,11 +1,11 @@
--- Who joined, and the places of those who are live.
+-- inner: Who joined, and the places of those who are live.
 use Rattle.std.specs.Prelude.{◌≡◌, ℕ, ◌<◌, Bool, true, false, List, length, filter, Option, None, Some, option_to_list, slice_set, slice_index_or}
 use Rattle.std.specs.List.{list_any, flat_map}
 use Rattle.std.specs.BTreeMap.{BTreeMap, get}
 use Rattle.std.specs.declared.cmp.Ordering.{Ordering}
 use Rattle.mama_event.specs.Object.{same_sub}
 use Rattle.mama_event.specs.declared.ids.SubId.{SubId}
-use Rattle.mama_bridge_rules.specs.Table.{without, changed}
+use Rattle.mama_laws_bridge.specs.Table.{without, changed}
 use Rattle.mama_bridge.specs.declared.places.Place.{Place}
 use Rattle.mama_bridge.specs.Ids.{sub_cmp}
 

@@ -1,8 +1,8 @@
--- Which actor puts by a port of the bridge's lane, as code tells it.
+-- inner: Which actor puts by a port of the bridge's lane, as code tells it.
 use Rattle.std.specs.Prelude.{◌<◌, length}
 use Rattle.mama_event.specs.declared.shape.Shape.{Shape}
 use Rattle.mama_event.specs.Ports.{clients_of, publishers_of, queues_of}
-use Rattle.mama_rules.specs.Ports.{Putter as Actor, ByClient, ByPublisher, ByQueue, ByNobody}
+use Rattle.mama_rules_services.specs.Ports.{Putter as Actor, ByClient, ByPublisher, ByQueue, ByNobody}
 use Rattle.mama_bridge.specs.declared.putter.Putter.{Putter}
 use Rattle.mama_bridge.specs.declared.putter.Putter.TheVariants as putter
 use Rattle.mama_bridge.specs.declared.desk.Desk.{Desk}

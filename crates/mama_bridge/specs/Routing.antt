@@ -1,13 +1,13 @@
--- What contracts see of a bridge: its shape, and the ports and notes of all events that it took, in order.
+-- believed: What contracts see of a bridge: its shape, and the ports and notes of all events that it took, in order.
 use Rattle.std.specs.Prelude.{ℕ, Bool, List, [], ◌∷◌, ◌++◌, if◌then◌else◌}
 use Rattle.std.specs.List.{list_any}
 use Rattle.mama_journal.specs.Journal.{turns}
 use Rattle.mama_event.specs.declared.shape.Shape.{Shape}
 use Rattle.mama_event.specs.declared.to_bridge.BridgeNote.{BridgeNote}
 use Rattle.mama_event.specs.declared.to_bridge.ToBridge.{ToBridge}
-use Rattle.mama_rules.specs.Bridge.{put_by, heard, bridge_puts_at}
-use Rattle.mama_rules.specs.Ports.{bridge_putter}
-use Rattle.mama_bridge_rules.specs.Laws.{all_left}
+use Rattle.mama_rules_services.specs.Bridge.{put_by, heard, bridge_puts_at}
+use Rattle.mama_rules_services.specs.Ports.{bridge_putter}
+use Rattle.mama_laws_bridge.specs.Byes.{all_left}
 use Rattle.mama_bridge.specs.Outs.{brought, is_create}
 
 pub record Routing : Type 0 where

@@ -6,9 +6,10 @@ ghost use Rattle.mama_link.specs.Link.{standing_after};
 ghost use Rattle.mama_event.specs.Object.{same_inbox};
 ghost use Rattle.mama_event.specs.declared.ids.InboxId.{InboxId as Inbox};
 ghost use Rattle.mama_event.specs.declared.shape.Shape.{Shape};
-ghost use Rattle.mama_rules.specs.Bridge.{joins, leaves, opens, closes, asks, publishes, images, replies, wishes, client_done, sends_done, settled, put_by};
-ghost use Rattle.mama_bridge_rules.specs.Table.{empty_table, all_set, marked, leaver_in, is_settling_by, is_ended_by, kept};
+ghost use Rattle.mama_rules_services.specs.Bridge.{joins, leaves, opens, closes, asks, publishes, images, replies, wishes, put_by};
+ghost use Rattle.mama_laws_bridge.specs.Table.{empty_table, all_set, marked, client_in, sender_in, settler_in, leaver_in, is_settling_by, is_ended_by, kept};
 ghost use Rattle.mama_bridge.specs.Desk.{Stands, Hears, AsBefore, AllBut, AllButInboxes, AllButLinks, AllButByes};
+ghost use Rattle.mama_bridge.specs.Done.{said_by, HasFlag, Marks};
 ghost use Rattle.mama_bridge.specs.Ids.{is_sub_among, is_inbox_among};
 ghost use Rattle.mama_bridge.specs.Putters.{actor_of, HasFlags};
 ghost use Rattle.mama_bridge.specs.Links.{sub_seen, inbox_seen, first_outs, image_outs, settle_outs, inbox_held};
@@ -17,6 +18,7 @@ ghost use Rattle.mama_bridge.specs.Held.{StayHeld, KeepsHeld};
 ghost use Rattle.mama_bridge.specs.Live.{all_held, StaysLive, HasRoomOn, Awaits, Gains, KeepsLive, EndsLive};
 
 use crate::chart::Chart;
+use crate::done::Done;
 use crate::ending::{end_all, room, settle_if};
 use crate::flags::Flags;
 use crate::inboxes::Inboxes;
@@ -29,8 +31,8 @@ use mama_event::{
     BridgeNote, Fids, InboxId, InboxTerms, Make, MarketMsg, MsgKind, ObjectId, Shape, SubId,
     SubKind, SubTerms, Tagged, ToPublisher, ToQueue,
 };
-use mama_link::{Faults, Link, Outbox};
-use mama_memory::OutOfMemory;
+use mama_link::{Faults, Link};
+use mama_memory::{OutOfMemory, Outbox};
 use mama_msg::Msg;
 use mama_slots::Slots;
 use std::alloc::Global;
@@ -261,72 +263,63 @@ impl Desk {
         Ok(())
     }
 
-    /// Notes that a client is done.
-    pub(crate) fn client_done<L: Tagged>(
-        &mut self,
-        shape: &Chart,
-        client: u32,
-        publishers: u32,
-        out: &mut Outbox<BridgeOut<L>>,
-    ) -> Result<(), OutOfMemory>
-        requires client { client < length self.old.clients }
-        requires publishers { publishers ≡ length shape.now.publisher_topics }
-        ensures ok { OnOk result (Hears L.tagged shape.now (client_done client) self.old self.new out.old.items out.new.items []) }
-        ensures same { OnErr result (AsBefore self.old self.new) }
-        ensures err { OnErr result (out.new.items ≡ out.old.items) }
+    /// Whether settling has begun once this is said.
+    fn is_settling_with(&self, who: Done) -> bool
+        requires { HasFlag self.now who }
+        ensures { result ≡ is_settling_by (marked self.now.clients (client_in (said_by who))) (marked self.now.sends (sender_in (said_by who))) }
     {
-        let settling = both(self.clients.all_with(client as usize), self.sends.all());
-        let ending = both(settling, self.settled.all());
-        let settles = begins(settling, self.is_settling());
-        let ends = begins(ending, self.is_ended());
-        self.turn(settles, ends, publishers, shape.queues(), out)?;
-        self.clients.set(client as usize);
-        Ok(())
+        match who {
+            Done::Client(client) => both(self.clients.all_with(client as usize), self.sends.all()),
+            Done::Sends(publisher) => {
+                both(self.clients.all(), self.sends.all_with(publisher as usize))
+            }
+            Done::Settled(_) => self.is_settling(),
+        }
     }
 
-    /// Notes that a publisher has sent the last of its own accord.
-    pub(crate) fn sends_done<L: Tagged>(
-        &mut self,
-        shape: &Chart,
-        publisher: u32,
-        publishers: u32,
-        out: &mut Outbox<BridgeOut<L>>,
-    ) -> Result<(), OutOfMemory>
-        requires publisher { publisher < length self.old.sends }
-        requires publishers { publishers ≡ length shape.now.publisher_topics }
-        ensures ok { OnOk result (Hears L.tagged shape.now (sends_done publisher) self.old self.new out.old.items out.new.items []) }
-        ensures same { OnErr result (AsBefore self.old self.new) }
-        ensures err { OnErr result (out.new.items ≡ out.old.items) }
+    /// Whether every publisher has settled once this is said.
+    fn is_settled_with(&self, who: Done) -> bool
+        requires { HasFlag self.now who }
+        ensures { result ≡ all_set (marked self.now.settled (settler_in (said_by who))) }
     {
-        let settling = both(self.clients.all(), self.sends.all_with(publisher as usize));
-        let ending = both(settling, self.settled.all());
-        let settles = begins(settling, self.is_settling());
-        let ends = begins(ending, self.is_ended());
-        self.turn(settles, ends, publishers, shape.queues(), out)?;
-        self.sends.set(publisher as usize);
-        Ok(())
+        match who {
+            Done::Settled(publisher) => self.settled.all_with(publisher as usize),
+            _ => self.settled.all(),
+        }
     }
 
-    /// Notes that a publisher has settled.
-    pub(crate) fn settled<L: Tagged>(
+    /// Marks that this is said.
+    fn mark(&mut self, who: Done)
+        requires { HasFlag self.old who }
+        ensures { Marks who self.old self.new }
+    {
+        match who {
+            Done::Client(client) => self.clients.set(client as usize),
+            Done::Sends(publisher) => self.sends.set(publisher as usize),
+            Done::Settled(publisher) => self.settled.set(publisher as usize),
+        }
+    }
+
+    /// Notes that an actor is done, and settles and ends, where either comes with it.
+    pub(crate) fn done<L: Tagged>(
         &mut self,
         shape: &Chart,
-        publisher: u32,
+        who: Done,
         publishers: u32,
         out: &mut Outbox<BridgeOut<L>>,
     ) -> Result<(), OutOfMemory>
-        requires publisher { publisher < length self.old.settled }
+        requires who { HasFlag self.old who }
         requires publishers { publishers ≡ length shape.now.publisher_topics }
-        ensures ok { OnOk result (Hears L.tagged shape.now (settled publisher) self.old self.new out.old.items out.new.items []) }
+        ensures ok { OnOk result (Hears L.tagged shape.now (said_by who) self.old self.new out.old.items out.new.items []) }
         ensures same { OnErr result (AsBefore self.old self.new) }
         ensures err { OnErr result (out.new.items ≡ out.old.items) }
     {
-        let settling = self.is_settling();
-        let ending = both(settling, self.settled.all_with(publisher as usize));
+        let settling = self.is_settling_with(who);
+        let ending = both(settling, self.is_settled_with(who));
         let settles = begins(settling, self.is_settling());
         let ends = begins(ending, self.is_ended());
         self.turn(settles, ends, publishers, shape.queues(), out)?;
-        self.settled.set(publisher as usize);
+        self.mark(who);
         Ok(())
     }
 
@@ -384,42 +377,6 @@ impl Desk {
         }
     }
 
-    /// Settles, if settling begins, and ends, if the ending comes.
-    fn settle_and_end<L>(
-        &mut self,
-        settles: bool,
-        ends: bool,
-        publishers: u32,
-        queues: u32,
-        out: &mut Outbox<BridgeOut<L>>,
-    ) -> Result<(), OutOfMemory>
-        ensures subs { OnOk result (KeepsLive ends self.old.subs self.new.subs) }
-        ensures inboxes { OnOk result (self.new.inboxes.links ≡ kept ends self.old.inboxes.links) }
-        ensures slots { OnOk result (KeepsHeld ends self.old.slots self.new.slots) }
-        ensures out { OnOk result (EndsLive ends publishers queues self.old.subs self.old.inboxes.links (out.old.items ++ (if settles then settle_outs publishers else [])) out.new.items) }
-        ensures rest { AllButLinks self.old self.new }
-        ensures same_subs { OnErr result (self.new.subs ≡ self.old.subs) }
-        ensures same_inboxes { OnErr result (self.new.inboxes.links ≡ self.old.inboxes.links) }
-        ensures same_slots { OnErr result (self.new.slots ≡ self.old.slots) }
-        ensures err { OnErr result (out.new.items ≡ out.old.items) }
-    {
-        let held = self.subs.held()?;
-        let count = self.subs.count();
-        let replies = self.inboxes.held()?;
-        let opened = self.inboxes.count();
-        let more = room(held, count, replies, opened, publishers, queues)?;
-        out.reserve(more)?;
-        let mut links = Vec::new(self.alloc);
-        links.reserve(count)?;
-        let mut msgs = Outbox::new(self.alloc);
-        msgs.reserve(held)?;
-        let mut bodies = Outbox::new(self.alloc);
-        bodies.reserve(replies)?;
-        settle_if(settles, publishers, out);
-        self.end_if(ends, publishers, queues, links, &mut msgs, &mut bodies, out);
-        Ok(())
-    }
-
     /// Settles and ends, where either comes. Where neither does, no link is looked at.
     fn turn<L>(
         &mut self,
@@ -442,7 +399,21 @@ impl Desk {
         if !settles && !ends {
             return Ok(());
         }
-        self.settle_and_end(settles, ends, publishers, queues, out)
+        let held = self.subs.held()?;
+        let count = self.subs.count();
+        let replies = self.inboxes.held()?;
+        let opened = self.inboxes.count();
+        let more = room(held, count, replies, opened, publishers, queues)?;
+        out.reserve(more)?;
+        let mut links = Vec::new(self.alloc);
+        links.reserve(count)?;
+        let mut msgs = Outbox::new(self.alloc);
+        msgs.reserve(held)?;
+        let mut bodies = Outbox::new(self.alloc);
+        bodies.reserve(replies)?;
+        settle_if(settles, publishers, out);
+        self.end_if(ends, publishers, queues, links, &mut msgs, &mut bodies, out);
+        Ok(())
     }
 
     pub(crate) fn open_inbox<L: Tagged>(

@@ -8,8 +8,7 @@ use crate::inboxes::{InboxLink, end_entry};
 use crate::out::BridgeOut;
 use crate::subs::{self, SubLink};
 use mama_event::{MarketMsg, ToPublisher, ToQueue, ToTimers};
-use mama_link::Outbox;
-use mama_memory::OutOfMemory;
+use mama_memory::{OutOfMemory, Outbox};
 use mama_msg::Msg;
 
 /// Ends the links of subscriptions in order, into outboxes with room.

@@ -1,8 +1,8 @@
 ghost use Rattle.std.specs.Prelude.{◌≡◌, ◌+◌, ◌≤◌, ◌++◌, List, length, IfOk};
 ghost use Rattle.mama_link.specs.Link.{rest, StandsFor};
 
-use mama_link::{Duplicate, Link, Outbox};
-use mama_memory::OutOfMemory;
+use mama_link::{Duplicate, Link};
+use mama_memory::{OutOfMemory, Outbox};
 
 /// The sum, or want of memory where it is too great for room of that size.
 pub(crate) fn plus(total: usize, more: usize) -> Result<usize, OutOfMemory>

@@ -1,5 +1,5 @@
 ghost use Rattle.std.specs.Prelude.{◌≡◌, ◌<◌, ◌==◌, ◌||◌, ◌&&◌, not, false, true, length, replicate, slice_set, IfOk};
-ghost use Rattle.mama_bridge_rules.specs.Table.{all_set};
+ghost use Rattle.mama_laws_bridge.specs.Table.{all_set};
 
 use mama_memory::OutOfMemory;
 use std::alloc::Global;

@@ -1,18 +1,18 @@
 ghost use Rattle.std.specs.Prelude.{◌≡◌, ℕ, ◌<◌, ◌^◌, [], length, None, IfErr, OnOk, OnErr};
 ghost use Rattle.mama_event.specs.ToBridge.{note_of};
-ghost use Rattle.mama_rules.specs.Bridge.{from_client, from_publisher, from_queue, put_by};
-ghost use Rattle.mama_bridge_rules.specs.Table.{leaver_in};
+ghost use Rattle.mama_rules_services.specs.Bridge.{from_client, from_publisher, from_queue, put_by};
+ghost use Rattle.mama_laws_bridge.specs.Table.{leaver_in};
 ghost use Rattle.mama_bridge.specs.Desk.{Hears, HearsOf, AsBefore};
 ghost use Rattle.mama_bridge.specs.Outs.{brought};
 ghost use Rattle.mama_bridge.specs.Putters.{actor_of, IsThere, HasFlags};
 
 use crate::chart::Chart;
 use crate::desk::Desk;
+use crate::done::Done;
 use crate::out::BridgeOut;
 use crate::putter::Putter;
 use mama_event::{InboxId, InboxTerms, SubId, SubTerms, Tagged, ToBridge};
-use mama_link::Outbox;
-use mama_memory::OutOfMemory;
+use mama_memory::{OutOfMemory, Outbox};
 
 impl Desk {
     /// Hears an event of an actor. It is no queue's Bye.
@@ -173,7 +173,7 @@ impl Desk {
             ToBridge::Leave { sub } => self.leave(*sub, out),
             ToBridge::CloseInbox { inbox } => self.close(*inbox, out),
             ToBridge::Ask { inbox, topic, fids } => self.ask(shape, *inbox, *topic, *fids, out),
-            ToBridge::ClientDone => self.client_done(shape, client, publishers, out),
+            ToBridge::ClientDone => self.done(shape, Done::Client(client), publishers, out),
             _ => Ok(()),
         }
     }
@@ -222,8 +222,8 @@ impl Desk {
             ToBridge::Publish { msg } => self.publish(shape, publisher, msg, out),
             ToBridge::Image { sub, msg } => self.image(*sub, msg, out),
             ToBridge::Reply { inbox, body } => self.reply(*inbox, body, out),
-            ToBridge::SendsDone => self.sends_done(shape, publisher, publishers, out),
-            ToBridge::Settled => self.settled(shape, publisher, publishers, out),
+            ToBridge::SendsDone => self.done(shape, Done::Sends(publisher), publishers, out),
+            ToBridge::Settled => self.done(shape, Done::Settled(publisher), publishers, out),
             _ => Ok(()),
         }
     }

@@ -1,8 +1,8 @@
 //! The bridge: it routes what publishers send over the links of subscriptions and inboxes, gives each object a slot of
 //! its queue, and decides the ending.
 //!
-//! What the bridge puts is `bridge_puts_at` of `mama_rules`: the reaction to an entry of its journal, given the journal
-//! before it. The contract of [`MemoryBridge::take`] says so of every event that comes by any port, in any order, and
+//! What the bridge puts is `bridge_puts_at` of `mama_rules_services`: the reaction to an entry of its journal, given the journal
+//! before it. The contract of [`Bridge::take`] says so of every event that comes by any port, in any order, and
 //! that the listener of a `Create` is the one that the event of that entry brought.
 //!
 //! A bridge keeps a link for each live subscription and each open inbox, and not what it heard. The links of
@@ -17,12 +17,14 @@
 mod bridge;
 mod chart;
 mod desk;
+mod done;
 mod ending;
 mod ends;
 mod flags;
 mod hearing;
 mod inboxes;
 mod live;
+mod memory;
 mod out;
 mod places;
 mod putter;
@@ -30,5 +32,6 @@ mod routes;
 mod subs;
 mod tally;
 
-pub use bridge::MemoryBridge;
+pub use bridge::Bridge;
+pub use memory::MemoryBridge;
 pub use out::BridgeOut;

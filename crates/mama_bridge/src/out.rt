@@ -1,7 +1,7 @@
 ghost use Rattle.std.specs.Prelude.{◌≡◌, ◌+◌, ◌<◌, ◌≤◌, [], ◌∷◌, ◌++◌, map, take, drop, length, option_to_list, IfNone};
 
 use mama_event::{InboxId, MarketMsg, ObjectId, SubId, ToPublisher, ToQueue, ToTimers};
-use mama_link::Outbox;
+use mama_memory::Outbox;
 use mama_msg::Msg;
 
 /// What the bridge puts, and on whose lane: a publisher's or a queue's, by its number, or the timer service's.

@@ -1,7 +1,7 @@
 ghost use Rattle.std.specs.Prelude.{◌≡◌, ◌||◌, ◌++◌, [], ◌∷◌, false, length, filter, option_to_list, OnOk, OnErr, None, Some, slice_index_or, if◌then◌else◌};
 ghost use Rattle.mama_event.specs.Object.{same_sub};
 ghost use Rattle.mama_event.specs.declared.ids.SubId.{SubId as Sub};
-ghost use Rattle.mama_bridge_rules.specs.Table.{without, kept};
+ghost use Rattle.mama_laws_bridge.specs.Table.{without, kept};
 ghost use Rattle.mama_bridge.specs.Ids.{is_sub_among};
 ghost use Rattle.mama_bridge.specs.Placed.{Indexed, IsAt, entry_passes, is_place_of, present};
 

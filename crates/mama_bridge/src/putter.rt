@@ -1,5 +1,5 @@
 ghost use Rattle.std.specs.Prelude.{◌≡◌, length};
-ghost use Rattle.mama_rules.specs.Ports.{bridge_putter};
+ghost use Rattle.mama_rules_services.specs.Ports.{bridge_putter};
 ghost use Rattle.mama_bridge.specs.Putters.{actor_of, IsThere};
 
 use crate::chart::Chart;

@@ -1,6 +1,6 @@
 ghost use Rattle.std.specs.Prelude.{◌≡◌, ℕ, ◌<◌, ◌++◌, ◌==◌, ◌&&◌, not, map, nat_lt, OnOk, OnErr, if◌then◌else◌};
 ghost use Rattle.mama_slots.specs.Slots.{in_use};
-ghost use Rattle.mama_bridge_rules.specs.Table.{SubRow, of_sub, sub_passed, sub_wished};
+ghost use Rattle.mama_laws_bridge.specs.Table.{SubRow, of_sub, sub_passed, sub_wished};
 ghost use Rattle.mama_bridge.specs.Links.{sub_seen, sub_view, emit_outs, row_is_on, wish_outs, SubsPass, SubLeaves, SubWishes};
 
 use crate::ends::plus;
@@ -8,8 +8,7 @@ use crate::out::BridgeOut;
 use crate::places::Place;
 use crate::subs::{self, SubLink};
 use mama_event::{MarketMsg, MsgKind, SubId, ToPublisher};
-use mama_link::Outbox;
-use mama_memory::OutOfMemory;
+use mama_memory::{OutOfMemory, Outbox};
 use mama_slots::Slots;
 use std::alloc::Global;
 use std::collections::VecDeque;

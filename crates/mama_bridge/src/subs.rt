@@ -3,14 +3,14 @@ ghost use Rattle.std.specs.VecDeque.{deque_len};
 ghost use Rattle.mama_link.specs.Link.{emit};
 ghost use Rattle.mama_event.specs.Object.{same_sub};
 ghost use Rattle.mama_event.specs.declared.market.MarketMsg.{MarketMsg};
-ghost use Rattle.mama_bridge_rules.specs.Table.{SubRow, sub_passed};
+ghost use Rattle.mama_laws_bridge.specs.Table.{SubRow, sub_passed};
 ghost use Rattle.mama_bridge.specs.Links.{sub_seen, sub_view, ready_len, Holds, IsReady, Each, ReadyIf, HoldsIf, weight, weights, emit_outs, PassStep, PassSteps, EndStep, EndSteps, sub_held};
 
 use crate::ends::{finish, plus};
 use crate::out::{BridgeOut, deliver, gone};
 use mama_event::{MarketMsg, ObjectId, SubId};
-use mama_link::{Link, Outbox, Prepared};
-use mama_memory::OutOfMemory;
+use mama_link::{Link, Prepared};
+use mama_memory::{OutOfMemory, Outbox};
 use std::collections::VecDeque;
 
 /// The link of a live subscription: its topic, its place, how many recaps may be asked for it and how many were, and

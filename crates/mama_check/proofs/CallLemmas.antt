@@ -10,12 +10,12 @@ use Rattle.mama_event.specs.declared.to_queue.QueueNote.{QueueNote}
 use Rattle.mama_script.specs.Script.{ScriptData}
 use Rattle.mama_record.specs.RunData.{RunData, ObjectCalls}
 use Rattle.mama_record.specs.RunView as view
-use Rattle.mama_rounds.specs.Client.{Planned}
-use Rattle.mama_rounds.specs.Round.{setting_of, object_calls}
-use Rattle.mama_queue_seat.specs.declared.plans.PlannedObject.{PlannedObject}
-use Rattle.mama_queue_seat.specs.Plans.{planned_object, planned_objects}
-use Rattle.mama_queue_check.specs.Served.{ServedData}
-use Rattle.mama_queue_check.specs.Recorded.{journals_of, calls_by}
+use Rattle.mama_rules_rounds.specs.Client.{Planned}
+use Rattle.mama_rules_rounds.specs.Round.{setting_of, object_calls}
+use Rattle.mama_plans.specs.declared.plans.PlannedObject.{PlannedObject}
+use Rattle.mama_plans.specs.Plans.{planned_object, planned_objects}
+use Rattle.mama_check_queue.specs.Served.{ServedData}
+use Rattle.mama_check_queue.specs.Recorded.{journals_of, calls_by}
 use Rattle.mama_check.specs.Rules.{KeepsCalls}
 
 -- an item that is there

@@ -11,12 +11,12 @@ use Rattle.mama_event.specs.Ports.{clients_of, publishers_of, queues_of}
 use Rattle.mama_script.specs.Script.{ScriptData}
 use Rattle.mama_script.specs.Tree.{IsShaped}
 use Rattle.mama_record.specs.RunData.{RunData}
-use Rattle.mama_rounds.specs.Client.{bridge_part, timers_part}
-use Rattle.mama_order.specs.declared.order.Need.{Need}
-use Rattle.mama_edges.proofs.LaneWalk.{length_last}
-use Rattle.mama_puts.specs.Puts.{AreLists, bridge_put_to_timers}
-use Rattle.mama_puts.specs.declared.client.ClientPuts.{ClientPuts}
-use Rattle.mama_queue_check.specs.Served.{ServedData, bridge_puts, timers_puts}
+use Rattle.mama_rules_rounds.specs.Client.{bridge_part, timers_part}
+use Rattle.mama_check_order.specs.declared.order.Need.{Need}
+use Rattle.mama_check_order.proofs.LaneWalk.{length_last}
+use Rattle.mama_check_puts.specs.Puts.{AreLists, bridge_put_to_timers}
+use Rattle.mama_check_puts.specs.declared.client.ClientPuts.{ClientPuts}
+use Rattle.mama_check_queue.specs.Served.{ServedData, bridge_puts, timers_puts}
 use Rattle.mama_check.specs.Puts.{to_bridge_in, to_timers_in, client_to_bridge, client_to_timers, publisher_to_bridge, queue_to_bridge, queue_to_timers, AreClientPuts, AreServed}
 use Rattle.mama_check.specs.Causal.{client_actor, publisher_actor, bridge_actor, queue_actor, of_each, actors_to_bridge, actors_to_timers, all_to_bridge, all_to_timers, client_needs, publisher_needs, bridge_needs, timers_needs, queue_needs, all_needs}
 use Rattle.mama_check.proofs.Lanes.{publishers_are, served_lists}

@@ -3,8 +3,8 @@ use Rattle.std.specs.Prelude.{◌↔◌, Option, None, Some}
 use Rattle.std.proofs.Common.{◌≡◌, ℕ, Bool, true, sym, subst, refl}
 use Rattle.mama_script.specs.Script.{ScriptData}
 use Rattle.mama_record.specs.RunData.{RunData}
-use Rattle.mama_legal.specs.Laws.{IsOrderly}
-use Rattle.mama_form.specs.Form.{IsFormed}
+use Rattle.mama_laws_legal.specs.Laws.{IsOrderly}
+use Rattle.mama_rules_legal.specs.Form.{IsFormed}
 use Rattle.mama_check.specs.Kept.{KeptIsLegal}
 use Rattle.mama_check.specs.Causal.{IsCausal}
 use Rattle.mama_check.specs.declared.verdict.Actor.{Actor}

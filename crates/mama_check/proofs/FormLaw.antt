@@ -10,10 +10,10 @@ use Rattle.mama_event.specs.declared.market.ImageHead.{ImageHead}
 use Rattle.mama_event.specs.declared.to_queue.QueueNote.{QueueNote}
 use Rattle.mama_msg.specs.Field.{FieldData}
 use Rattle.mama_record.specs.RunData.{LastImage, ObjectCalls}
-use Rattle.mama_rounds.specs.Client.{Planned, clock_lines}
-use Rattle.mama_rounds.specs.World.{Setting}
-use Rattle.mama_rounds.specs.Round.{setting_of, object_calls, last_image}
-use Rattle.mama_form.specs.Form.{objects_of, in_order}
+use Rattle.mama_rules_rounds.specs.Client.{Planned, clock_lines}
+use Rattle.mama_rules_rounds.specs.World.{Setting}
+use Rattle.mama_rules_rounds.specs.Round.{setting_of, object_calls, last_image}
+use Rattle.mama_rules_legal.specs.Form.{objects_of, in_order}
 use Rattle.mama_check.specs.Images.{images_for}
 use Rattle.mama_check.specs.Kept.{LegalIsFormed}
 use Rattle.mama_check.proofs.Alone.{AreAlone, alone_rest, alone_here, objects_alone}

@@ -10,8 +10,8 @@ use Rattle.mama_event.specs.declared.ids.SubId.{SubId}
 use Rattle.mama_event.specs.declared.ids.ObjectId.{ObjectId}
 use Rattle.mama_event.specs.declared.ids.ObjectId.TheVariants.{Sub, Timer, Inbox}
 use Rattle.mama_record.specs.RunData.{LastImage}
-use Rattle.mama_rounds.specs.Client.{Planned}
-use Rattle.mama_form.specs.Form.{in_order}
+use Rattle.mama_rules_rounds.specs.Client.{Planned}
+use Rattle.mama_rules_legal.specs.Form.{in_order}
 use Rattle.mama_check.specs.Images.{images_for, own_rest, first_for, rest_for}
 use Rattle.mama_check.proofs.Alone.{names, times, AreAlone, alone_rest, alone_here, absent_here, absent_rest, absent_at}
 

@@ -8,14 +8,14 @@ use Rattle.mama_event.specs.declared.ids.ObjectId.TheVariants.{Sub, Timer, Inbox
 use Rattle.mama_event.specs.declared.to_queue.QueueNote.{QueueNote}
 use Rattle.mama_script.specs.Script.{ScriptData}
 use Rattle.mama_record.specs.RunData.{RunData, LastImage}
-use Rattle.mama_rounds.specs.Client.{Planned}
-use Rattle.mama_rounds.specs.World.{Setting}
-use Rattle.mama_rounds.specs.Round.{setting_of, last_image}
-use Rattle.mama_queue_seat.specs.declared.plans.PlannedObject.{PlannedObject}
-use Rattle.mama_queue_seat.specs.Plans.{planned_object, planned_objects}
-use Rattle.mama_queue_check.specs.Served.{ServedData}
-use Rattle.mama_queue_check.specs.Recorded.{journals_of, images_by}
-use Rattle.mama_form.specs.Form.{IsFormed}
+use Rattle.mama_rules_rounds.specs.Client.{Planned}
+use Rattle.mama_rules_rounds.specs.World.{Setting}
+use Rattle.mama_rules_rounds.specs.Round.{setting_of, last_image}
+use Rattle.mama_plans.specs.declared.plans.PlannedObject.{PlannedObject}
+use Rattle.mama_plans.specs.Plans.{planned_object, planned_objects}
+use Rattle.mama_check_queue.specs.Served.{ServedData}
+use Rattle.mama_check_queue.specs.Recorded.{journals_of, images_by}
+use Rattle.mama_rules_legal.specs.Form.{IsFormed}
 use Rattle.mama_check.specs.First.{IsFirst}
 use Rattle.mama_check.specs.Images.{KeepsImage, images_for, first_for, rest_for}
 use Rattle.mama_check.proofs.CallLemmas.{got, as_planned, object_of_plan}

@@ -3,10 +3,9 @@ use Rattle.std.proofs.Common.{◌≡◌, ℕ, suc, ◌<◌, List, [], ◌∷◌,
 use Rattle.std.specs.Prelude.{slice_get, Some}
 use Rattle.std.proofs.lemmas.List.{get_or-map, length-map}
 use Rattle.mama_record.specs.RunData.{ObjectCalls}
-use Rattle.mama_rounds.specs.Client.{clock_lines}
-use Rattle.mama_rounds.specs.Round.{setting_of, object_calls}
-use Rattle.mama_legal.specs.Legal.{IsLegal}
-use Rattle.mama_legal.proofs.LegalRounds.{legal_edges}
+use Rattle.mama_rules_rounds.specs.Client.{clock_lines}
+use Rattle.mama_rules_rounds.specs.Round.{setting_of, object_calls}
+use Rattle.mama_rules_legal.specs.Legal.{IsLegal}
 use Rattle.mama_check.specs.Kept.{AreKept, KeptIsLegal}
 use Rattle.mama_check.proofs.CallLemmas.{as_many}
 
@@ -55,11 +54,12 @@ kept_is_legal script run orderly counted = (forward, back)
         let wanted : List ObjectCalls = map (object_calls (setting_of script) run.queues) (setting_of script).objects in
         let as_wanted : length wanted ≡ length (setting_of script).objects = length-map (setting_of script).objects (object_calls (setting_of script) run.queues) in
         let many : length run.calls ≡ length wanted = as_many run.calls (setting_of script).objects counted.objects ∙ sym as_wanted in
-        legal_edges script run orderly
-        (record { publishers = counted.publishers; queues = counted.queues; moments = moments })
-        (record { clients = moments; publishers = kept.lines })
-        (record { bridge = kept.bridge; timers = kept.timers; publishers = kept.publishers; queues = kept.queues })
-        (record { calls = same_items run.calls wanted many (λ k low. kept.calls k (subst (λ (n : ℕ). k < n) as_wanted low)); images = kept.images })
+        record {
+          shaped = record { publishers = counted.publishers; queues = counted.queues; moments = moments };
+          lines = record { clients = moments; publishers = kept.lines };
+          edges = record { bridge = kept.bridge; timers = kept.timers; publishers = kept.publishers; queues = kept.queues };
+          calls = record { calls = same_items run.calls wanted many (λ k low. kept.calls k (subst (λ (n : ℕ). k < n) as_wanted low)); images = kept.images };
+        }
 
     back : IsLegal script run → AreKept script run
     back legal = record {

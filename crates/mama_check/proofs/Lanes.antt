@@ -12,29 +12,29 @@ use Rattle.mama_event.specs.declared.to_timers.TimersNote.{TimersNote}
 use Rattle.mama_event.specs.declared.to_queue.QueueNote.{QueueNote}
 use Rattle.mama_event.specs.Ports.{clients_of, publishers_of, queues_of}
 use Rattle.mama_event.specs.Publisher.{publisher_puts_at}
-use Rattle.mama_order.specs.Numbered.{second, numbered, parted, steps_numbered}
-use Rattle.mama_order.proofs.Numbered.{numbered_puts, steps_puts, parted_puts}
-use Rattle.mama_rules.specs.Bridge.{BridgePut, bridge_puts_at}
-use Rattle.mama_rules.specs.Bridge as bridge
-use Rattle.mama_rules.specs.Timers.{timers_puts_at}
-use Rattle.mama_rules.specs.Timers as timing
-use Rattle.mama_rules.specs.Ports.{Putter, bridge_putter, timers_putter, queue_putter}
-use Rattle.mama_queue_rules.specs.Queue.{QueuePut, queue_puts_at}
+use Rattle.mama_check_order.specs.Numbered.{second, numbered, parted, steps_numbered}
+use Rattle.mama_check_order.proofs.Numbered.{numbered_puts, steps_puts, parted_puts}
+use Rattle.mama_rules_services.specs.Bridge.{BridgePut, bridge_puts_at}
+use Rattle.mama_rules_services.specs.Bridge as bridge
+use Rattle.mama_rules_services.specs.Timers.{timers_puts_at}
+use Rattle.mama_rules_services.specs.Timers as timing
+use Rattle.mama_rules_services.specs.Ports.{Putter, bridge_putter, timers_putter, queue_putter}
+use Rattle.mama_rules_queue.specs.Queue.{QueuePut, queue_puts_at}
 use Rattle.mama_script.specs.declared.client.ClientLine.{ClientLine}
 use Rattle.mama_script.specs.Script.{ScriptData}
 use Rattle.mama_script.specs.Tree.{IsShaped, topic_of_part}
 use Rattle.mama_record.specs.RunData.{RunData}
-use Rattle.mama_rounds.specs.Client.{Planned, at_first, client_steps, bridge_part, timers_part}
-use Rattle.mama_rounds.specs.World.{no_section, orders_by, queue_part, timer_part}
-use Rattle.mama_rounds.specs.Round.{all_client_steps, setting_of}
-use Rattle.mama_legal.specs.Edges.{all_steps, client_puts, queue_puts, put_on_bridge, put_on_timers, put_on_queue}
-use Rattle.mama_legal.proofs.Lists.{by_entries, puts-push}
-use Rattle.mama_legal.proofs.Putters.{by_bridge_port, by_timers_port, by_queue_port, bridge_puts-push, timers_puts-push}
-use Rattle.mama_edges.specs.Taken.{put_by}
-use Rattle.mama_puts.specs.Puts.{AreLists, tick_part, timers_put_to, bridge_put_to_queue, bridge_put_to_timers}
-use Rattle.mama_puts.specs.Client.{line_puts}
-use Rattle.mama_puts.specs.declared.client.ClientPuts.{ClientPuts}
-use Rattle.mama_queue_check.specs.Served.{ServedData, puts_in, bridge_puts, timers_puts}
+use Rattle.mama_rules_rounds.specs.Client.{Planned, at_first, client_steps, bridge_part, timers_part}
+use Rattle.mama_rules_rounds.specs.World.{no_section, orders_by, queue_part, timer_part}
+use Rattle.mama_rules_rounds.specs.Round.{all_client_steps, setting_of}
+use Rattle.mama_rules_legal.specs.Edges.{all_steps, client_puts, queue_puts, put_on_bridge, put_on_timers, put_on_queue}
+use Rattle.mama_laws_legal.proofs.Lists.{by_entries, puts-push}
+use Rattle.mama_laws_legal.proofs.Putters.{by_bridge_port, by_timers_port, by_queue_port, bridge_puts-push, timers_puts-push}
+use Rattle.mama_check_order.specs.Taken.{put_by}
+use Rattle.mama_check_puts.specs.Puts.{AreLists, tick_part, timers_put_to, bridge_put_to_queue, bridge_put_to_timers}
+use Rattle.mama_check_puts.specs.Client.{line_puts}
+use Rattle.mama_check_puts.specs.declared.client.ClientPuts.{ClientPuts}
+use Rattle.mama_check_queue.specs.Served.{ServedData, puts_in, bridge_puts, timers_puts}
 use Rattle.mama_check.specs.Puts.{to_bridge_in, to_timers_in, client_to_bridge, client_to_timers, publisher_to_bridge, AreClientPuts, AreServed}
 use Rattle.mama_check.proofs.PutLists.{lines_are_steps}
 

@@ -12,3 +12,6 @@ pub mod BrokenLemmas
 pub mod CheckLemmas
 pub mod Causes
 pub mod Numbers
+pub mod Counts
+pub mod Parts
+pub mod WasPutLemmas

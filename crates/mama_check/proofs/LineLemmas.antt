@@ -5,8 +5,9 @@ use Rattle.std.specs.List.{flat_map}
 use Rattle.std.specs.Global.{Vec}
 use Rattle.std.proofs.lemmas.List.{get_or-map, length-map}
 use Rattle.mama_script.specs.declared.publisher.PublisherPart.{PublisherPart}
-use Rattle.mama_rounds.specs.World.{no_section}
-use Rattle.mama_rounds.specs.Round.{sends_in, publishers_from}
+use Rattle.mama_check_puts.specs.Puts.{AreLists}
+use Rattle.mama_rules_rounds.specs.World.{no_section}
+use Rattle.mama_rules_rounds.specs.Round.{sends_in, publishers_from}
 
 -- an item that is there does not depend on what stands for one that is not
 pub any_default : {X : Type 0} (xs : List X) (i : ℕ) (d e : X) → i < length xs → get_or xs i d ≡ get_or xs i e
@@ -32,6 +33,16 @@ pub items_at : {X : Type 0} (vs : List (Vec X)) (lists : List (List X)) (i : ℕ
 items_at {X} vs lists i v are within is =
     let inside : i < length vs = subst (λ (n : ℕ). i < n) (ap length (sym are) ∙ length-map vs (λ (w : Vec X). w.items)) within in
     ap (λ (w : Vec X). w.items) is ∙ sym (get_or-map (λ (w : Vec X). w.items) vs i v [] inside) ∙ ap (λ (ls : List (List X)). slice_index_or ls i []) are
+
+-- one of many lists, where they are known
+pub list_known : {X : Type 0} (vs : List (Vec X)) (lists : List (List X)) (k : ℕ) (list : List X) → map (λ (v : Vec X). v.items) vs ≡ lists
+    → list ≡ slice_index_or (map (λ (v : Vec X). v.items) vs) k [] → list ≡ slice_index_or lists k []
+list_known {X} vs lists k list are is = is ∙ ap (λ (ls : List (List X)). slice_index_or ls k []) are
+
+pub list_is : {X : Type 0} (vs known : List (Vec X)) (f : ℕ → List X) (n k : ℕ) (list : List X) → vs ≡ known → AreLists (map (λ (v : Vec X). v.items) known) n f → k < n
+    → list ≡ slice_index_or (map (λ (v : Vec X). v.items) vs) k [] → list ≡ f k
+list_is {X} vs known f n k list same are within is =
+    is ∙ ap (λ (ws : List (Vec X)). slice_index_or (map (λ (v : Vec X). v.items) ws) k []) same ∙ are.each k within
 
 -- a fact of two values, at equal ones
 pub carried : {A B : Type 0} (P : A → B → Type 0) (a a' : A) (b b' : B) → a ≡ a' → b ≡ b' → P a b → P a' b'

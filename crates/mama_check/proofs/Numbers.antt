@@ -4,7 +4,7 @@ use Rattle.std.specs.Prelude.{Option}
 use Rattle.std.proofs.lemmas.List.{get_or_append_left, get_or-append-add}
 use Rattle.mama_event.specs.declared.shape.Shape.{Shape}
 use Rattle.mama_event.specs.Ports.{clients_of, publishers_of, queues_of}
-use Rattle.mama_order.specs.declared.order.Need.{Need}
+use Rattle.mama_check_order.specs.declared.order.Need.{Need}
 use Rattle.mama_script.specs.Script.{ScriptData}
 use Rattle.mama_record.specs.RunData.{RunData}
 use Rattle.mama_check.specs.Causal.{client_actor, publisher_actor, bridge_actor, queue_actor, of_each, actors_to_bridge, actors_to_timers, client_needs, publisher_needs, bridge_needs, timers_needs, queue_needs, all_needs, AreByNumber, AreByPort}

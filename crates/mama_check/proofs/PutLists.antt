@@ -5,16 +5,15 @@ use Rattle.std.specs.List.{flat_map}
 use Rattle.std.proofs.lemmas.Bool.{cases_lt}
 use Rattle.std.proofs.lemmas.Grind.{flat_map-append}
 use Rattle.std.proofs.lemmas.List.{map-append, get_or_append_left, get_or_push}
-use Rattle.mama_queue_rules.specs.Queue.{QueuePut}
+use Rattle.mama_rules_queue.specs.Queue.{QueuePut}
 use Rattle.mama_script.specs.declared.client.ClientLine.{ClientLine}
 use Rattle.mama_script.specs.declared.publisher.PublisherPart.{PublisherPart}
-use Rattle.mama_rounds.specs.Client.{Standing, line_steps, after_line, steps_from}
-use Rattle.mama_rounds.specs.World.{no_section}
-use Rattle.mama_rounds.specs.Round.{publishers_from}
-use Rattle.mama_edges.proofs.LaneWalk.{length_last}
-use Rattle.mama_puts.specs.Puts.{AreLists}
-use Rattle.mama_puts.specs.Sender.{script_of}
-use Rattle.mama_puts.specs.Client.{lines_from}
+use Rattle.mama_rules_rounds.specs.Client.{Standing, line_steps, after_line, steps_from}
+use Rattle.mama_rules_rounds.specs.World.{no_section}
+use Rattle.mama_rules_rounds.specs.Round.{publishers_from}
+use Rattle.mama_check_order.proofs.LaneWalk.{length_last}
+use Rattle.mama_check_puts.specs.Puts.{AreLists, script_of}
+use Rattle.mama_check_puts.specs.Client.{lines_from}
 
 pub lists_none : {A V : Type 0} (g : A → List V) (all : List A) (f : ℕ → List V) → all ≡ [] → AreLists (map g all) 0 f
 lists_none g all f e = record { as_many = ap (λ (xs : List _). length (map g xs)) e; each = λ n h. absurd (omega (arith, h)) }

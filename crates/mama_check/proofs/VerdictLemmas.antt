@@ -16,21 +16,21 @@ use Rattle.mama_dq.specs.declared.table.Phase.{Phase}
 use Rattle.mama_dq.specs.declared.table.Phase.TheVariants.{Await, LiveOk, LiveStale}
 use Rattle.mama_script.specs.Script.{ScriptData}
 use Rattle.mama_record.specs.RunData.{RunData, LastImage}
-use Rattle.mama_rounds.specs.Client.{Planned}
+use Rattle.mama_rules_rounds.specs.Client.{Planned}
 use Rattle.mama_journal.specs.Journal.{first_said}
-use Rattle.mama_queue_rules.specs.Queue.{make_in, context_of, messages_of, deeds}
-use Rattle.mama_rounds.specs.World.{Setting, orders_by}
-use Rattle.mama_rounds.specs.Round.{setting_of, last_image, image_in}
-use Rattle.mama_callbacks.specs.Told.{LegalRecordsTellAll}
-use Rattle.mama_callbacks.specs.Plain.{LegalRecordsTellPlainly}
-use Rattle.mama_genuine.specs.CalmLinks.{LegalLinksAreCalm}
-use Rattle.mama_genuine.specs.GivenAll.{LegalUpdatesAreGiven}
-use Rattle.mama_genuine.specs.Sent.{DeliveredMessagesAreSent, GivenMessagesAreSent}
-use Rattle.mama_genuine.specs.Records.{OkImagesAreRecords}
-use Rattle.mama_genuine.specs.Gaps.{ToldGapsAreTrue}
-use Rattle.mama_legal.specs.Laws.{IsOrderly}
-use Rattle.mama_legal.specs.Legal.{IsLegal}
-use Rattle.mama_form.specs.Form.{IsFormed}
+use Rattle.mama_rules_queue.specs.Queue.{make_in, context_of, messages_of, deeds}
+use Rattle.mama_rules_rounds.specs.World.{Setting, orders_by}
+use Rattle.mama_rules_rounds.specs.Round.{setting_of, last_image, image_in}
+use Rattle.mama_laws_callbacks.specs.Told.{LegalRecordsTellAll}
+use Rattle.mama_laws_callbacks.specs.Plain.{LegalRecordsTellPlainly}
+use Rattle.mama_laws_genuine.specs.CalmLinks.{LegalLinksAreCalm}
+use Rattle.mama_laws_genuine.specs.GivenAll.{LegalUpdatesAreGiven}
+use Rattle.mama_laws_genuine.specs.Sent.{DeliveredMessagesAreSent, GivenMessagesAreSent}
+use Rattle.mama_laws_genuine.specs.Records.{OkImagesAreRecords}
+use Rattle.mama_laws_genuine.specs.Gaps.{ToldGapsAreTrue}
+use Rattle.mama_laws_legal.specs.Laws.{IsOrderly, LegalRecordsHaveStreams}
+use Rattle.mama_rules_legal.specs.Legal.{IsLegal}
+use Rattle.mama_rules_legal.specs.Form.{IsFormed}
 use Rattle.mama_check.specs.Rules.{KeepsImages}
 use Rattle.mama_check.specs.Kept.{AreKept, KeptIsLegal}
 use Rattle.mama_check.specs.Images.{images_for}
@@ -129,9 +129,10 @@ not_kept script run rule of (images k p read done whole told first there) kept =
 pub not_legal : (script : ScriptData) (run : RunData) (rule : ℕ) (of : Actor) → KeptIsLegal → IsOrderly script → IsFormed script run → IsBroken script run rule of → IsLegal script run → ⊥
 not_legal script run rule of law orderly formed broken legal = not_kept script run rule of broken ((law script run orderly formed.counted).1 legal)
 
-pub legal_is_true : LegalRecordsTellAll → DeliveredMessagesAreSent → GivenMessagesAreSent → OkImagesAreRecords → ToldGapsAreTrue
+pub legal_is_true : LegalRecordsHaveStreams → LegalRecordsTellAll → DeliveredMessagesAreSent → GivenMessagesAreSent → OkImagesAreRecords → ToldGapsAreTrue
     → LegalRecordsTellPlainly → LegalLinksAreCalm → LegalUpdatesAreGiven → LegalIsTrue
-legal_is_true told sent given records gaps plainly calm updates script run orderly legal = record {
+legal_is_true streams told sent given records gaps plainly calm updates script run orderly legal = record {
+  streams = streams script run orderly legal;
   told = told script run orderly legal;
   sent = sent script run legal.shaped legal.edges;
   given = given script run legal.shaped legal.edges legal.calls;

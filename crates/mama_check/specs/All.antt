@@ -1,9 +1,9 @@
--- The puts of all actors together.
+-- inner: The puts of all actors together.
 use Rattle.std.specs.Prelude.{length, map}
 use Rattle.mama_event.specs.Ports.{queues_of}
 use Rattle.mama_script.specs.Script.{ScriptData}
 use Rattle.mama_record.specs.RunData.{RunData}
-use Rattle.mama_puts.specs.Puts.{AreLists, timers_put_to}
+use Rattle.mama_check_puts.specs.Puts.{AreLists, timers_put_to}
 use Rattle.mama_check.specs.Puts.{AreClientPuts, AreBridgePuts, AreServed, publisher_to_bridge}
 use Rattle.mama_check.specs.declared.all.AllPuts.{AllPuts}
 

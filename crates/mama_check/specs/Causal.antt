@@ -1,17 +1,21 @@
--- Whether one order of all that the actors did has each event taken after it was put.
+-- believed: Whether one order of all that the actors did has each event taken after it was put.
 use Rattle.std.specs.Prelude.{◌≡◌, ℕ, suc, ◌+◌, ◌<◌, List, [], ◌∷◌, ◌++◌, length, map, replicate, slice_index_or, Option, None}
 use Rattle.mama_journal.specs.Journal.{numbers_below}
+use Rattle.mama_journal.specs.Lane.{by_port}
 use Rattle.mama_event.specs.declared.shape.Shape.{Shape}
 use Rattle.mama_event.specs.declared.to_bridge.BridgeNote.{BridgeNote}
 use Rattle.mama_event.specs.declared.to_timers.TimersNote.{TimersNote}
 use Rattle.mama_event.specs.declared.to_queue.QueueNote.{QueueNote}
 use Rattle.mama_event.specs.Ports.{clients_of, publishers_of, queues_of, bridge_port_of_client, bridge_port_of_publisher, bridge_port_of_queue, timers_port_of_client, timers_port_of_queue, timers_port_of_bridge}
-use Rattle.mama_order.specs.Order.{HasOrder}
-use Rattle.mama_order.specs.declared.order.Need.{Need}
-use Rattle.mama_edges.specs.Taken.{needs_of, sender_needs_of}
+use Rattle.mama_check_order.specs.Order.{HasOrder}
+use Rattle.mama_check_order.specs.declared.order.Need.{Need}
+use Rattle.mama_check_order.specs.Taken.{needs_of, sender_needs_of}
+use Rattle.mama_rules_services.specs.Ports.{bridge_putter, timers_putter, queue_putter}
 use Rattle.mama_script.specs.Script.{ScriptData}
 use Rattle.mama_record.specs.RunData.{RunData}
-use Rattle.mama_puts.specs.Puts.{timers_put_to, bridge_put_to_publisher, bridge_put_to_queue, bridge_put_to_timers}
+use Rattle.mama_rules_rounds.specs.Round.{setting_of}
+use Rattle.mama_rules_legal.specs.Edges.{client_puts, taken_by, put_on_bridge, put_on_timers, put_to_publisher, put_on_queue}
+use Rattle.mama_check_puts.specs.Puts.{timers_put_to, bridge_put_to_publisher, bridge_put_to_queue, bridge_put_to_timers}
 use Rattle.mama_check.specs.Puts.{client_to_bridge, client_to_timers, publisher_to_bridge, queue_to_bridge, queue_to_timers}
 
 -- THE NUMBERS OF THE ACTORS: clients come first, then publishers, then the bridge, the timer service, and queues
@@ -112,7 +116,25 @@ NeedsAreByNumber = (script : ScriptData) (run : RunData) → AreByNumber script 
 abbrev pub ActorsAreByPort : Type 0
 ActorsAreByPort = (shape : Shape) → AreByPort shape
 
+-- WHAT WAS TAKEN WAS PUT, of any record, legal or not
+
+-- some events are the first of what was put
+abbrev pub Begins : {V : Type 0} → List V → List V → Type 0
+Begins {V} taken put = (rest : List V) × (taken ++ rest ≡ put)
+
+-- What was taken on an edge is the first of what was put there, event by event. By a port that is no actor's nothing was
+-- put, and so nothing was taken.
+pub record WasPut (script : ScriptData) (run : RunData) : Type 0 where
+  pub bridge : (port : ℕ) → Begins (by_port port run.bridge)
+      (put_on_bridge (setting_of script) (client_puts script run.clients) run.publishers run.queues (bridge_putter script.shape port))
+  pub timers : (port : ℕ) → Begins (by_port port run.timers)
+      (put_on_timers (setting_of script) (client_puts script run.clients) run.queues run.bridge (timers_putter script.shape port))
+  pub publishers : (p : ℕ) → Begins (taken_by (slice_index_or run.publishers p [])) (put_to_publisher script.shape run.bridge p)
+  pub queues : (q port : ℕ) → Begins (by_port port (slice_index_or run.queues q []))
+      (put_on_queue script.shape run.bridge run.timers q (queue_putter port))
+
 -- A record is causal where one order of all entries and client lines keeps each actor's own order, and has each event taken
--- after it was put.
-abbrev pub IsCausal : ScriptData → RunData → Type 0
-IsCausal script run = HasOrder (all_needs script run)
+-- after it was put. A take that nothing put has no cause, so a record with one is not causal.
+pub record IsCausal (script : ScriptData) (run : RunData) : Type 0 where
+  pub put : WasPut script run
+  pub order : HasOrder (all_needs script run)

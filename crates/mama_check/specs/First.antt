@@ -1,4 +1,4 @@
--- The first of some actors that breaks a rule.
+-- believed: The first of some actors that breaks a rule.
 use Rattle.std.specs.Prelude.{ℕ, ◌<◌, Option, None, Some}
 
 -- Of the actors numbered below n the first that does not keep a rule; none, where all keep it.

@@ -1,4 +1,4 @@
--- The last images that a record has, object by object.
+-- believed: The last images that a record has, object by object.
 use Rattle.std.specs.Prelude.{◌≡◌, ℕ, List, [], ◌∷◌, filter, Some, slice_get, if◌then◌else◌}
 use Rattle.mama_event.specs.declared.ids.SubId.{SubId}
 use Rattle.mama_event.specs.declared.ids.ObjectId.{ObjectId}
@@ -6,8 +6,8 @@ use Rattle.mama_event.specs.declared.ids.ObjectId.TheVariants.{Sub, Timer, Inbox
 use Rattle.mama_event.specs.Object.{same_sub}
 use Rattle.mama_script.specs.Script.{ScriptData}
 use Rattle.mama_record.specs.RunData.{RunData, LastImage}
-use Rattle.mama_rounds.specs.Client.{Planned}
-use Rattle.mama_rounds.specs.Round.{setting_of, last_image}
+use Rattle.mama_rules_rounds.specs.Client.{Planned}
+use Rattle.mama_rules_rounds.specs.Round.{setting_of, last_image}
 
 -- the images that stand for an object; only a subscription has one
 abbrev pub images_for : ObjectId → List LastImage → List LastImage

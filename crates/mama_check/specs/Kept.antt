@@ -1,12 +1,12 @@
--- A record that keeps all rules is legal, and no other is.
+-- believed: A record that keeps all rules is legal, and no other is.
 use Rattle.std.specs.Prelude.{◌↔◌, ℕ, ◌<◌, length}
 use Rattle.mama_event.specs.Ports.{queues_of}
 use Rattle.mama_script.specs.Script.{ScriptData}
 use Rattle.mama_record.specs.RunData.{RunData}
-use Rattle.mama_rounds.specs.Round.{setting_of}
-use Rattle.mama_form.specs.Form.{IsCounted, IsFormed}
-use Rattle.mama_legal.specs.Laws.{IsOrderly}
-use Rattle.mama_legal.specs.Legal.{IsLegal}
+use Rattle.mama_rules_rounds.specs.Round.{setting_of}
+use Rattle.mama_rules_legal.specs.Form.{IsCounted, IsFormed}
+use Rattle.mama_laws_legal.specs.Laws.{IsOrderly}
+use Rattle.mama_rules_legal.specs.Legal.{IsLegal}
 use Rattle.mama_check.specs.Rules.{KeepsMoments, KeepsLines, KeepsPublisherEdge, KeepsBridgeEdges, KeepsTimersEdges, KeepsQueueEdges, KeepsCalls, KeepsImages}
 
 -- All actors keep all rules.
@@ -20,8 +20,7 @@ pub record AreKept (script : ScriptData) (run : RunData) : Type 0 where
   pub calls : (k : ℕ) → k < length (setting_of script).objects → KeepsCalls script run k
   pub images : KeepsImages script run
 
--- A law: the record of a script is legal exactly where all rules are kept. What a legal record has beside them, the streams
--- of subscriptions, timers and inboxes and the last events, follows from the edges.
+-- A law: the record of a script is legal exactly where all rules are kept.
 abbrev pub KeptIsLegal : Type 0
 KeptIsLegal = (script : ScriptData) (run : RunData) → IsOrderly script → IsCounted script run → AreKept script run ↔ IsLegal script run
 

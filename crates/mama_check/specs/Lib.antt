@@ -6,3 +6,5 @@ pub mod Kept
 pub mod Images
 pub mod Causal
 pub mod Verdict
+pub mod Sends
+pub mod Sent

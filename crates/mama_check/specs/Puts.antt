@@ -1,22 +1,21 @@
--- What all actors put by a record, each event with the number of the entry that put it.
+-- believed: What all actors put by a record, each event with the number of the entry that put it.
 use Rattle.std.specs.Prelude.{◌≡◌, ℕ, List, [], length, map, slice_index_or}
 use Rattle.mama_event.specs.declared.to_bridge.BridgeNote.{BridgeNote}
 use Rattle.mama_event.specs.declared.to_timers.TimersNote.{TimersNote}
 use Rattle.mama_event.specs.Ports.{publishers_of, queues_of}
 use Rattle.mama_event.specs.Publisher.{publisher_puts_at}
-use Rattle.mama_order.specs.Numbered.{numbered, parted}
+use Rattle.mama_check_order.specs.Numbered.{numbered, parted}
 use Rattle.mama_script.specs.Script.{ScriptData}
 use Rattle.mama_record.specs.RunData.{RunData}
-use Rattle.mama_rounds.specs.Client.{bridge_part, timers_part}
-use Rattle.mama_rounds.specs.World.{no_section}
-use Rattle.mama_rounds.specs.Round.{setting_of}
-use Rattle.mama_puts.specs.Puts.{AreLists, bridge_put_to_publisher, bridge_put_to_queue, bridge_put_to_timers}
-use Rattle.mama_puts.specs.Bridge.{publishers_in, queues_in}
-use Rattle.mama_puts.specs.Client.{client_put_to_bridge, client_put_to_timers}
-use Rattle.mama_puts.specs.declared.client.ClientPuts.{ClientPuts}
-use Rattle.mama_puts.specs.declared.bridge.BridgePuts.{BridgePuts}
-use Rattle.mama_queue_check.specs.Served.{ServedData, puts_in}
-use Rattle.mama_queue_check.specs.Recorded.{journals_of, AreOf}
+use Rattle.mama_rules_rounds.specs.Client.{bridge_part, timers_part}
+use Rattle.mama_rules_rounds.specs.World.{no_section}
+use Rattle.mama_rules_rounds.specs.Round.{setting_of}
+use Rattle.mama_check_puts.specs.Puts.{AreLists, bridge_put_to_publisher, bridge_put_to_queue, bridge_put_to_timers, publishers_in, queues_in}
+use Rattle.mama_check_puts.specs.Client.{client_put_to_bridge, client_put_to_timers}
+use Rattle.mama_check_puts.specs.declared.client.ClientPuts.{ClientPuts}
+use Rattle.mama_check_puts.specs.declared.bridge.BridgePuts.{BridgePuts}
+use Rattle.mama_check_queue.specs.Served.{ServedData, puts_in}
+use Rattle.mama_check_queue.specs.Recorded.{journals_of, AreOf}
 
 abbrev pub to_bridge_in : List ClientPuts → List (List (ℕ × BridgeNote))
 to_bridge_in clients = map (λ c. c.to_bridge.items) clients

@@ -1,16 +1,16 @@
--- The rules of a legal record, one by one, each for one actor by its number. Where all actors keep them, the record is
+-- believed: The rules of a legal record, one by one, each for one actor by its number. Where all actors keep them, the record is
 -- legal; nothing else is asked of the streams of subscriptions and of last events, which follow from whole edges.
 use Rattle.std.specs.Prelude.{◌≡◌, ℕ, [], length, map, slice_get, slice_index_or}
 use Rattle.std.specs.List.{flat_map}
 use Rattle.mama_journal.specs.Lane.{by_port}
-use Rattle.mama_rules.specs.Ports.{bridge_putter, timers_putter, queue_putter}
+use Rattle.mama_rules_services.specs.Ports.{bridge_putter, timers_putter, queue_putter}
 use Rattle.mama_script.specs.Script.{ScriptData}
 use Rattle.mama_record.specs.RunData.{RunData}
-use Rattle.mama_rounds.specs.Client.{clock_lines}
-use Rattle.mama_rounds.specs.World.{no_section}
-use Rattle.mama_rounds.specs.Round.{setting_of, object_calls, last_image}
-use Rattle.mama_legal.specs.Lines.{IsSentOut}
-use Rattle.mama_legal.specs.Edges.{client_puts, taken_by, put_on_bridge, put_on_timers, put_to_publisher, put_on_queue}
+use Rattle.mama_rules_rounds.specs.Client.{clock_lines}
+use Rattle.mama_rules_rounds.specs.World.{no_section}
+use Rattle.mama_rules_rounds.specs.Round.{setting_of, object_calls, last_image}
+use Rattle.mama_rules_legal.specs.Lines.{IsSentOut}
+use Rattle.mama_rules_legal.specs.Edges.{client_puts, taken_by, put_on_bridge, put_on_timers, put_to_publisher, put_on_queue}
 
 -- a client read as many moments as it has lines that read the clock
 abbrev pub KeepsMoments : ScriptData → RunData → ℕ → Type 0

@@ -1,4 +1,4 @@
--- The verdict on a record: legal, or the first rule that is broken, and for it the first actor.
+-- believed: The verdict on a record: legal, or the first rule that is broken, and for it the first actor.
 use Rattle.std.specs.Prelude.{◌≡◌, ◌↔◌, ℕ, ◌<◌, ⊤, true, length, Option, None, Some, slice_get}
 use Rattle.std.specs.List.{AllZip}
 use Rattle.mama_event.specs.declared.ids.ObjectId.{ObjectId}
@@ -6,17 +6,18 @@ use Rattle.mama_event.specs.declared.ids.ObjectId.TheVariants.{Sub, Timer, Inbox
 use Rattle.mama_event.specs.Ports.{queues_of}
 use Rattle.mama_script.specs.Script.{ScriptData}
 use Rattle.mama_record.specs.RunData.{RunData}
-use Rattle.mama_rounds.specs.Client.{Planned}
-use Rattle.mama_rounds.specs.Round.{setting_of, publishers_from}
-use Rattle.mama_legal.specs.Laws.{IsOrderly}
-use Rattle.mama_legal.specs.Legal.{IsLegal}
-use Rattle.mama_callbacks.specs.Told.{AreTold}
-use Rattle.mama_callbacks.specs.Plain.{ArePlainlyTold}
-use Rattle.mama_genuine.specs.Sent.{AreSent, AreGivenSent}
-use Rattle.mama_genuine.specs.Records.{AreRecords}
-use Rattle.mama_genuine.specs.Gaps.{HasTrueGaps}
-use Rattle.mama_genuine.specs.CalmLinks.{AreLinksCalm}
-use Rattle.mama_genuine.specs.GivenAll.{AreAllGiven}
+use Rattle.mama_rules_rounds.specs.Client.{Planned}
+use Rattle.mama_rules_rounds.specs.Round.{setting_of, publishers_from}
+use Rattle.mama_laws_legal.specs.Laws.{IsOrderly}
+use Rattle.mama_rules_legal.specs.HaveStreams.{HaveStreams}
+use Rattle.mama_rules_legal.specs.Legal.{IsLegal}
+use Rattle.mama_laws_callbacks.specs.Told.{AreTold}
+use Rattle.mama_laws_callbacks.specs.Plain.{ArePlainlyTold}
+use Rattle.mama_laws_genuine.specs.Sent.{AreSent, AreGivenSent}
+use Rattle.mama_laws_genuine.specs.Records.{AreRecords}
+use Rattle.mama_laws_genuine.specs.Gaps.{HasTrueGaps}
+use Rattle.mama_laws_genuine.specs.CalmLinks.{AreLinksCalm}
+use Rattle.mama_laws_genuine.specs.GivenAll.{AreAllGiven}
 use Rattle.mama_check.specs.First.{IsFirst}
 use Rattle.mama_check.specs.Rules.{KeepsMoments, KeepsLines, KeepsPublisherEdge, KeepsBridgeEdges, KeepsTimersEdges, KeepsQueueEdges, KeepsCalls}
 use Rattle.mama_check.specs.Images.{KeepsImage}
@@ -102,13 +103,14 @@ abbrev pub Judges : ScriptData → RunData → Verdict → Type 0
 Judges script run (verdict.Legal causal) = IsLegal script run × ((causal ≡ true) ↔ IsCausal script run)
 Judges script run (verdict.NotLegal rule actor) = (IsLegal script run → ⊥) × IsBroken script run rule actor
 
--- What a legal record promises: each object is told what is meant for it; each message that was delivered, or given to a
--- listener, is its sender's own; each image that is ok is its sender's record at its number; and each gap that was told
--- is true. Where the line of a subscription has no fault rows, and exactly one publisher has its topic, it is told no gap
--- and no change of quality; and if it is a market subscription, it is told just the messages from its first image on, each
--- once and as ok, and so each update that the bridge took while it was joined with a number above that image's, unless it
--- was muted.
+-- What a legal record promises: each object got its stream, and every last event was taken; each object is told what is
+-- meant for it; each message that was delivered, or given to a listener, is its sender's own; each image that is ok is its
+-- sender's record at its number; and each gap that was told is true. Where the line of a subscription has no fault rows,
+-- and exactly one publisher has its topic, it is told no gap and no change of quality; and if it is a market subscription,
+-- it is told just the messages from its first image on, each once and as ok, and so each update that the bridge took while
+-- it was joined with a number above that image's, unless it was muted.
 pub record IsTrue (script : ScriptData) (run : RunData) : Type 0 where
+  pub streams : HaveStreams script run
   pub told : AreTold script run
   pub sent : AreSent (publishers_from 0 script.publishers) run.queues
   pub given : AreGivenSent (publishers_from 0 script.publishers) run.calls

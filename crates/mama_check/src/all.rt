@@ -1,14 +1,14 @@
 ghost use Rattle.std.specs.Prelude.{◌≡◌, IfOk};
-ghost use Rattle.mama_rounds.specs.Round.{setting_of};
-ghost use Rattle.mama_form.specs.Form.{IsCounted};
+ghost use Rattle.mama_rules_rounds.specs.Round.{setting_of};
+ghost use Rattle.mama_rules_legal.specs.Form.{IsCounted};
 ghost use Rattle.mama_check.specs.All.{AreAllPuts};
 
 use crate::puts::{puts_of_clients, puts_of_publishers, puts_of_the_bridge};
+use mama_check_puts::{BridgePuts, ClientPuts, puts_of_timers};
+use mama_check_queue::{ServedQueue, serve_all};
 use mama_event::{BridgeNote, QueueNote};
 use mama_memory::OutOfMemory;
-use mama_puts::{BridgePuts, ClientPuts, puts_of_timers};
-use mama_queue_check::{ServedQueue, serve_all};
-use mama_queue_seat::Plans;
+use mama_plans::{Plans, plans_are_few};
 use mama_record::RunRecord;
 use mama_script::Script;
 use std::alloc::Global;
@@ -38,6 +38,7 @@ pub(crate) fn all_puts<'a>(
     let publishers = puts_of_publishers(alloc, script, run)?;
     let bridge = puts_of_the_bridge(alloc, script, run)?;
     let timers = puts_of_timers(alloc, script.shape(), run.timers())?;
+    plans_are_few(script);
     let queues = serve_all(alloc, plans, run.queues())?;
     Ok(AllPuts {
         clients,

@@ -1,17 +1,16 @@
 ghost use Rattle.std.specs.Prelude.{◌≡◌, ◌↔◌, ◌<◌, true, length, map, IfOk};
 ghost use Rattle.mama_event.specs.Ports.{queues_of};
 ghost use Rattle.mama_script.specs.Tree.{IsShaped};
-ghost use Rattle.mama_puts.specs.Puts.{AreLists, timers_put_to};
+ghost use Rattle.mama_check_puts.specs.Puts.{AreLists, timers_put_to};
 ghost use Rattle.mama_check.specs.First.{IsFirst};
 ghost use Rattle.mama_check.specs.Puts.{AreClientPuts, AreBridgePuts, AreServed, publisher_to_bridge};
 ghost use Rattle.mama_check.specs.Rules.{KeepsPublisherEdge, KeepsBridgeEdges, KeepsTimersEdges, KeepsQueueEdges};
 
-use crate::gather::{lists_to_bridge, lists_to_timers};
-use mama_edges::{needs_of_bridge, needs_of_queue, needs_of_sender, needs_of_timers};
+use crate::takes::{needs_in_bridge, needs_in_publisher, needs_in_queue, needs_in_timers};
+use mama_check_puts::{BridgePuts, ClientPuts};
+use mama_check_queue::ServedQueue;
 use mama_event::{BridgeNote, QueueNote};
 use mama_memory::OutOfMemory;
-use mama_puts::{BridgePuts, ClientPuts};
-use mama_queue_check::ServedQueue;
 use mama_record::RunRecord;
 use mama_script::Script;
 use std::alloc::Global;
@@ -30,9 +29,7 @@ pub fn is_publisher_whole(
     requires bridge { AreBridgePuts script.now run.now bridge.now }
     ensures { IfOk result (λ whole. (whole ≡ true) ↔ KeepsPublisherEdge script.now run.now publisher) }
 {
-    let list = &bridge.to_publishers[publisher];
-    let journals = run.publishers();
-    let needs = needs_of_sender(alloc, 0, list, &journals[publisher])?;
+    let needs = needs_in_publisher(alloc, script, run, bridge, publisher)?;
     Ok(needs.is_some())
 }
 
@@ -52,8 +49,7 @@ pub fn is_bridge_whole(
     requires queues { AreServed script.now run.now queues.now }
     ensures { IfOk result (λ whole. (whole ≡ true) ↔ KeepsBridgeEdges script.now run.now) }
 {
-    let lists = lists_to_bridge(alloc, clients, publishers, queues)?;
-    let needs = needs_of_bridge(alloc, &[], &lists, run.bridge())?;
+    let needs = needs_in_bridge(alloc, script, run, clients, publishers, queues)?;
     Ok(needs.is_some())
 }
 
@@ -73,8 +69,7 @@ pub fn is_timing_whole(
     requires bridge { AreBridgePuts script.now run.now bridge.now }
     ensures { IfOk result (λ whole. (whole ≡ true) ↔ KeepsTimersEdges script.now run.now) }
 {
-    let lists = lists_to_timers(alloc, clients, queues, bridge.to_timers.as_slice())?;
-    let needs = needs_of_timers(alloc, &[], &lists, run.timers())?;
+    let needs = needs_in_timers(alloc, script, run, clients, queues, bridge)?;
     Ok(needs.is_some())
 }
 
@@ -93,11 +88,7 @@ pub fn is_queue_whole(
     requires timers { AreLists (map (λ list. list.items) timers.now) (queues_of script.now.shape) (timers_put_to script.now.shape run.now.timers) }
     ensures { IfOk result (λ whole. (whole ≡ true) ↔ KeepsQueueEdges script.now run.now queue) }
 {
-    let from_bridge = &bridge.to_queues[queue];
-    let from_timers = &timers[queue];
-    let lists = [from_bridge.as_slice(), from_timers.as_slice()];
-    let journals = run.queues();
-    let needs = needs_of_queue(alloc, &[], &lists, &journals[queue])?;
+    let needs = needs_in_queue(alloc, script, run, bridge, timers, queue)?;
     Ok(needs.is_some())
 }
 

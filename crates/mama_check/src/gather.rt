@@ -1,11 +1,11 @@
 ghost use Rattle.std.specs.Prelude.{◌≡◌, ◌++◌, [], ◌∷◌, map, OnOk, IfOk};
-ghost use Rattle.mama_queue_check.specs.Served.{bridge_puts, timers_puts};
+ghost use Rattle.mama_check_queue.specs.Served.{bridge_puts, timers_puts};
 ghost use Rattle.mama_check.specs.Puts.{to_bridge_in, to_timers_in};
 
+use mama_check_puts::ClientPuts;
+use mama_check_queue::ServedQueue;
 use mama_event::{BridgeNote, TimersNote};
 use mama_memory::OutOfMemory;
-use mama_puts::ClientPuts;
-use mama_queue_check::ServedQueue;
 use std::alloc::Global;
 
 /// Adds what each client put to the bridge.

@@ -1,21 +1,21 @@
 ghost use Rattle.std.specs.Prelude.{◌≡◌, ◌≢◌, ℕ, [], ◌∷◌, length, slice_index_or, IfOk, IfSome, IfNone};
 ghost use Rattle.mama_event.specs.Object.{same_sub};
 ghost use Rattle.mama_record.specs.RunView as view;
-ghost use Rattle.mama_rounds.specs.Round.{setting_of};
-ghost use Rattle.mama_queue_seat.specs.Plans.{planned_object};
-ghost use Rattle.mama_queue_seat.specs.Image.{found_image};
-ghost use Rattle.mama_queue_check.specs.Recorded.{AreOf, journals_of, image_by, images_by};
-ghost use Rattle.mama_form.specs.Form.{IsFormed};
+ghost use Rattle.mama_rules_rounds.specs.Round.{setting_of};
+ghost use Rattle.mama_plans.specs.Plans.{planned_object};
+ghost use Rattle.mama_plans.specs.Image.{found_image};
+ghost use Rattle.mama_check_queue.specs.Recorded.{AreOf, journals_of, image_by, images_by};
+ghost use Rattle.mama_rules_legal.specs.Form.{IsFormed};
 ghost use Rattle.mama_check.specs.First.{IsFirst};
 ghost use Rattle.mama_check.specs.Images.{KeepsImage, own_first, own_rest, first_for, rest_for};
 ghost use Rattle.mama_check.specs.Puts.{AreServed};
 
-use mama_edges::{is_same_head, is_same_message};
+use mama_check_order::{is_same_head, is_same_message};
+use mama_check_queue::ServedQueue;
 use mama_event::{ImageHead, ObjectId, SubId};
 use mama_memory::OutOfMemory;
 use mama_msg::Msg;
-use mama_queue_check::ServedQueue;
-use mama_queue_seat::{PlannedObject, Plans};
+use mama_plans::{PlannedObject, Plans};
 use mama_record::RunRecord;
 use mama_script::Script;
 

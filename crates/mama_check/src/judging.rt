@@ -1,5 +1,5 @@
 ghost use Rattle.std.specs.Prelude.{◌≡◌, IfOk};
-ghost use Rattle.mama_form.specs.Form.{IsFormed};
+ghost use Rattle.mama_rules_legal.specs.Form.{IsFormed};
 ghost use Rattle.mama_check.specs.Verdict.{Judges, IsTrue, OnLegal};
 
 use crate::all::all_puts;
@@ -8,9 +8,9 @@ use crate::causal::is_causal;
 use crate::laws::{kept_rules_are_legal, legal_records_are_true};
 use crate::verdict::{Actor, Verdict};
 use mama_memory::OutOfMemory;
+use mama_plans::plans_of;
 use mama_record::RunRecord;
 use mama_script::Script;
-use mama_seats::plans_of;
 use std::alloc::Global;
 
 /// The verdict on a record that breaks a rule.

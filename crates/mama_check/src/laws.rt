@@ -1,11 +1,12 @@
 ghost use Rattle.mama_check.specs.Kept.{KeptIsLegal, LegalIsFormed};
 ghost use Rattle.mama_check.specs.Verdict.{LegalIsTrue};
 
-use mama_callbacks::{legal_records_tell_all, legal_records_tell_plainly};
-use mama_genuine::{
+use mama_laws_callbacks::{legal_records_tell_all, legal_records_tell_plainly};
+use mama_laws_genuine::{
     delivered_messages_are_sent, given_messages_are_sent, links_of_legal_records_are_calm,
     ok_images_are_records, told_gaps_are_true, updates_of_legal_records_are_given,
 };
+use mama_laws_legal::legal_records_have_streams;
 
 /// A law: a record with a list of moments for each client, a journal for each publisher and queue, and callbacks for the
 /// objects of the script is legal exactly where all rules are kept.
@@ -22,6 +23,7 @@ pub fn legal_records_are_formed()
 pub fn legal_records_are_true()
     ensures { LegalIsTrue }
 {
+    legal_records_have_streams();
     legal_records_tell_all();
     delivered_messages_are_sent();
     given_messages_are_sent();

@@ -4,9 +4,11 @@
 //! A function for each rule finds that actor, and [`kept_rules_are_legal`] says that a record is legal exactly where all
 //! keep all of them (`specs/Kept.antt`). [`check`] gives the verdict on a whole record: legal, or the first rule that is
 //! broken and its first actor. [`is_causal`] says whether its entries could all be taken one after another, each after
-//! what it needs.
+//! what it needs. [`has_sent_all`] decides whether a publisher did all its lines, was settled and told the end;
+//! [`sends_of`] and [`clock_lines_of`] count lines.
 #![tactic(auto)]
 
+mod actors;
 mod all;
 mod broken;
 mod causal;
@@ -18,6 +20,9 @@ mod laws;
 mod lines;
 mod objects;
 mod puts;
+mod sends;
+mod sent;
+mod takes;
 mod verdict;
 
 pub use causal::{actors_have_their_numbers, is_causal};
@@ -32,9 +37,6 @@ pub use lines::{first_of_lines, first_of_moments};
 pub use mama_memory::OutOfMemory;
 pub use objects::first_of_calls;
 pub use puts::{puts_of_clients, puts_of_publishers, puts_of_the_bridge};
+pub use sends::{clock_lines_of, sends_of};
+pub use sent::has_sent_all;
 pub use verdict::{Actor, Verdict};
-
-#[cfg(test)]
-mod causal_tests;
-#[cfg(test)]
-mod tests;

@@ -1,13 +1,13 @@
 ghost use Rattle.std.specs.Prelude.{◌≡◌, ◌↔◌, true, length};
 ghost use Rattle.std.specs.List.{flat_map};
-ghost use Rattle.mama_rounds.specs.Client.{clock_lines};
-ghost use Rattle.mama_rounds.specs.Round.{sends_in};
-ghost use Rattle.mama_legal.specs.Lines.{IsSentOut};
+ghost use Rattle.mama_rules_rounds.specs.Client.{clock_lines};
+ghost use Rattle.mama_rules_rounds.specs.Round.{sends_in};
+ghost use Rattle.mama_rules_legal.specs.Lines.{IsSentOut};
 ghost use Rattle.mama_check.specs.First.{IsFirst};
 ghost use Rattle.mama_check.specs.Rules.{KeepsMoments, KeepsLines};
 
+use crate::{clock_lines_of, has_sent_all, sends_of};
 use mama_event::PublisherEntry;
-use mama_lines::{clock_lines_of, has_sent_all, sends_of};
 use mama_record::RunRecord;
 use mama_script::{ClientLines, PublisherLines, Script};
 

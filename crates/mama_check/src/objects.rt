@@ -1,16 +1,16 @@
 ghost use Rattle.std.specs.Prelude.{◌≡◌, length, map, IfOk};
-ghost use Rattle.mama_rounds.specs.Round.{setting_of};
-ghost use Rattle.mama_queue_seat.specs.Plans.{planned_object};
-ghost use Rattle.mama_queue_check.specs.Recorded.{AreOf, journals_of, calls_by};
+ghost use Rattle.mama_rules_rounds.specs.Round.{setting_of};
+ghost use Rattle.mama_plans.specs.Plans.{planned_object};
+ghost use Rattle.mama_check_queue.specs.Recorded.{AreOf, journals_of, calls_by};
 ghost use Rattle.mama_check.specs.First.{IsFirst};
 ghost use Rattle.mama_check.specs.Rules.{KeepsCalls};
 ghost use Rattle.mama_check.specs.Puts.{AreServed};
 
-use mama_edges::are_same_calls;
+use mama_check_order::are_same_calls;
+use mama_check_queue::ServedQueue;
 use mama_event::CallNote;
 use mama_memory::OutOfMemory;
-use mama_queue_check::ServedQueue;
-use mama_queue_seat::{PlannedObject, Plans};
+use mama_plans::{PlannedObject, Plans};
 use mama_record::RunRecord;
 use mama_script::Script;
 use std::alloc::Global;

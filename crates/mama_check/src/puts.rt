@@ -1,22 +1,20 @@
-ghost use Rattle.std.specs.Prelude.{◌≡◌, ◌+◌, length, map, IfOk};
-ghost use Rattle.mama_puts.specs.Puts.{AreLists};
+ghost use Rattle.std.specs.Prelude.{◌≡◌, ◌<◌, ◌^◌, length, map, IfOk};
+ghost use Rattle.mama_check_puts.specs.Puts.{AreLists};
 ghost use Rattle.mama_check.specs.Puts.{AreClientPuts, AreBridgePuts, publisher_to_bridge};
 
+use mama_check_puts::{BridgePuts, ClientPuts, puts_of_bridge, puts_of_client, puts_of_publisher};
 use mama_event::BridgeNote;
 use mama_memory::OutOfMemory;
-use mama_puts::{BridgePuts, ClientPuts, puts_of_bridge, puts_of_client, puts_of_publisher};
 use mama_record::RunRecord;
 use mama_script::Script;
 use std::alloc::Global;
 
-/// A number and one.
-fn one_more(number: u32) -> Result<u32, OutOfMemory>
-    ensures { IfOk result (λ next. next ≡ number + 1) }
+/// The number of the client or publisher at a place of an accepted script.
+fn number_at(place: usize) -> u32
+    requires { place < 2 ^ 32 }
+    ensures { result ≡ place }
 {
-    match number.checked_add(1) {
-        Some(next) => Ok(next),
-        None => Err(OutOfMemory),
-    }
+    place as u32
 }
 
 /// What each client put, by its lines and the moments that the record says it read. The record has a list of moments
@@ -33,10 +31,9 @@ pub fn puts_of_clients(
     let clients = script.clients();
     let moments = run.clients();
     let mut all = Vec::new(alloc);
-    let mut number = 0u32;
     for (c, lines) in clients.iter().enumerate() {
+        let number = number_at(c);
         all.push(puts_of_client(alloc, number, queues, &moments[c], lines.as_slice())?)?;
-        number = one_more(number)?;
     }
     Ok(all)
 }
@@ -50,11 +47,12 @@ pub fn puts_of_publishers(
     requires { length run.now.publishers ≡ length script.now.publishers }
     ensures { IfOk result (λ lists. AreLists (map (λ list. list.items) lists.items) (length script.now.publishers) (publisher_to_bridge script.now run.now)) }
 {
+    let _shape = script.shape();
     let publishers = script.publishers();
     let journals = run.publishers();
     let mut all = Vec::new(alloc);
-    let mut number = 0u32;
     for (p, part) in publishers.iter().enumerate() {
+        let number = number_at(p);
         all.push(puts_of_publisher(
             alloc,
             number,
@@ -62,7 +60,6 @@ pub fn puts_of_publishers(
             part.lines.as_slice(),
             &journals[p],
         )?)?;
-        number = one_more(number)?;
     }
     Ok(all)
 }

@@ -1,4 +1,4 @@
--- What a client refuses, in the order of the tests. The listener goes back.
+-- believed: what a client refuses, in the order of the tests. The listener goes back.
 use Rattle.std.specs.Prelude.{ℕ, Bool, not, nat_lt, ◌==◌, Option, None, Some, if◌then◌else◌}
 use Rattle.mama_event.specs.declared.to_bridge.SubTerms.{SubTerms}
 use Rattle.mama_event.specs.declared.to_bridge.InboxTerms.{InboxTerms}

@@ -1,4 +1,4 @@
--- Queues in turn.
+-- believed: queues in turn.
 use Rattle.std.specs.Prelude.{ℕ, ◌+◌, ◌==◌, if◌then◌else◌}
 
 -- how many queues there are, and the one whose turn it is

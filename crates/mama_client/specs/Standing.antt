@@ -1,4 +1,4 @@
--- What a client knows.
+-- believed: what a client knows.
 use Rattle.std.specs.Prelude.{ℕ, Bool}
 
 -- A client: its number, how many topics and queues there are, how many numbers of each kind of object it gave, and

@@ -9,8 +9,6 @@ mod client;
 mod fault;
 mod laws;
 mod queue_group;
-#[cfg(test)]
-mod tests;
 
 pub use client::Client;
 pub use fault::{AskFault, ClientFault, Closed};

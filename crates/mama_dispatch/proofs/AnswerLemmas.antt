@@ -17,13 +17,14 @@ use Rattle.mama_event.specs.declared.to_queue.QueueNote.TheVariants as q
 use Rattle.mama_msg.specs.Field.{FieldData}
 use Rattle.mama_dq.specs.Strategy.{callbacks_of}
 use Rattle.mama_event.specs.Listener.{ListenerData}
-use Rattle.mama_queue_rules.specs.Queue.{Deed, QueuePut, handled, called, is_destroy, calls_of, is_muted, made, served}
+use Rattle.mama_rules_queue.specs.Queue.{Deed, QueuePut, handled, called, is_destroy, calls_of, is_muted, made, served}
 use Rattle.mama_dispatch.specs.declared.turn.Turn.TheVariants as turn
-use Rattle.mama_dispatch.specs.Journals.{born, is_born, noted}
+use Rattle.mama_dispatch.specs.Journals.{born, is_born, notes_of}
 use Rattle.mama_dispatch.specs.Seats.{SeatData, has_seat, listener_in, is_muted_in, context_in, at, with_room, with_listener, Fits}
 use Rattle.mama_dispatch.specs.Seating.{is_live}
-use Rattle.mama_dispatch.specs.Standing.{Stands, Ended, Delivered}
-use Rattle.mama_dispatch.specs.Hearing.{HasHeard, HeardSince, HaveHeard}
+use Rattle.mama_dispatch.specs.Standing.{Stands}
+use Rattle.mama_dispatch.specs.Making.{Ended, Delivered}
+use Rattle.mama_dispatch.specs.Hearing.{HasHeard, HeardSince, HeardAt}
 use Rattle.mama_dispatch.specs.Answering.{told_or_muted, Answers}
 use Rattle.mama_dispatch.proofs.DeedLemmas.{same_object-refl}
 use Rattle.mama_dispatch.proofs.SeatLemmas.{found}
@@ -32,7 +33,7 @@ use Rattle.mama_dispatch.proofs.CallLemmas.{seat_from}
 use Rattle.mama_dispatch.proofs.ArmLemmas.{gone_deed, gone_seated}
 use Rattle.mama_dispatch.proofs.BirthLemmas.{unbegun, seated_has}
 use Rattle.mama_dispatch.proofs.ServeLemmas.{fits_change, stands_room, listener_room, served_delivered, muted_is}
-use Rattle.mama_dispatch.proofs.KeepLemmas.{kept_room, kept_once, heard_at}
+use Rattle.mama_dispatch.proofs.KeepLemmas.{kept_room, kept_once, seat_at}
 
 -- HOW MANY CALLBACKS
 
@@ -110,10 +111,6 @@ mutes_ticked {L} view slot t moment ss here muted = λ orders journal ds middle 
 
 -- THE LISTENER THAT IS HANDED BACK
 
-noted_calls : (cs : List (Callback × List Order)) → map (λ (n : CallNote). n.call) (map noted cs) ≡ map (λ (c : Callback × List Order). c.0) cs
-noted_calls [] = refl
-noted_calls (c ∷ cs) = ap (λ (xs : List Callback). c.0 ∷ xs) (noted_calls cs)
-
 pub answers_ended : {L : Type 0} (view : L → ListenerData) (slot : ℕ) (o : ObjectId) (l : L) (before after : List SeatData) (pb pa : List QueuePut)
     → Ended o (view l) before after pb pa → is_some (listener_in o before) ≡ true → Answers view (q.Gone slot o) before after (turn.Ended o l)
 answers_ended {L} view slot o l before after pb pa ended here = λ orders journal ds last apart fits stands.
@@ -126,17 +123,15 @@ answers_ended {L} view slot o l before after pb pa ended here = λ orders journa
     let has = seat_from o ended.middle (ap is_some ended.left) in
     let f = found (is_live ds) es (born journal) ended.middle o has.seat (gone_seated orders journal ds o roomy ended.middle pb pa ended.once roomy_here roomy_stands) has.is in
     let there : has.seat.listener ≡ Some (view l) = sym (ap (λ (x : Option SeatData). option_and_then (λ (s : SeatData). s.listener) x) has.is) ∙ ended.left in
-    let calls : map (λ (n : CallNote). n.call) has.seat.calls ≡ map (λ (c : Callback × List Order). c.0) (calls_of o (ds ++ served orders journal ds (q.Gone slot o))) =
-    ap (map (λ (n : CallNote). n.call)) f.calls ∙ noted_calls (calls_of o es) ∙ ap (λ (xs : List Deed). map (λ (c : Callback × List Order). c.0) (calls_of o (ds ++ xs))) (sym one) in
+    let calls : has.seat.calls ≡ notes_of o (ds ++ served orders journal ds (q.Gone slot o)) = f.calls ∙ ap (λ (xs : List Deed). notes_of o (ds ++ xs)) (sym one) in
     record {
       listener = l;
       is = refl;
       heard = λ came heard.
-          let roomy_heard : HaveHeard came roomy = (kept_room o ended.room before).heard came apart heard in
-          let all : HaveHeard came ended.middle =
-          (kept_once o on.Destroy roomy ended.middle pb pa ended.once).heard came (apart_kept (at o (with_room ended.room)) before (at_object o (with_room ended.room) (λ s. refl)) apart) roomy_heard in
-          let since : HasHeard (map (λ (n : CallNote). n.call) has.seat.calls) (came has.seat.object) (view l) =
-          subst (HeardSince has.seat.calls (came has.seat.object)) there (heard_at came ended.middle o has.seat all has.is) in
-          subst (λ (x : ObjectId). HasHeard (map (λ (c : Callback × List Order). c.0) (calls_of o (ds ++ served orders journal ds (q.Gone slot o)))) (came x) (view l)) f.object
-          (subst (λ (cs : List Callback). HasHeard cs (came has.seat.object) (view l)) calls since);
+          let roomy_heard : HeardAt o came roomy = (kept_room o ended.room before).heard o came apart heard in
+          let all : HeardAt o came ended.middle =
+          (kept_once o on.Destroy roomy ended.middle pb pa ended.once).heard o came (apart_kept (at o (with_room ended.room)) before (at_object o (with_room ended.room) (λ s. refl)) apart) roomy_heard in
+          let since : HasHeard has.seat.calls came (view l) =
+          subst (HeardSince has.seat.calls came) there (seat_at (λ s. HeardSince s.calls came s.listener) o ended.middle has.seat all has.is) in
+          subst (λ (ns : List CallNote). HasHeard ns came (view l)) calls since;
     }

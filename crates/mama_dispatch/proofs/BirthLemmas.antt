@@ -12,7 +12,7 @@ use Rattle.mama_event.specs.declared.to_queue.QueueNote.{QueueNote}
 use Rattle.mama_event.specs.declared.to_queue.QueueNote.TheVariants as q
 use Rattle.mama_event.specs.Object.{same_object}
 use Rattle.mama_event.specs.Listener.{ListenerData}
-use Rattle.mama_queue_rules.specs.Queue.{Deed, QueuePut, handled, called, is_create, is_destroy, calls_of, begins_in, is_muted_after, is_muted, context_of, served, puts_of, wish_put, order_put, ends}
+use Rattle.mama_rules_queue.specs.Queue.{Deed, QueuePut, handled, called, is_create, is_destroy, calls_of, begins_in, is_muted_after, is_muted, context_of, served, puts_of, wish_put, order_put, ends}
 use Rattle.mama_dispatch.specs.Journals.{Born, born, is_born, noted}
 use Rattle.mama_dispatch.specs.Seats.{SeatData, seat_of, has_seat, new_seat, Fits}
 use Rattle.mama_dispatch.specs.Seating.{is_live_after, is_live, SeatAt, Seated, CalledOnce}

@@ -5,7 +5,7 @@ use Rattle.mama_journal.specs.Journal.{puts_so_far}
 use Rattle.mama_event.specs.declared.ids.ObjectId.{ObjectId}
 use Rattle.mama_event.specs.declared.order.Order.{Order}
 use Rattle.mama_event.specs.declared.to_queue.QueueNote.{QueueNote}
-use Rattle.mama_queue_rules.specs.Queue.{Deed, QueuePut, served, deeds, puts_of, bye_put}
+use Rattle.mama_rules_queue.specs.Queue.{Deed, QueuePut, served, deeds, puts_of, bye_put}
 use Rattle.mama_event.specs.declared.ids.ObjectId.TheVariants.{Sub, Timer, Inbox}
 use Rattle.mama_dispatch.specs.Journals.{messages_at}
 use Rattle.mama_dispatch.specs.Standing.{Stands, StandsAtFirst, Standing}

@@ -10,6 +10,7 @@ pub mod ServeLemmas
 pub mod JournalLaws
 pub mod StreamLemmas
 pub mod SlotLemmas
+pub mod ComingLaws
 pub mod KeepLemmas
 pub mod RowLemmas
 pub mod AnswerLemmas

@@ -13,7 +13,7 @@ use Rattle.mama_event.specs.declared.order.Order.{Order}
 use Rattle.mama_event.specs.Object.{same_object}
 use Rattle.mama_event.specs.Listener.{ListenerData}
 use Rattle.mama_dispatch.specs.Seats.{SeatData, has_seat, AreApart, seat_of, listener_in, HeardIn, at, muted_by, muted_by_all, muted_where_live}
-use Rattle.mama_queue_rules.specs.Queue.{ends}
+use Rattle.mama_rules_queue.specs.Queue.{ends}
 use Rattle.mama_dispatch.specs.Places.{IsPlace, IsEnded}
 use Rattle.mama_dispatch.specs.Rows.{AreKept}
 use Rattle.mama_dispatch.proofs.DeedLemmas.{same_object-true, same_object-sym}

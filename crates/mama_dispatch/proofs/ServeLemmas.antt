@@ -21,11 +21,12 @@ use Rattle.mama_dq.specs.Context.{ContextData, new_context}
 use Rattle.mama_dq.specs.Strategy.{callbacks_of}
 use Rattle.mama_event.specs.declared.market.SubKind.TheVariants.{Basic}
 use Rattle.mama_event.specs.Listener.{ListenerData}
-use Rattle.mama_queue_rules.specs.Queue.{Deed, QueuePut, handled, called, is_create, is_destroy, calls_of, is_muted, make_in, context_of, messages_of, made, served, puts_of}
+use Rattle.mama_rules_queue.specs.Queue.{Deed, QueuePut, handled, called, is_create, is_destroy, calls_of, is_muted, make_in, context_of, messages_of, made, served, puts_of}
 use Rattle.mama_dispatch.specs.Journals.{Born, born}
 use Rattle.mama_dispatch.specs.Seats.{SeatData, seat_of, has_seat, listener_in, is_muted_in, context_in, room_in, stepped, at, with_room, with_listener, new_seat, AreOrders, Fits}
 use Rattle.mama_dispatch.specs.Seating.{is_live, is_plain, SeatAt, Seated, CallsMade}
-use Rattle.mama_dispatch.specs.Standing.{Stands, Serves, Created, Ended, Delivered}
+use Rattle.mama_dispatch.specs.Standing.{Stands, Serves}
+use Rattle.mama_dispatch.specs.Making.{Created, Ended, Delivered}
 use Rattle.mama_dispatch.proofs.SeatLemmas.{seated_map, seated_here, seat_stepped, found}
 use Rattle.mama_dispatch.proofs.CallLemmas.{seat_from, once_fits}
 use Rattle.mama_dispatch.proofs.CallBound.{calls_plain}

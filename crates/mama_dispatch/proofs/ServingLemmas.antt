@@ -21,13 +21,13 @@ use Rattle.mama_event.specs.declared.to_queue.QueueNote.TheVariants as q
 use Rattle.mama_event.specs.Object.{same_object}
 use Rattle.mama_dq.specs.Context.{ContextData, new_context}
 use Rattle.mama_event.specs.Listener.{ListenerData}
-use Rattle.mama_queue_rules.specs.Queue.{Deed, QueuePut, to_bridge, to_timers, make_in, context_of, messages_of, deeds, is_fin, bye_put, queue_puts_at}
+use Rattle.mama_rules_queue.specs.Queue.{Deed, QueuePut, to_bridge, to_timers, make_in, context_of, messages_of, deeds, is_fin, bye_put, queue_puts_at}
 use Rattle.mama_dispatch.specs.Journals.{Born, born, is_born, is_live_here, may_come, noted, notes_of, context_after, image_in}
 use Rattle.mama_dispatch.specs.Seats.{SeatData, has_seat, AreApart, seat_of, listener_in, context_in, with_room, AreOrders, Fits}
 use Rattle.mama_dispatch.specs.Seating.{is_live, Seated}
 use Rattle.mama_dispatch.specs.Standing.{Stands, Serves, MayServe}
-use Rattle.mama_dispatch.specs.Keeping.{IsPlannedSeat, ArePlanned, KeptWith}
-use Rattle.mama_dispatch.specs.Hearing.{HaveHeard}
+use Rattle.mama_dispatch.specs.Keeping.{AreFew, KeptWith}
+use Rattle.mama_dispatch.specs.Hearing.{AtSeat, HeardSince, HeardAt, IsPlannedSeat, PlannedAt, ArePlanned}
 use Rattle.mama_dispatch.specs.declared.turn.Turn.{Turn}
 use Rattle.mama_dispatch.specs.Answering.{AnswersTo}
 use Rattle.std.specs.Prelude.{IfSome}
@@ -49,7 +49,7 @@ use Rattle.mama_dispatch.proofs.ArmLemmas.{first_make}
 use Rattle.mama_dispatch.proofs.BirthLemmas.{seated_has, unbegun}
 use Rattle.mama_dispatch.proofs.ServeLemmas.{serves_fin}
 use Rattle.mama_dispatch.proofs.JournalLaws.{standing, stands_at_first}
-use Rattle.mama_dispatch.proofs.KeepLemmas.{all_map, all_back}
+use Rattle.mama_dispatch.proofs.KeepLemmas.{all_map, all_back, planned_fits}
 
 -- SEATS WITHOUT THEIR ROOM
 
@@ -61,21 +61,28 @@ pub fits_untold : (orders : ObjectId → ℕ → List Order) (ss : List SeatData
 fits_untold orders [] fits = tt
 fits_untold orders (s ∷ ss) fits = (fits.0, fits_untold orders ss fits.1)
 
-pub heard_told : (came : ObjectId → ListenerData) (ss : List SeatData) → HaveHeard came ss → HaveHeard came (told_seats ss)
-heard_told came [] heard = tt
-heard_told came (s ∷ ss) heard = (heard.0, heard_told came ss heard.1)
+-- what is said of an object's seat is said of the seat without its room
+at_told : (P : SeatData → Type 0) (x : ObjectId) → ((s : SeatData) → P s → P (with_room 0 s)) → (ss : List SeatData) → AtSeat P x ss → AtSeat P x (told_seats ss)
+at_told P x step ss all = all_map (λ s. same_object x s.object ≡ true → P s) (λ s. same_object x s.object ≡ true → P s) (with_room 0) (λ s p this. step s (p this)) ss all
 
-pub heard_untold : (came : ObjectId → ListenerData) (ss : List SeatData) → HaveHeard came (told_seats ss) → HaveHeard came ss
-heard_untold came [] heard = tt
-heard_untold came (s ∷ ss) heard = (heard.0, heard_untold came ss heard.1)
+at_untold : (P : SeatData → Type 0) (x : ObjectId) → ((s : SeatData) → P (with_room 0 s) → P s) → (ss : List SeatData) → AtSeat P x (told_seats ss) → AtSeat P x ss
+at_untold P x step ss all = all_back (λ s. same_object x s.object ≡ true → P s) (λ s. same_object x s.object ≡ true → P s) (with_room 0) (λ s p this. step s (p this)) ss all
 
-pub planned_told : (orders : ObjectId → ℕ → List Order) (ss : List SeatData) → ArePlanned orders ss → ArePlanned orders (told_seats ss)
-planned_told orders ss planned =
-    all_map (λ s. IsPlannedSeat (orders s.object) s) (λ s. IsPlannedSeat (orders s.object) s) (with_room 0) (λ s p. record { listener = p.listener; orders = p.orders }) ss planned
+pub heard_told : (x : ObjectId) (came : ListenerData) (ss : List SeatData) → HeardAt x came ss → HeardAt x came (told_seats ss)
+heard_told x came ss heard = at_told (λ s. HeardSince s.calls came s.listener) x (λ s p. p) ss heard
 
-pub planned_untold : (orders : ObjectId → ℕ → List Order) (ss : List SeatData) → ArePlanned orders (told_seats ss) → ArePlanned orders ss
-planned_untold orders ss planned =
-    all_back (λ s. IsPlannedSeat (orders s.object) s) (λ s. IsPlannedSeat (orders s.object) s) (with_room 0) (λ s p. record { listener = p.listener; orders = p.orders }) ss planned
+pub heard_untold : (x : ObjectId) (came : ListenerData) (ss : List SeatData) → HeardAt x came (told_seats ss) → HeardAt x came ss
+heard_untold x came ss heard = at_untold (λ s. HeardSince s.calls came s.listener) x (λ s p. p) ss heard
+
+pub planned_told : (x : ObjectId) (f : ℕ → List Order) (count : ℕ) (ss : List SeatData) → PlannedAt x f count ss → PlannedAt x f count (told_seats ss)
+planned_told x f count ss planned = at_told (IsPlannedSeat f count) x (λ s p. record { listener = p.listener; orders = p.orders }) ss planned
+
+pub planned_untold : (x : ObjectId) (f : ℕ → List Order) (count : ℕ) (ss : List SeatData) → PlannedAt x f count (told_seats ss) → PlannedAt x f count ss
+planned_untold x f count ss planned = at_untold (IsPlannedSeat f count) x (λ s p. record { listener = p.listener; orders = p.orders }) ss planned
+
+-- seats of few callbacks whose orders are planned
+pub planned_fits_told : (orders : ObjectId → ℕ → List Order) (ss : List SeatData) → AreFew ss → ArePlanned orders (told_seats ss) → Fits orders (told_seats ss)
+planned_fits_told orders ss few planned = fits_told orders ss (planned_fits orders ss few (λ x. planned_untold x (orders x) 0 ss (planned x)))
 
 seated_told : (h : ObjectId → Bool) (ds : List Deed) (bs : List Born) (ss : List SeatData) → Seated h ds bs ss → Seated h ds bs (told_seats ss)
 seated_told h ds bs ss seated =
@@ -297,7 +304,7 @@ answers_told view orders ss journal ds (q.Create slot object make tag) answer is
 answers_told view orders ss journal ds (q.Deliver slot sub msg) answer is = is
 answers_told view orders ss journal ds (q.Reply slot inbox body) answer is = is
 answers_told view orders ss journal ds (q.Tick slot timer moment) answer is = is
-answers_told view orders ss journal ds (q.Gone slot object) answer is = record { listener = is.listener; is = is.is; heard = λ came heard. is.heard came (heard_untold came ss heard) }
+answers_told view orders ss journal ds (q.Gone slot object) answer is = record { listener = is.listener; is = is.is; heard = λ came heard. is.heard came (heard_untold object came ss heard) }
 answers_told view orders ss journal ds q.Fin answer is = is
 
 -- the callbacks of seats whose room is not told

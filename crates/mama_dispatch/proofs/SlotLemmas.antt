@@ -30,7 +30,7 @@ apart_begun (c ∷ bs) b free apart =
     let parts = or_parts (c.slot == b.slot) (list_any (λ (x : Block). x.slot == b.slot) bs) free in
     (any_at_end (λ (x : Block). x.slot == c.slot) bs b apart.0 (eq_sym b.slot c.slot ∙ parts.0), apart_begun bs b parts.1 apart.1)
 
-any_filtered : (p q : Block → Bool) (bs : List Block) → list_any p bs ≡ false → list_any p (filter q bs) ≡ false
+pub any_filtered : (p q : Block → Bool) (bs : List Block) → list_any p bs ≡ false → list_any p (filter q bs) ≡ false
 any_filtered p q [] none = refl
 any_filtered p q (b ∷ bs) none =
     let parts = or_parts (p b) (list_any p bs) none in

@@ -19,7 +19,7 @@ use Rattle.mama_event.specs.declared.order.Order.{Order}
 use Rattle.mama_event.specs.declared.to_queue.Make.{Make}
 use Rattle.mama_event.specs.declared.to_queue.QueueNote.{QueueNote}
 use Rattle.mama_event.specs.declared.to_queue.QueueNote.TheVariants as q
-use Rattle.mama_queue_rules.specs.Queue.{Deed, handled, called, is_create, is_destroy, calls_of, is_muted, make_in, context_of, messages_of, made, served, deeds}
+use Rattle.mama_rules_queue.specs.Queue.{Deed, handled, called, is_create, is_destroy, calls_of, is_muted, make_in, context_of, messages_of, made, served, deeds}
 use Rattle.mama_journal.specs.Journal.{first_said}
 use Rattle.mama_dq.specs.Strategy.{callbacks_of}
 use Rattle.mama_dispatch.specs.Journals.{Born, born_in, born, is_born, lives, is_live_here, may_come}

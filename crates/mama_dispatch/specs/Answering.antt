@@ -1,25 +1,26 @@
--- What a turn of a queue answers.
-use Rattle.std.specs.Prelude.{◌≡◌, ℕ, ◌==◌, Bool, false, List, ◌++◌, map, length, if◌then◌else◌}
+-- believed: What a turn of a queue answers.
+use Rattle.std.specs.Prelude.{◌≡◌, ℕ, ◌==◌, Bool, false, List, ◌++◌, length, if◌then◌else◌}
 use Rattle.mama_journal.specs.Journal.{count_of}
 use Rattle.mama_event.specs.declared.ids.ObjectId.{ObjectId}
 use Rattle.mama_event.specs.declared.ids.ObjectId.TheVariants.{Sub, Timer, Inbox}
-use Rattle.mama_event.specs.declared.callback.Callback.{Callback}
+use Rattle.mama_event.specs.declared.callback.CallNote.{CallNote}
 use Rattle.mama_event.specs.declared.order.Order.{Order}
 use Rattle.mama_event.specs.declared.to_queue.QueueNote.{QueueNote}
 use Rattle.mama_event.specs.declared.to_queue.QueueNote.TheVariants as q
-use Rattle.mama_queue_rules.specs.Queue.{Deed, calls_of, is_muted, served, is_fin}
+use Rattle.mama_rules_queue.specs.Queue.{Deed, calls_of, is_muted, served, is_fin}
 use Rattle.mama_event.specs.Listener.{ListenerData}
 use Rattle.mama_dispatch.specs.declared.turn.Turn.{Turn}
 use Rattle.mama_dispatch.specs.declared.turn.Turn.TheVariants as turn
 use Rattle.mama_dispatch.specs.Seats.{SeatData, AreApart, Fits}
-use Rattle.mama_dispatch.specs.Hearing.{HasHeard, HaveHeard}
+use Rattle.mama_dispatch.specs.Journals.{notes_of}
+use Rattle.mama_dispatch.specs.Hearing.{HasHeard, HeardAt}
 use Rattle.mama_dispatch.specs.Standing.{Stands}
 
--- an object's listener is handed back, and has heard these callbacks since it came
-pub record IsHandedBack {L : Type 0} (view : L → ListenerData) (object : ObjectId) (calls : List Callback) (seats : List SeatData) (answer : Turn L) : Type 0 where
+-- an object's listener is handed back, and has heard the callbacks of these notes since it came
+pub record IsHandedBack {L : Type 0} (view : L → ListenerData) (object : ObjectId) (notes : List CallNote) (seats : List SeatData) (answer : Turn L) : Type 0 where
   pub listener : L
   pub is : answer ≡ turn.Ended object listener
-  pub heard : (came : ObjectId → ListenerData) → HaveHeard came seats → HasHeard calls (came object) (view listener)
+  pub heard : (came : ListenerData) → HeardAt object came seats → HasHeard notes came (view listener)
 
 -- what an object is told: nothing where it is muted, and else so many callbacks
 abbrev pub told_or_muted : {L : Type 0} → ObjectId → Bool → ℕ → Turn L
@@ -38,7 +39,7 @@ AnswersTo view orders seats before sofar (q.Reply slot inbox body) answer =
 AnswersTo view orders seats before sofar (q.Tick slot timer moment) answer =
     answer ≡ told_or_muted (Timer timer) (is_muted (Timer timer) sofar) (length (calls_of (Timer timer) (served orders before sofar (q.Tick slot timer moment))))
 AnswersTo view orders seats before sofar (q.Gone slot object) answer =
-    IsHandedBack view object (map (λ c. c.0) (calls_of object (sofar ++ served orders before sofar (q.Gone slot object)))) seats answer
+    IsHandedBack view object (notes_of object (sofar ++ served orders before sofar (q.Gone slot object))) seats answer
 AnswersTo view orders seats before sofar q.Fin answer = answer ≡ (if count_of is_fin before == 1 then turn.Finished else turn.Running)
 
 -- an entry that is no Fin is answered as the rules say, whatever came before it

@@ -1,4 +1,4 @@
--- The images that a queue lends.
+-- believed: The images that a queue lends.
 use Rattle.std.specs.Prelude.{◌≡◌, ℕ, List, Option, None, Some, is_some, if◌then◌else◌}
 use Rattle.mama_msg.specs.Field.{FieldData}
 use Rattle.mama_event.specs.Record.{record_after}

@@ -1,4 +1,4 @@
--- What a queue's journal says of its objects: which were made on it, which are live, and which images were left.
+-- believed: What a queue's journal says of its objects: which were made on it, which are live, and which images were left.
 use Rattle.std.specs.Prelude.{ℕ, Bool, true, false, not, ◌&&◌, ◌||◌, List, [], ◌∷◌, map, fold, Option, Some, None}
 use Rattle.std.specs.List.{list_any, flat_map}
 use Rattle.mama_msg.specs.Field.{FieldData}
@@ -18,7 +18,7 @@ use Rattle.mama_event.specs.Object.{same_object}
 use Rattle.mama_dq.specs.declared.table.Phase.{Phase}
 use Rattle.mama_dq.specs.declared.table.Phase.TheVariants.{Await, LiveOk, LiveStale}
 use Rattle.mama_dq.specs.Context.{ContextData, quality_in}
-use Rattle.mama_queue_rules.specs.Queue.{Deed, make_in, context_of, messages_of, calls_of, deeds}
+use Rattle.mama_rules_queue.specs.Queue.{Deed, make_in, context_of, messages_of, calls_of, deeds}
 
 -- an object that was made on this queue
 pub record Born : Type 0 where

@@ -5,10 +5,15 @@ pub mod Turns
 pub mod Places
 pub mod Rows
 pub mod Standing
+pub mod Making
 pub mod Hearing
 pub mod Keeping
 pub mod Served
 pub mod Notes
+pub mod Noted
+pub mod SameNotes
+pub mod SameNotesLaws
 pub mod Answering
 pub mod Streams
+pub mod Coming
 pub mod Images

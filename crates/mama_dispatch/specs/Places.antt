@@ -1,11 +1,11 @@
--- The place of an object's seat.
+-- inner: The place of an object's seat.
 use Rattle.std.specs.Prelude.{◌≡◌, ℕ, ◌<◌, Bool, true, false, List, length, slice_index_or, Option, None, Some, ◌≤◌, [], ◌∷◌, ◌++◌}
 use Rattle.mama_event.specs.declared.ids.ObjectId.{ObjectId}
 use Rattle.mama_event.specs.declared.order.Order.{Order}
 use Rattle.mama_event.specs.declared.to_queue.Make.{Make}
 use Rattle.mama_event.specs.Listener.{ListenerData}
 use Rattle.mama_event.specs.Object.{same_object}
-use Rattle.mama_queue_rules.specs.Queue.{ends}
+use Rattle.mama_rules_queue.specs.Queue.{ends}
 use Rattle.mama_dispatch.specs.Seats.{SeatData, new_seat}
 
 -- the first seat of this object stands there

@@ -1,4 +1,4 @@
--- A row of the table in which a queue keeps its objects, as contracts see it.
+-- inner: A row of the table in which a queue keeps its objects, as contracts see it.
 use Rattle.std.specs.Prelude.{◌≡◌, ◌-◌, List, map, vec_len, vec_capacity}
 use Rattle.std.specs.Option.{option_map}
 use Rattle.mama_event.specs.declared.ids.ObjectId.{ObjectId}

@@ -1,10 +1,10 @@
--- When the objects that a queue keeps are those that its deeds say.
+-- believed: When the objects that a queue keeps are those that its deeds say.
 use Rattle.std.specs.Prelude.{◌≡◌, ℕ, Bool, false, not, ◌&&◌, ◌||◌, List, [], ◌∷◌, ◌++◌, length, map, Some, is_some}
 use Rattle.std.specs.List.{flat_map}
 use Rattle.mama_event.specs.declared.ids.ObjectId.{ObjectId}
 use Rattle.mama_event.specs.declared.callback.Callback.{Callback}
 use Rattle.mama_event.specs.declared.order.Order.{Order}
-use Rattle.mama_queue_rules.specs.Queue.{Deed, QueuePut, is_muted, begins_in, stops_in, is_create, is_destroy, context_of, made, puts_of, wish_put, order_put}
+use Rattle.mama_rules_queue.specs.Queue.{Deed, QueuePut, is_muted, begins_in, stops_in, is_create, is_destroy, context_of, made, puts_of, wish_put, order_put}
 use Rattle.mama_event.specs.Listener.{ListenerData}
 use Rattle.mama_dispatch.specs.Journals.{Born, messages_at, notes_of}
 use Rattle.mama_dispatch.specs.Seats.{SeatData, HeardIn, listener_in, at, called_with, muted_by_all}

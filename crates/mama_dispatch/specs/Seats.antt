@@ -1,4 +1,4 @@
--- The objects of a queue as contracts see them, and what a callback and an order make of them.
+-- believed: The objects of a queue as contracts see them, and what a callback and an order make of them.
 use Rattle.std.specs.Prelude.{◌≡◌, ℕ, ◌+◌, ◌-◌, Bool, false, ◌&&◌, ◌||◌, List, [], ◌∷◌, ◌++◌, Option, Some, None, is_some, if◌then◌else◌}
 use Rattle.std.specs.List.{list_any}
 use Rattle.std.specs.Option.{option_map_or, option_and_then}
@@ -12,7 +12,7 @@ use Rattle.mama_event.specs.declared.market.MarketMsg.{MarketMsg}
 use Rattle.mama_event.specs.Object.{same_object}
 use Rattle.mama_dq.specs.Strategy.{after}
 use Rattle.mama_dq.specs.Context.{ContextData, new_context}
-use Rattle.mama_queue_rules.specs.Queue.{ends, context_of}
+use Rattle.mama_rules_queue.specs.Queue.{ends, context_of}
 use Rattle.mama_event.specs.Listener.{ListenerData, Heard}
 
 -- An object that was made on this queue: its listener until that is handed back, whether it is muted, its context, its

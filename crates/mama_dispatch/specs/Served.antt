@@ -1,4 +1,4 @@
--- A queue that is served: its journal, and the seats of its objects.
+-- believed: A queue that is served: its journal, and the seats of its objects.
 use Rattle.std.specs.Prelude.{◌≡◌, ℕ, List, [], map}
 use Rattle.std.specs.Option.{option_map_or}
 use Rattle.mama_journal.specs.Journal.{count_of}
@@ -6,7 +6,7 @@ use Rattle.mama_event.specs.declared.ids.ObjectId.{ObjectId}
 use Rattle.mama_event.specs.declared.callback.CallNote.{CallNote}
 use Rattle.mama_event.specs.declared.order.Order.{Order}
 use Rattle.mama_event.specs.declared.to_queue.QueueNote.{QueueNote}
-use Rattle.mama_queue_rules.specs.Queue.{deeds, is_fin}
+use Rattle.mama_rules_queue.specs.Queue.{deeds, is_fin}
 use Rattle.mama_dispatch.specs.Seats.{SeatData, seat_of, with_room, Fits}
 use Rattle.mama_dispatch.specs.Standing.{Stands}
 

@@ -1,22 +1,15 @@
--- When the objects that a queue keeps are those that its journal says, and when an entry is served as the rules say.
-use Rattle.std.specs.Prelude.{◌≡◌, ℕ, true, false, is_some, List, [], ◌∷◌, ◌++◌, map, Some, None}
+-- believed: When the objects that a queue keeps are those that its journal says, and when an entry is served as the rules say.
+use Rattle.std.specs.Prelude.{◌≡◌, ℕ, true, false, is_some, List, [], ◌∷◌, ◌++◌}
 use Rattle.std.specs.List.{flat_map}
 use Rattle.mama_event.specs.declared.ids.ObjectId.{ObjectId}
-use Rattle.mama_event.specs.declared.ids.SubId.{SubId}
 use Rattle.mama_event.specs.declared.ids.ObjectId.TheVariants.{Sub, Timer, Inbox}
-use Rattle.mama_event.specs.declared.market.MarketMsg.{MarketMsg}
-use Rattle.mama_event.specs.declared.callback.Callback.TheVariants as on
 use Rattle.mama_event.specs.declared.order.Order.{Order}
-use Rattle.mama_event.specs.declared.to_queue.Make.{Make}
-use Rattle.mama_dq.specs.Strategy.{callbacks_of}
-use Rattle.mama_event.specs.Listener.{ListenerData}
 use Rattle.mama_event.specs.declared.to_queue.QueueNote.{QueueNote}
 use Rattle.mama_event.specs.declared.to_queue.QueueNote.TheVariants as q
-use Rattle.mama_queue_rules.specs.Queue.{Deed, QueuePut, handled, calls_of, served, puts_of, deeds, bye_put, queue_puts_at}
-use Rattle.mama_dispatch.specs.Journals.{Born, born, is_born, is_live_here, messages_at}
-use Rattle.mama_dispatch.specs.Seats.{SeatData, has_seat, listener_in, context_in, at, with_room, with_listener, new_seat, Fits}
-use Rattle.mama_dispatch.specs.Seating.{is_live, Seated, CalledOnce, CallsMade}
-use Rattle.mama_dispatch.specs.Keeping.{Kept}
+use Rattle.mama_rules_queue.specs.Queue.{Deed, QueuePut, calls_of, served, puts_of, deeds, bye_put, queue_puts_at}
+use Rattle.mama_dispatch.specs.Journals.{born, is_born, is_live_here, messages_at}
+use Rattle.mama_dispatch.specs.Seats.{SeatData, has_seat, listener_in, Fits}
+use Rattle.mama_dispatch.specs.Seating.{is_live, Seated}
 
 -- the seats are those of the objects that were made here, as the deeds leave them
 pub record Stands (journal : List (ℕ × QueueNote)) (ds : List Deed) (ss : List SeatData) : Type 0 where
@@ -35,26 +28,6 @@ pub record Serves (note : QueueNote) (before after : List SeatData) (put_before 
   pub fits : (orders : ObjectId → ℕ → List Order) → Fits orders after → Fits orders before
   pub serves : (orders : ObjectId → ℕ → List Order) (port : ℕ) (journal : List (ℕ × QueueNote)) (ds : List Deed)
       → Fits orders after → Stands journal ds before → ServedAt orders port journal ds note after put_before put_after
-
--- an object was made and got its first callback
-pub record Created (o : ObjectId) (make : Make) (l : ListenerData) (before after : List SeatData) (put_before put_after : List QueuePut) : Type 0 where
-  pub room : ℕ
-  pub once : CalledOnce o on.Create (before ++ new_seat o make l room ∷ []) after put_before put_after
-
--- an object got its last callback, and its listener left
-pub record Ended (o : ObjectId) (l : ListenerData) (before after : List SeatData) (put_before put_after : List QueuePut) : Type 0 where
-  pub room : ℕ
-  pub middle : List SeatData
-  pub once : CalledOnce o on.Destroy (map (at o (with_room room)) before) middle put_before put_after
-  pub left : listener_in o middle ≡ Some l
-  pub seats : after ≡ map (at o (with_listener None)) middle
-
--- a subscription's context took a message, and the callbacks of that were made
-pub record Delivered (s : SubId) (m : MarketMsg) (before after : List SeatData) (put_before put_after : List QueuePut) (so_many : ℕ) : Type 0 where
-  pub kept : Kept before after
-  pub fits : (orders : ObjectId → ℕ → List Order) → Fits orders after → Fits orders before
-  pub made : (orders : ObjectId → ℕ → List Order) (bs : List Born) (ds : List Deed) → Fits orders after → Seated (is_live ds) ds bs before
-      → CallsMade orders bs (ds ++ handled s m ∷ []) (Sub s) (callbacks_of (context_in (Sub s) before) m) after put_before put_after so_many
 
 -- an entry may be served: a Create is of an object that has no seat, and else the object's listener is there
 abbrev pub MayServe : QueueNote → List SeatData → Type 0

@@ -1,4 +1,4 @@
--- What is called back of each object over a list of turns, and that nothing meant for one object reaches another.
+-- believed: What is called back of each object over a list of turns, and that nothing meant for one object reaches another.
 use Rattle.std.specs.Prelude.{◌≡◌, ℕ, Bool, true, false, ◌&&◌, ◌||◌, not, List, [], ◌∷◌, ◌++◌, map, if◌then◌else◌}
 use Rattle.std.specs.List.{list_all}
 use Rattle.mama_journal.specs.Lane.{by_port}
@@ -10,7 +10,7 @@ use Rattle.mama_event.specs.declared.callback.Callback.{Callback}
 use Rattle.mama_event.specs.declared.order.Order.{Order}
 use Rattle.mama_event.specs.declared.to_queue.QueueNote.{QueueNote}
 use Rattle.mama_event.specs.declared.to_queue.QueueNote.TheVariants as q
-use Rattle.mama_queue_rules.specs.Queue.{Deed, handled, called, is_create, is_destroy, calls_of, deeds, deeds_at}
+use Rattle.mama_rules_queue.specs.Queue.{Deed, handled, called, is_create, is_destroy, calls_of, deeds, deeds_at}
 use Rattle.mama_dispatch.specs.Journals.{may_come}
 
 -- no callbacks

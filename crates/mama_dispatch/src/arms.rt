@@ -4,19 +4,17 @@ ghost use Rattle.mama_event.specs.Listener.{told};
 ghost use Rattle.mama_dispatch.specs.Seats.{has_seat, listener_in, is_muted_in, with_room, Fits};
 ghost use Rattle.mama_event.specs.declared.ids.ObjectId.{ObjectId};
 ghost use Rattle.mama_event.specs.declared.order.Order.{Order};
-ghost use Rattle.mama_queue_rules.specs.Queue.{Deed};
+ghost use Rattle.mama_rules_queue.specs.Queue.{Deed};
 ghost use Rattle.mama_dispatch.specs.Journals.{Born};
 ghost use Rattle.mama_dispatch.specs.Seating.{is_live, is_plain, Seated, CallsMade};
-ghost use Rattle.mama_dispatch.specs.Standing.{Created, Ended, Delivered};
+ghost use Rattle.mama_dispatch.specs.Making.{Created, Ended, Delivered};
 ghost use Rattle.mama_dispatch.specs.Keeping.{Kept};
 ghost use Rattle.mama_dispatch.specs.Turns.{put_note};
 
 use crate::seats::Seats;
-use crate::turn::QueueOut;
 use mama_dq::Calls;
-use mama_event::{Callback, Listener, Make, MarketMsg, ObjectId, SubId, Tagged};
-use mama_link::Outbox;
-use mama_memory::OutOfMemory;
+use mama_event::{Callback, Listener, Make, MarketMsg, ObjectId, SubId, Tagged, ToService};
+use mama_memory::{OutOfMemory, Outbox};
 use std::alloc::Global;
 
 /// The most events that one callback puts: a wish and 8 orders.
@@ -31,10 +29,10 @@ impl<L: Listener> Seats<L> {
         object: ObjectId,
         make: Make,
         listener: L,
-        out: &mut Outbox<QueueOut<M>>,
+        out: &mut Outbox<ToService<M>>,
     ) -> Result<(), L>
         requires { has_seat object self.old ≡ false }
-        ensures ok { OnOk result (Created object make (told L.tagged L.calls L.heard L.plan listener) self.old self.new (map (put_note M.tagged) out.old.items) (map (put_note M.tagged) out.new.items)) }
+        ensures ok { OnOk result (Created object make (told L.tagged L.calls L.heard L.given L.plan listener) self.old self.new (map (put_note M.tagged) out.old.items) (map (put_note M.tagged) out.new.items)) }
         ensures err { OnErr result (self.new ≡ self.old) }
         ensures puts_err { OnErr result (out.new.items ≡ out.old.items) }
         ensures back { IfErr result (λ given. given ≡ listener) }
@@ -56,10 +54,10 @@ impl<L: Listener> Seats<L> {
     pub(crate) fn end<M: Tagged>(
         &mut self,
         object: &ObjectId,
-        out: &mut Outbox<QueueOut<M>>,
+        out: &mut Outbox<ToService<M>>,
     ) -> Result<L, OutOfMemory>
         requires { is_some (listener_in object.now self.old) ≡ true }
-        ensures ok { IfOk result (λ l. Ended object.now (told L.tagged L.calls L.heard L.plan l) self.old self.new (map (put_note M.tagged) out.old.items) (map (put_note M.tagged) out.new.items)) }
+        ensures ok { IfOk result (λ l. Ended object.now (told L.tagged L.calls L.heard L.given L.plan l) self.old self.new (map (put_note M.tagged) out.old.items) (map (put_note M.tagged) out.new.items)) }
         ensures err { OnErr result (map (with_room 0) self.new ≡ map (with_room 0) self.old) }
         ensures puts_err { OnErr result (out.new.items ≡ out.old.items) }
     {
@@ -79,7 +77,7 @@ impl<L: Listener> Seats<L> {
         alloc: Global,
         sub: SubId,
         msg: &MarketMsg,
-        out: &mut Outbox<QueueOut<M>>,
+        out: &mut Outbox<ToService<M>>,
     ) -> Result<u32, OutOfMemory>
         requires { is_some (listener_in (Sub sub) self.old) ≡ true }
         ensures ok { IfOk result (λ count. Delivered sub msg.now self.old self.new (map (put_note M.tagged) out.old.items) (map (put_note M.tagged) out.new.items) count) }
@@ -106,7 +104,7 @@ impl<L: Listener> Seats<L> {
         &mut self,
         object: &ObjectId,
         call: Callback,
-        out: &mut Outbox<QueueOut<M>>,
+        out: &mut Outbox<ToService<M>>,
     ) -> Result<(), Callback>
         requires here { is_some (listener_in object.now self.old) ≡ true }
         requires plain { is_plain call ≡ true }

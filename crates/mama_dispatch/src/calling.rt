@@ -5,7 +5,7 @@ use mama_event::{Callback, Listener, Orders};
 
 /// Makes a callback of a listener. The answer is what it ordered.
 pub(crate) fn make<L: Listener>(listener: &mut L, call: &Callback) -> Orders
-    ensures { Heard call.now (told L.tagged L.calls L.heard L.plan listener.old) (told L.tagged L.calls L.heard L.plan listener.new) result }
+    ensures { Heard call.now (told L.tagged L.calls L.heard L.given L.plan listener.old) (told L.tagged L.calls L.heard L.given L.plan listener.new) result }
 {
     let mut orders = Orders::new();
     match call {

@@ -7,15 +7,17 @@ ghost use Rattle.mama_event.specs.ToQueue.{note_of};
 ghost use Rattle.mama_dispatch.specs.Standing.{Serves, MayServe};
 ghost use Rattle.mama_dispatch.specs.Answering.{Answers};
 ghost use Rattle.mama_event.specs.Listener.{told};
-ghost use Rattle.mama_dispatch.specs.Keeping.{brought, KeptWith};
+ghost use Rattle.mama_dispatch.specs.Hearing.{brought};
+ghost use Rattle.mama_dispatch.specs.Keeping.{KeptWith};
 ghost use Rattle.mama_dispatch.specs.Turns.{put_note};
 
 use crate::seats::Seats;
-use crate::turn::{QueueOut, Turn};
+use crate::turn::Turn;
 use mama_event::{
     Callback, InboxId, Listener, Make, MarketMsg, ObjectId, SubId, Tagged, TimerId, ToQueue,
+    ToService,
 };
-use mama_link::Outbox;
+use mama_memory::Outbox;
 use mama_msg::Msg;
 use std::alloc::Global;
 
@@ -27,12 +29,12 @@ pub(crate) fn serve_create<L: Listener, M: Tagged>(
     object: ObjectId,
     make: Make,
     listener: L,
-    out: &mut Outbox<QueueOut<M>>,
+    out: &mut Outbox<ToService<M>>,
 ) -> Result<Turn<L>, ToQueue<L>>
     requires { has_seat object seats.old ≡ false }
     ensures ok { OnOk result (Serves (q.Create slot object make (L.tagged listener)) seats.old seats.new (map (put_note M.tagged) out.old.items) (map (put_note M.tagged) out.new.items)) }
-    ensures kept { OnOk result (KeptWith (Some (object, told L.tagged L.calls L.heard L.plan listener)) seats.old seats.new) }
-    ensures answer { IfOk result (λ answer. Answers (told L.tagged L.calls L.heard L.plan) (q.Create slot object make (L.tagged listener)) seats.old seats.new answer) }
+    ensures kept { OnOk result (KeptWith (Some (object, told L.tagged L.calls L.heard L.given L.plan listener)) seats.old seats.new) }
+    ensures answer { IfOk result (λ answer. Answers (told L.tagged L.calls L.heard L.given L.plan) (q.Create slot object make (L.tagged listener)) seats.old seats.new answer) }
     ensures err { OnErr result (seats.new ≡ seats.old) }
     ensures puts_err { OnErr result (out.new.items ≡ out.old.items) }
     ensures back { IfErr result (λ given. given ≡ event.Create slot object make listener) }
@@ -55,13 +57,13 @@ pub(crate) fn serve_deliver<L: Listener, M: Tagged>(
     slot: u32,
     sub: SubId,
     msg: MarketMsg,
-    out: &mut Outbox<QueueOut<M>>,
+    out: &mut Outbox<ToService<M>>,
 ) -> Result<Turn<L>, ToQueue<L>>
     requires here { is_some (listener_in (Sub sub) seats.old) ≡ true }
     requires unmuted { is_muted_in (Sub sub) seats.old ≡ false }
     ensures ok { OnOk result (Serves (q.Deliver slot sub msg) seats.old seats.new (map (put_note M.tagged) out.old.items) (map (put_note M.tagged) out.new.items)) }
     ensures kept { OnOk result (KeptWith None seats.old seats.new) }
-    ensures answer { IfOk result (λ answer. Answers (told L.tagged L.calls L.heard L.plan) (q.Deliver slot sub msg) seats.old seats.new answer) }
+    ensures answer { IfOk result (λ answer. Answers (told L.tagged L.calls L.heard L.given L.plan) (q.Deliver slot sub msg) seats.old seats.new answer) }
     ensures err { OnErr result (map (with_room 0) seats.new ≡ map (with_room 0) seats.old) }
     ensures puts_err { OnErr result (out.new.items ≡ out.old.items) }
     ensures back { IfErr result (λ given. given ≡ event.Deliver slot sub msg) }
@@ -78,13 +80,13 @@ pub(crate) fn serve_tick<L: Listener, M: Tagged>(
     slot: u32,
     timer: TimerId,
     moment: u64,
-    out: &mut Outbox<QueueOut<M>>,
+    out: &mut Outbox<ToService<M>>,
 ) -> Result<Turn<L>, ToQueue<L>>
     requires here { is_some (listener_in (Timer timer) seats.old) ≡ true }
     requires unmuted { is_muted_in (Timer timer) seats.old ≡ false }
     ensures ok { OnOk result (Serves (q.Tick slot timer moment) seats.old seats.new (map (put_note M.tagged) out.old.items) (map (put_note M.tagged) out.new.items)) }
     ensures kept { OnOk result (KeptWith None seats.old seats.new) }
-    ensures answer { IfOk result (λ answer. Answers (told L.tagged L.calls L.heard L.plan) (q.Tick slot timer moment) seats.old seats.new answer) }
+    ensures answer { IfOk result (λ answer. Answers (told L.tagged L.calls L.heard L.given L.plan) (q.Tick slot timer moment) seats.old seats.new answer) }
     ensures err { OnErr result (map (with_room 0) seats.new ≡ map (with_room 0) seats.old) }
     ensures puts_err { OnErr result (out.new.items ≡ out.old.items) }
     ensures back { IfErr result (λ given. given ≡ event.Tick slot timer moment) }
@@ -105,12 +107,12 @@ pub(crate) fn serve_gone<L: Listener, M: Tagged>(
     seats: &mut Seats<L>,
     slot: u32,
     object: ObjectId,
-    out: &mut Outbox<QueueOut<M>>,
+    out: &mut Outbox<ToService<M>>,
 ) -> Result<Turn<L>, ToQueue<L>>
     requires { is_some (listener_in object seats.old) ≡ true }
     ensures ok { OnOk result (Serves (q.Gone slot object) seats.old seats.new (map (put_note M.tagged) out.old.items) (map (put_note M.tagged) out.new.items)) }
     ensures kept { OnOk result (KeptWith None seats.old seats.new) }
-    ensures answer { IfOk result (λ answer. Answers (told L.tagged L.calls L.heard L.plan) (q.Gone slot object) seats.old seats.new answer) }
+    ensures answer { IfOk result (λ answer. Answers (told L.tagged L.calls L.heard L.given L.plan) (q.Gone slot object) seats.old seats.new answer) }
     ensures err { OnErr result (map (with_room 0) seats.new ≡ map (with_room 0) seats.old) }
     ensures puts_err { OnErr result (out.new.items ≡ out.old.items) }
     ensures back { IfErr result (λ given. given ≡ event.Gone slot object) }
@@ -127,13 +129,13 @@ pub(crate) fn serve_reply<L: Listener, M: Tagged>(
     slot: u32,
     inbox: InboxId,
     body: Msg,
-    out: &mut Outbox<QueueOut<M>>,
+    out: &mut Outbox<ToService<M>>,
 ) -> Result<Turn<L>, ToQueue<L>>
     requires here { is_some (listener_in (Inbox inbox) seats.old) ≡ true }
     requires unmuted { is_muted_in (Inbox inbox) seats.old ≡ false }
     ensures ok { OnOk result (Serves (q.Reply slot inbox body) seats.old seats.new (map (put_note M.tagged) out.old.items) (map (put_note M.tagged) out.new.items)) }
     ensures kept { OnOk result (KeptWith None seats.old seats.new) }
-    ensures answer { IfOk result (λ answer. Answers (told L.tagged L.calls L.heard L.plan) (q.Reply slot inbox body) seats.old seats.new answer) }
+    ensures answer { IfOk result (λ answer. Answers (told L.tagged L.calls L.heard L.given L.plan) (q.Reply slot inbox body) seats.old seats.new answer) }
     ensures err { OnErr result (map (with_room 0) seats.new ≡ map (with_room 0) seats.old) }
     ensures puts_err { OnErr result (out.new.items ≡ out.old.items) }
     ensures back { IfErr result (λ given. given ≡ event.Reply slot inbox body) }
@@ -154,12 +156,12 @@ impl<L: Listener> Seats<L> {
         &mut self,
         alloc: Global,
         event: ToQueue<L>,
-        out: &mut Outbox<QueueOut<M>>,
+        out: &mut Outbox<ToService<M>>,
     ) -> Result<Turn<L>, ToQueue<L>>
         requires { MayServe (note_of L.tagged event) self.old }
         ensures ok { OnOk result (Serves (note_of L.tagged event) self.old self.new (map (put_note M.tagged) out.old.items) (map (put_note M.tagged) out.new.items)) }
-        ensures kept { OnOk result (KeptWith (brought (told L.tagged L.calls L.heard L.plan) event) self.old self.new) }
-        ensures answer { IfOk result (λ answer. Answers (told L.tagged L.calls L.heard L.plan) (note_of L.tagged event) self.old self.new answer) }
+        ensures kept { OnOk result (KeptWith (brought (told L.tagged L.calls L.heard L.given L.plan) event) self.old self.new) }
+        ensures answer { IfOk result (λ answer. Answers (told L.tagged L.calls L.heard L.given L.plan) (note_of L.tagged event) self.old self.new answer) }
         ensures err { OnErr result (map (with_room 0) self.new ≡ map (with_room 0) self.old) }
         ensures puts_err { OnErr result (out.new.items ≡ out.old.items) }
         ensures back { IfErr result (λ given. given ≡ event) }
@@ -191,12 +193,12 @@ fn take_deliver<L: Listener, M: Tagged>(
     slot: u32,
     sub: SubId,
     msg: MarketMsg,
-    out: &mut Outbox<QueueOut<M>>,
+    out: &mut Outbox<ToService<M>>,
 ) -> Result<Turn<L>, ToQueue<L>>
     requires { is_some (listener_in (Sub sub) seats.old) ≡ true }
     ensures ok { OnOk result (Serves (q.Deliver slot sub msg) seats.old seats.new (map (put_note M.tagged) out.old.items) (map (put_note M.tagged) out.new.items)) }
     ensures kept { OnOk result (KeptWith None seats.old seats.new) }
-    ensures answer { IfOk result (λ answer. Answers (told L.tagged L.calls L.heard L.plan) (q.Deliver slot sub msg) seats.old seats.new answer) }
+    ensures answer { IfOk result (λ answer. Answers (told L.tagged L.calls L.heard L.given L.plan) (q.Deliver slot sub msg) seats.old seats.new answer) }
     ensures err { OnErr result (map (with_room 0) seats.new ≡ map (with_room 0) seats.old) }
     ensures puts_err { OnErr result (out.new.items ≡ out.old.items) }
     ensures back { IfErr result (λ given. given ≡ event.Deliver slot sub msg) }
@@ -214,12 +216,12 @@ fn take_reply<L: Listener, M: Tagged>(
     slot: u32,
     inbox: InboxId,
     body: Msg,
-    out: &mut Outbox<QueueOut<M>>,
+    out: &mut Outbox<ToService<M>>,
 ) -> Result<Turn<L>, ToQueue<L>>
     requires { is_some (listener_in (Inbox inbox) seats.old) ≡ true }
     ensures ok { OnOk result (Serves (q.Reply slot inbox body) seats.old seats.new (map (put_note M.tagged) out.old.items) (map (put_note M.tagged) out.new.items)) }
     ensures kept { OnOk result (KeptWith None seats.old seats.new) }
-    ensures answer { IfOk result (λ answer. Answers (told L.tagged L.calls L.heard L.plan) (q.Reply slot inbox body) seats.old seats.new answer) }
+    ensures answer { IfOk result (λ answer. Answers (told L.tagged L.calls L.heard L.given L.plan) (q.Reply slot inbox body) seats.old seats.new answer) }
     ensures err { OnErr result (map (with_room 0) seats.new ≡ map (with_room 0) seats.old) }
     ensures puts_err { OnErr result (out.new.items ≡ out.old.items) }
     ensures back { IfErr result (λ given. given ≡ event.Reply slot inbox body) }
@@ -237,12 +239,12 @@ fn take_tick<L: Listener, M: Tagged>(
     slot: u32,
     timer: TimerId,
     moment: u64,
-    out: &mut Outbox<QueueOut<M>>,
+    out: &mut Outbox<ToService<M>>,
 ) -> Result<Turn<L>, ToQueue<L>>
     requires { is_some (listener_in (Timer timer) seats.old) ≡ true }
     ensures ok { OnOk result (Serves (q.Tick slot timer moment) seats.old seats.new (map (put_note M.tagged) out.old.items) (map (put_note M.tagged) out.new.items)) }
     ensures kept { OnOk result (KeptWith None seats.old seats.new) }
-    ensures answer { IfOk result (λ answer. Answers (told L.tagged L.calls L.heard L.plan) (q.Tick slot timer moment) seats.old seats.new answer) }
+    ensures answer { IfOk result (λ answer. Answers (told L.tagged L.calls L.heard L.given L.plan) (q.Tick slot timer moment) seats.old seats.new answer) }
     ensures err { OnErr result (map (with_room 0) seats.new ≡ map (with_room 0) seats.old) }
     ensures puts_err { OnErr result (out.new.items ≡ out.old.items) }
     ensures back { IfErr result (λ given. given ≡ event.Tick slot timer moment) }

@@ -1,4 +1,6 @@
 ghost use Rattle.mama_dispatch.specs.Standing.{StandsAtFirst, Standing};
+ghost use Rattle.mama_dispatch.specs.SameNotes.{NotesCompareExactly};
+ghost use Rattle.mama_dispatch.specs.Coming.{LawfulMayCome, LawfulAreTurns, TwoPortsSuffice};
 ghost use Rattle.mama_dispatch.specs.Streams.{CallbacksAreStreams, SlotsAreKept, SlotsAreOfOne};
 
 /// A law: no seats are those of an empty journal.
@@ -28,4 +30,22 @@ pub fn slots_are_kept()
 /// A law: where a port puts what it may, a slot is of one object at a time.
 pub fn slots_are_of_one()
     ensures { SlotsAreOfOne }
+{}
+
+/// A law: where what came by each port is what it may put, each entry was one that may come. So a taker whose ports put
+/// lawful lists meets the condition of a turn with whatever it takes.
+pub fn lawful_may_come()
+    ensures entry { LawfulMayCome }
+    ensures journal { LawfulAreTurns }
+{}
+
+/// A law: where all came by port 0, the bridge's, or by port 1, the timer service's, it is enough that these two are
+/// lawful.
+pub fn two_ports_suffice()
+    ensures { TwoPortsSuffice }
+{}
+
+/// A law: `==` of what two queues gave up holds where both are the same data, and nowhere else.
+pub fn notes_are_compared_exactly()
+    ensures { NotesCompareExactly }
 {}

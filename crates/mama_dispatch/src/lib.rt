@@ -5,28 +5,23 @@ mod arms;
 mod calling;
 mod entries;
 mod laws;
-#[cfg(test)]
-mod note_tests;
 mod notes;
 mod puts;
 mod row;
 mod seats;
 mod serve;
 mod serving;
-#[cfg(test)]
-mod test_listener;
-#[cfg(test)]
-mod tests;
 mod turn;
 
 pub use laws::{
-    callbacks_are_streams, no_objects_at_first, serving_an_entry, slots_are_kept, slots_are_of_one,
+    callbacks_are_streams, lawful_may_come, no_objects_at_first, notes_are_compared_exactly,
+    serving_an_entry, slots_are_kept, slots_are_of_one, two_ports_suffice,
 };
 pub use mama_event::{
-    CallNote, Callback, ImageHead, Listener, ObjectId, Order, Orders, QueueNote, ToQueue,
+    CallNote, Callback, ImageHead, Listener, ObjectId, Order, Orders, QueueNote, ToQueue, ToService,
 };
 pub use notes::ServingNotes;
 pub use row::ImageRow;
 pub use seats::Seats;
 pub use serving::Serving;
-pub use turn::{QueueOut, Turn};
+pub use turn::Turn;

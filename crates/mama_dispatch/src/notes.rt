@@ -5,7 +5,10 @@ ghost use Rattle.mama_event.specs.Listener.{told};
 ghost use Rattle.mama_dispatch.specs.Journals.{born_in, left_by, left_in};
 ghost use Rattle.mama_dispatch.specs.Seats.{context_in};
 ghost use Rattle.mama_dispatch.specs.Rows.{row_data};
-ghost use Rattle.mama_dispatch.specs.Notes.{lists_of, lists_in};
+ghost use Rattle.std.specs.Cmp.Lexicographic.{pointwise};
+ghost use Rattle.mama_dispatch.specs.Notes.{lists_of};
+ghost use Rattle.mama_dispatch.specs.SameNotes.{same_calls, same_image};
+ghost use Rattle.mama_dispatch.specs.Noted.{lists_in};
 
 use crate::row::Row;
 use crate::seats::Seats;
@@ -22,6 +25,45 @@ pub struct ServingNotes {
     pub calls: Vec<(ObjectId, Vec<CallNote>)>,
     /// The image of each subscription that had one when its Gone was taken, in the order of the Gones.
     pub images: Vec<(SubId, ImageHead, Msg)>,
+}
+
+impl PartialEq for ServingNotes {
+    ghost use Rattle.std.specs.Prelude.{◌≡◌};
+    ghost use Rattle.std.specs.Cmp.{partial_equiv_from_equiv};
+    ghost use Rattle.mama_dispatch.specs.SameNotes.{same_notes};
+    ghost use Rattle.mama_dispatch.specs.SameNotesLaws.{same_notes_equivalence};
+
+    ghost eq = { same_notes };
+
+    ghost laws = { partial_equiv_from_equiv same_notes_equivalence };
+
+    fn eq(&self, other: &ServingNotes) -> bool
+        ensures { result ≡ same_notes self.now other.now }
+    {
+        self.taken == other.taken
+            && are_same_lists(&self.calls, &other.calls)
+            && are_same_images(&self.images, &other.images)
+    }
+}
+
+impl Eq for ServingNotes {
+    ghost use Rattle.mama_dispatch.specs.SameNotesLaws.{same_notes_equivalence};
+
+    ghost laws = { same_notes_equivalence };
+}
+
+/// Whether two objects' lists of callbacks are the same data, one after another.
+fn are_same_lists(a: &[(ObjectId, Vec<CallNote>)], b: &[(ObjectId, Vec<CallNote>)]) -> bool
+    ensures { result ≡ pointwise same_calls (lists_of a.now) (lists_of b.now) }
+{
+    a == b
+}
+
+/// Whether two lists of images are the same data.
+fn are_same_images(a: &[(SubId, ImageHead, Msg)], b: &[(SubId, ImageHead, Msg)]) -> bool
+    ensures { result ≡ pointwise same_image a.now b.now }
+{
+    a == b
 }
 
 /// Makes room for one list of notes more than there are objects.
@@ -113,7 +155,7 @@ pub(crate) fn calls_of_rows<L: Listener>(
 ) -> Vec<(ObjectId, Vec<CallNote>)>
     requires none { room.items ≡ [] }
     requires enough { length rows.items ≤ vec_capacity room }
-    ensures { lists_of result.items ≡ lists_in (map (row_data (told L.tagged L.calls L.heard L.plan)) rows.items) }
+    ensures { lists_of result.items ≡ lists_in (map (row_data (told L.tagged L.calls L.heard L.given L.plan)) rows.items) }
 {
     let mut calls = room;
     for row in rows {

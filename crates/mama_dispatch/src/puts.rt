@@ -1,35 +1,18 @@
 ghost use Rattle.std.specs.Prelude.{◌≡◌, ◌+◌, ◌<◌, ◌≤◌, [], ◌∷◌, ◌++◌, map, length};
-ghost use Rattle.mama_queue_rules.specs.Queue.{order_put, wish_put};
+ghost use Rattle.mama_rules_queue.specs.Queue.{order_put, wish_put};
 ghost use Rattle.mama_dispatch.specs.Turns.{put_note, wished};
 
-use crate::turn::QueueOut;
-use mama_event::{Callback, ObjectId, Order, Orders, SubId, Tagged, ToBridge, ToTimers};
-use mama_link::Outbox;
-
-/// What an order puts.
-fn put_of<M: Tagged>(order: &Order) -> QueueOut<M>
-    ensures { put_note M.tagged result ≡ order_put order.now }
-{
-    match order {
-        Order::Stop(sub) => QueueOut::Bridge(ToBridge::Leave { sub: *sub }),
-        Order::Disarm(timer) => QueueOut::Timers(ToTimers::Disarm { timer: *timer }),
-        Order::Close(inbox) => QueueOut::Bridge(ToBridge::CloseInbox { inbox: *inbox }),
-        Order::Ask { inbox, topic, fids } => QueueOut::Bridge(ToBridge::Ask {
-            inbox: *inbox,
-            topic: *topic,
-            fids: *fids,
-        }),
-    }
-}
+use mama_event::{Callback, ObjectId, Orders, SubId, Tagged, ToBridge, ToService};
+use mama_memory::Outbox;
 
 /// Puts what a listener ordered, in order.
-pub(crate) fn put_orders<M: Tagged>(orders: &Orders, out: &mut Outbox<QueueOut<M>>)
+pub(crate) fn put_orders<M: Tagged>(orders: &Orders, out: &mut Outbox<ToService<M>>)
     requires { length orders.now ≤ out.old.spare }
     ensures puts { map (put_note M.tagged) out.new.items ≡ map (put_note M.tagged) out.old.items ++ map order_put orders.now }
     ensures spare { out.new.spare + length orders.now ≡ out.old.spare }
 {
     for order in orders.as_slice() {
-        out.push_reserved(put_of(order));
+        out.push_reserved(ToService::of_order(order));
     }
 }
 
@@ -44,12 +27,16 @@ fn wish_of(object: &ObjectId, call: &Callback) -> Option<(SubId, u32)>
 }
 
 /// Puts the wish for a recap that a callback makes, if it makes one.
-pub(crate) fn put_wish<M: Tagged>(object: &ObjectId, call: &Callback, out: &mut Outbox<QueueOut<M>>)
+pub(crate) fn put_wish<M: Tagged>(
+    object: &ObjectId,
+    call: &Callback,
+    out: &mut Outbox<ToService<M>>,
+)
     requires { 0 < out.old.spare }
     ensures puts { map (put_note M.tagged) out.new.items ≡ map (put_note M.tagged) out.old.items ++ wish_put object.now call.now }
     ensures spare { out.old.spare ≤ out.new.spare + 1 }
 {
     if let Some((sub, sender)) = wish_of(object, call) {
-        out.push_reserved(QueueOut::Bridge(ToBridge::RecapWish { sub, sender }));
+        out.push_reserved(ToService::Bridge(ToBridge::RecapWish { sub, sender }));
     }
 }

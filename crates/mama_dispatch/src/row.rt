@@ -3,7 +3,7 @@ ghost use Rattle.std.specs.Option.{option_map};
 ghost use Rattle.mama_dq.specs.Strategy.{callbacks_of};
 ghost use Rattle.mama_event.specs.Listener.{told};
 ghost use Rattle.mama_dispatch.specs.Seats.{HeardIn, called_with, muted_where_live, with_listener, stepped, with_context, with_room, new_seat};
-ghost use Rattle.mama_queue_rules.specs.Queue.{context_of};
+ghost use Rattle.mama_rules_queue.specs.Queue.{context_of};
 ghost use Rattle.mama_event.specs.declared.market.MarketMsg.{MarketMsg};
 ghost use Rattle.mama_dispatch.specs.Rows.{row_data};
 ghost use Rattle.mama_dispatch.specs.Images.{lent, image_at};
@@ -32,7 +32,7 @@ pub(crate) struct Row<L> {
 /// Makes a callback of the object's listener, if that is there. The answer is what it ordered.
 pub(crate) fn hear<L: Listener>(listener: &mut Option<L>, call: &Callback) -> Orders
     requires { is_some listener.old ≡ true }
-    ensures { HeardIn call.now (option_map (told L.tagged L.calls L.heard L.plan) listener.old) (option_map (told L.tagged L.calls L.heard L.plan) listener.new) result }
+    ensures { HeardIn call.now (option_map (told L.tagged L.calls L.heard L.given L.plan) listener.old) (option_map (told L.tagged L.calls L.heard L.given L.plan) listener.new) result }
 {
     match listener {
         Some(listener) => make(listener, call),
@@ -44,8 +44,8 @@ pub(crate) fn hear<L: Listener>(listener: &mut Option<L>, call: &Callback) -> Or
 pub(crate) fn make_at<L: Listener>(row: &mut Row<L>, call: Callback) -> Orders
     requires here { is_some row.old.listener ≡ true }
     requires room { vec_len row.old.calls < vec_capacity row.old.calls }
-    ensures heard { HeardIn call (option_map (told L.tagged L.calls L.heard L.plan) row.old.listener) (option_map (told L.tagged L.calls L.heard L.plan) row.new.listener) result }
-    ensures row { row_data (told L.tagged L.calls L.heard L.plan) row.new ≡ called_with call result (option_map (told L.tagged L.calls L.heard L.plan) row.new.listener) (row_data (told L.tagged L.calls L.heard L.plan) row.old) }
+    ensures heard { HeardIn call (option_map (told L.tagged L.calls L.heard L.given L.plan) row.old.listener) (option_map (told L.tagged L.calls L.heard L.given L.plan) row.new.listener) result }
+    ensures row { row_data (told L.tagged L.calls L.heard L.given L.plan) row.new ≡ called_with call result (option_map (told L.tagged L.calls L.heard L.given L.plan) row.new.listener) (row_data (told L.tagged L.calls L.heard L.given L.plan) row.old) }
 {
     let orders = hear(&mut row.listener, &call);
     row.calls.push_reserved(CallNote {
@@ -57,7 +57,7 @@ pub(crate) fn make_at<L: Listener>(row: &mut Row<L>, call: Callback) -> Orders
 
 /// Mutes the object of a row, if it is live.
 pub(crate) fn mute_at<L: Listener>(row: &mut Row<L>)
-    ensures { row_data (told L.tagged L.calls L.heard L.plan) row.new ≡ muted_where_live (row_data (told L.tagged L.calls L.heard L.plan) row.old) }
+    ensures { row_data (told L.tagged L.calls L.heard L.given L.plan) row.new ≡ muted_where_live (row_data (told L.tagged L.calls L.heard L.given L.plan) row.old) }
 {
     row.muted = row.muted || row.listener.is_some();
 }
@@ -65,7 +65,7 @@ pub(crate) fn mute_at<L: Listener>(row: &mut Row<L>)
 /// Takes the listener of a row out.
 pub(crate) fn take_at<L: Listener>(row: &mut Row<L>) -> Option<L>
     ensures listener { result ≡ row.old.listener }
-    ensures row { row_data (told L.tagged L.calls L.heard L.plan) row.new ≡ with_listener None (row_data (told L.tagged L.calls L.heard L.plan) row.old) }
+    ensures row { row_data (told L.tagged L.calls L.heard L.given L.plan) row.new ≡ with_listener None (row_data (told L.tagged L.calls L.heard L.given L.plan) row.old) }
 {
     row.listener.take()
 }
@@ -77,17 +77,17 @@ pub(crate) fn step_at<L: Listener>(
     msg: &MarketMsg,
     pending: &mut Calls,
 ) -> Result<(), OutOfMemory>
-    ensures row { OnOk result (row_data (told L.tagged L.calls L.heard L.plan) row.new ≡ stepped msg.now (row_data (told L.tagged L.calls L.heard L.plan) row.old)) }
+    ensures row { OnOk result (row_data (told L.tagged L.calls L.heard L.given L.plan) row.new ≡ stepped msg.now (row_data (told L.tagged L.calls L.heard L.given L.plan) row.old)) }
     ensures pending { OnOk result (pending.new ≡ pending.old ++ callbacks_of row.old.context msg.now) }
     ensures err { OnErr result (row.new ≡ row.old) }
-    ensures others { row_data (told L.tagged L.calls L.heard L.plan) row.new ≡ with_context row.new.context (row_data (told L.tagged L.calls L.heard L.plan) row.old) }
+    ensures others { row_data (told L.tagged L.calls L.heard L.given L.plan) row.new ≡ with_context row.new.context (row_data (told L.tagged L.calls L.heard L.given L.plan) row.old) }
 {
     row.context.step(msg, pending)
 }
 
 /// Makes room for more callbacks at a row.
 pub(crate) fn reserve_at<L: Listener>(row: &mut Row<L>, more: usize) -> Result<(), OutOfMemory>
-    ensures row { row_data (told L.tagged L.calls L.heard L.plan) row.new ≡ with_room (vec_capacity row.new.calls - vec_len row.new.calls) (row_data (told L.tagged L.calls L.heard L.plan) row.old) }
+    ensures row { row_data (told L.tagged L.calls L.heard L.given L.plan) row.new ≡ with_room (vec_capacity row.new.calls - vec_len row.new.calls) (row_data (told L.tagged L.calls L.heard L.given L.plan) row.old) }
     ensures ok { OnOk result (more ≤ vec_capacity row.new.calls - vec_len row.new.calls) }
 {
     Ok(row.calls.reserve(more)?)
@@ -113,7 +113,7 @@ pub(crate) fn new_row<L: Listener>(
     calls: Vec<CallNote>,
 ) -> Row<L>
     requires { calls.items ≡ [] }
-    ensures { row_data (told L.tagged L.calls L.heard L.plan) result ≡ new_seat object make (told L.tagged L.calls L.heard L.plan listener) (vec_capacity calls - vec_len calls) }
+    ensures { row_data (told L.tagged L.calls L.heard L.given L.plan) result ≡ new_seat object make (told L.tagged L.calls L.heard L.given L.plan listener) (vec_capacity calls - vec_len calls) }
 {
     Row {
         object,
@@ -173,7 +173,7 @@ fn lend(context: &DqContext) -> Option<ImageRow<'_>>
 
 /// The image of a row whose object is live, lent, if it has one.
 pub(crate) fn live_image<L: Listener>(row: &Row<L>) -> Option<ImageRow<'_>>
-    ensures { lent result ≡ image_at (row_data (told L.tagged L.calls L.heard L.plan) row.now) }
+    ensures { lent result ≡ image_at (row_data (told L.tagged L.calls L.heard L.given L.plan) row.now) }
 {
     if row.listener.is_none() {
         return None;

@@ -46,9 +46,9 @@ impl<L: Listener> Model for Seats<L> {
     ghost use Rattle.mama_event.specs.Listener.{told};
     ghost use Rattle.mama_dispatch.specs.Rows.{row_data, AreKept};
 
-    ghost view = { λ s. map (row_data (told L.tagged L.calls L.heard L.plan)) s.rows.items };
+    ghost view = { λ s. map (row_data (told L.tagged L.calls L.heard L.given L.plan)) s.rows.items };
 
-    ghost invariant = { λ s. AreKept s.places.keys (map (row_data (told L.tagged L.calls L.heard L.plan)) s.rows.items) };
+    ghost invariant = { λ s. AreKept s.places.keys (map (row_data (told L.tagged L.calls L.heard L.given L.plan)) s.rows.items) };
 }
 
 /// The object that an order ends, if it ends one.
@@ -109,7 +109,7 @@ impl<L: Listener> Seats<L> {
 
     /// The objects, in the order in which they were made.
     pub(crate) fn into_rows(self) -> Vec<Row<L>>
-        ensures { map (row_data (told L.tagged L.calls L.heard L.plan)) result.items ≡ self }
+        ensures { map (row_data (told L.tagged L.calls L.heard L.given L.plan)) result.items ≡ self }
     {
         let Seats { places: _, rows } = self;
         rows
@@ -222,7 +222,7 @@ impl<L: Listener> Seats<L> {
 
     /// Takes the listener of an object out.
     pub(crate) fn close(&mut self, object: &ObjectId) -> Option<L>
-        ensures listener { option_map (told L.tagged L.calls L.heard L.plan) result ≡ listener_in object.now self.old }
+        ensures listener { option_map (told L.tagged L.calls L.heard L.given L.plan) result ≡ listener_in object.now self.old }
         ensures seats { self.new ≡ map (at object.now (with_listener None)) self.old }
     {
         match self.place(object) {
@@ -241,7 +241,7 @@ impl<L: Listener> Seats<L> {
         listener: L,
     ) -> Result<(), L>
         requires { has_seat object self.old ≡ false }
-        ensures ok { OnOk result (IsOpened object make (told L.tagged L.calls L.heard L.plan listener) self.old self.new) }
+        ensures ok { OnOk result (IsOpened object make (told L.tagged L.calls L.heard L.given L.plan listener) self.old self.new) }
         ensures err { OnErr result (self.new ≡ self.old) }
         ensures back { IfErr result (λ given. given ≡ listener) }
     {

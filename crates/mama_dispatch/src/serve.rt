@@ -3,7 +3,7 @@ ghost use Rattle.std.specs.List.{list_all};
 ghost use Rattle.mama_event.specs.declared.ids.ObjectId.{ObjectId};
 ghost use Rattle.mama_event.specs.declared.callback.Callback.{Callback};
 ghost use Rattle.mama_event.specs.declared.order.Order.{Order};
-ghost use Rattle.mama_queue_rules.specs.Queue.{Deed};
+ghost use Rattle.mama_rules_queue.specs.Queue.{Deed};
 ghost use Rattle.mama_dispatch.specs.Journals.{Born};
 ghost use Rattle.mama_dispatch.specs.Seats.{listener_in, room_in, Fits};
 ghost use Rattle.mama_dispatch.specs.Seating.{is_live, is_plain, Seated, CalledOnce, CallsMade};
@@ -12,10 +12,9 @@ ghost use Rattle.mama_dispatch.specs.Turns.{put_note};
 
 use crate::puts::{put_orders, put_wish};
 use crate::seats::Seats;
-use crate::turn::QueueOut;
 use mama_dq::Calls;
-use mama_event::{Callback, Listener, ObjectId, Tagged};
-use mama_link::Outbox;
+use mama_event::{Callback, Listener, ObjectId, Tagged, ToService};
+use mama_memory::Outbox;
 
 impl<L: Listener> Seats<L> {
     /// Makes one callback of an object, be it muted or not, and puts what follows from it.
@@ -23,7 +22,7 @@ impl<L: Listener> Seats<L> {
         &mut self,
         object: &ObjectId,
         call: Callback,
-        out: &mut Outbox<QueueOut<M>>,
+        out: &mut Outbox<ToService<M>>,
     )
         requires here { is_some (listener_in object.now self.old) ≡ true }
         requires room { 0 < room_in object.now self.old }
@@ -44,7 +43,7 @@ impl<L: Listener> Seats<L> {
         &mut self,
         object: &ObjectId,
         call: Callback,
-        out: &mut Outbox<QueueOut<M>>,
+        out: &mut Outbox<ToService<M>>,
     ) -> u32
         requires here { is_some (listener_in object.now self.old) ≡ true }
         requires room { 0 < room_in object.now self.old }
@@ -71,7 +70,7 @@ impl<L: Listener> Seats<L> {
         &mut self,
         object: &ObjectId,
         pending: &mut Calls,
-        out: &mut Outbox<QueueOut<M>>,
+        out: &mut Outbox<ToService<M>>,
     ) -> u32
         requires here { is_some (listener_in object.now self.old) ≡ true }
         requires room { length pending.old ≤ room_in object.now self.old }
@@ -99,7 +98,7 @@ impl<L: Listener> Seats<L> {
         &mut self,
         object: &ObjectId,
         pending: &mut Calls,
-        out: &mut Outbox<QueueOut<M>>,
+        out: &mut Outbox<ToService<M>>,
     ) -> u32
         requires here { is_some (listener_in object.now self.old) ≡ true }
         requires room { length pending.old ≤ room_in object.now self.old }

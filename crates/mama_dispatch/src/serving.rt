@@ -7,16 +7,15 @@ ghost use Rattle.mama_event.specs.declared.to_queue.ToQueue.TheVariants as event
 ghost use Rattle.mama_event.specs.declared.to_queue.QueueNote.TheVariants as note;
 ghost use Rattle.mama_event.specs.ToQueue.{note_of};
 ghost use Rattle.mama_event.specs.Listener.{told};
-ghost use Rattle.mama_queue_rules.specs.Queue.{deeds, is_fin, messages_of, to_bridge, to_timers, queue_puts_at};
+ghost use Rattle.mama_rules_queue.specs.Queue.{deeds, is_fin, messages_of, to_bridge, to_timers, queue_puts_at};
 ghost use Rattle.mama_dispatch.specs.Journals.{is_live_here, may_come, notes_of, context_after, image_in, images_left};
 ghost use Rattle.mama_dispatch.specs.Seats.{Fits};
-ghost use Rattle.mama_dispatch.specs.Keeping.{brought, ComesPlanned, ArePlanned};
 ghost use Rattle.mama_dispatch.specs.Turns.{put_note};
 ghost use Rattle.mama_journal.specs.Journal.{count_of};
 ghost use Rattle.mama_event.specs.Listener.{ListenerData};
 ghost use Rattle.mama_dispatch.specs.declared.turn.Turn.TheVariants as turn;
 ghost use Rattle.mama_dispatch.specs.Served.{calls_at};
-ghost use Rattle.mama_dispatch.specs.Hearing.{HaveHeard, ComesAs};
+ghost use Rattle.mama_dispatch.specs.Hearing.{brought, ComesAs, ComesWith, HeardAt, PlannedAt, ArePlanned};
 ghost use Rattle.mama_dispatch.specs.Answering.{AnswersTo};
 ghost use Rattle.std.specs.List.{AllByRecursion};
 ghost use Rattle.mama_msg.specs.Field.{FieldData};
@@ -28,13 +27,12 @@ ghost use Rattle.mama_dispatch.specs.Notes.{lists_of, calls_made};
 use crate::notes::{ServingNotes, add_image, calls_of_rows, prepare};
 use crate::row::ImageRow;
 use crate::seats::Seats;
-use crate::turn::{QueueOut, Turn};
+use crate::turn::Turn;
 use mama_event::{
     CallNote, ImageHead, Listener, ObjectId, QueueNote, Stream, SubId, Tagged, ToBridge, ToQueue,
-    ToTimers,
+    ToService, ToTimers,
 };
-use mama_link::Outbox;
-use mama_memory::{Duplicate, OutOfMemory};
+use mama_memory::{Duplicate, OutOfMemory, Outbox};
 use mama_msg::Msg;
 use std::alloc::Global;
 use std::marker::Model;
@@ -59,7 +57,7 @@ impl<L: Listener> Model for Serving<L> {
     ghost Value = { Served };
 
     ghost use Rattle.mama_dispatch.specs.Served.{told_seats};
-    ghost use Rattle.mama_dispatch.specs.Notes.{IsServing};
+    ghost use Rattle.mama_dispatch.specs.Noted.{IsServing};
 
     ghost view = { λ s. record { queue = s.queue; journal = s.journal.items; seats = told_seats s.seats } };
 
@@ -128,23 +126,27 @@ impl<L: Listener> Serving<L> {
     /// object's listener back, which has heard all callbacks of its object. A Fin is answered with Running, and the
     /// second with Finished.
     ///
+    /// Of each object by itself: the callbacks that were made, and the orders that were noted with them, are those that
+    /// its listener got and gave since it came, as far as it tells them; and where it tells a plan, the orders that were
+    /// noted with its k-th callback are those that the plan has for k more than the count with which it came.
+    ///
     /// All memory is taken before the first callback. Where none is found the event is given back, no callback was
     /// made, and all is as before.
     pub fn turn<M: Tagged>(
         &mut self,
         port: u32,
         event: ToQueue<L>,
-        out: &mut Outbox<QueueOut<M>>,
+        out: &mut Outbox<ToService<M>>,
     ) -> Result<Turn<L>, ToQueue<L>>
         requires { may_come self.old.journal (note_of L.tagged event) ≡ true }
         ensures journal { OnOk result (self.new.journal ≡ self.old.journal ++ (port, note_of L.tagged event) ∷ []) }
         ensures queue { self.new.queue ≡ self.old.queue }
         ensures puts { OnOk result ((orders : ObjectId → ℕ → List Order) → Fits orders self.new.seats → map (put_note M.tagged) out.new.items ≡ map (put_note M.tagged) out.old.items ++ queue_puts_at orders self.old.journal (port, note_of L.tagged event)) }
         ensures fits { OnOk result ((orders : ObjectId → ℕ → List Order) → Fits orders self.new.seats → Fits orders self.old.seats) }
-        ensures answer { IfOk result (λ answer. (orders : ObjectId → ℕ → List Order) → Fits orders self.new.seats → AnswersTo (told L.tagged L.calls L.heard L.plan) orders self.old.seats self.old.journal (deeds orders self.old.journal) (note_of L.tagged event) answer) }
+        ensures answer { IfOk result (λ answer. (orders : ObjectId → ℕ → List Order) → Fits orders self.new.seats → AnswersTo (told L.tagged L.calls L.heard L.given L.plan) orders self.old.seats self.old.journal (deeds orders self.old.journal) (note_of L.tagged event) answer) }
         ensures calls { OnOk result ((orders : ObjectId → ℕ → List Order) → Fits orders self.new.seats → (o : ObjectId) → calls_at o self.new.seats ≡ notes_of o (deeds orders self.new.journal)) }
-        ensures heard { OnOk result ((came : ObjectId → ListenerData) → ComesAs came (brought (told L.tagged L.calls L.heard L.plan) event) → HaveHeard came self.old.seats → HaveHeard came self.new.seats) }
-        ensures planned { OnOk result ((orders : ObjectId → ℕ → List Order) → ComesPlanned orders (brought (told L.tagged L.calls L.heard L.plan) event) → ArePlanned orders self.old.seats → ArePlanned orders self.new.seats) }
+        ensures heard { OnOk result ((object : ObjectId) (came : ListenerData) → ComesAs object came (brought (told L.tagged L.calls L.heard L.given L.plan) event) → HeardAt object came self.old.seats → HeardAt object came self.new.seats) }
+        ensures planned { OnOk result ((object : ObjectId) (f : ℕ → List Order) (count : ℕ) → ComesWith object f count (brought (told L.tagged L.calls L.heard L.given L.plan) event) → PlannedAt object f count self.old.seats → PlannedAt object f count self.new.seats) }
         ensures err { OnErr result (self.new ≡ self.old) }
         ensures puts_err { OnErr result (out.new.items ≡ out.old.items) }
         ensures back { IfErr result (λ given. given ≡ event) }
@@ -164,7 +166,7 @@ impl<L: Listener> Serving<L> {
         port: u32,
         note: QueueNote,
         event: ToQueue<L>,
-        out: &mut Outbox<QueueOut<M>>,
+        out: &mut Outbox<ToService<M>>,
     ) -> Result<Turn<L>, ToQueue<L>>
         requires may { may_come self.old.journal (note_of L.tagged event) ≡ true }
         requires noted { note ≡ note_of L.tagged event }
@@ -173,10 +175,10 @@ impl<L: Listener> Serving<L> {
         ensures queue { self.new.queue ≡ self.old.queue }
         ensures puts { OnOk result ((orders : ObjectId → ℕ → List Order) → Fits orders self.new.seats → map (put_note M.tagged) out.new.items ≡ map (put_note M.tagged) out.old.items ++ queue_puts_at orders self.old.journal (port, note_of L.tagged event)) }
         ensures fits { OnOk result ((orders : ObjectId → ℕ → List Order) → Fits orders self.new.seats → Fits orders self.old.seats) }
-        ensures answer { IfOk result (λ answer. (orders : ObjectId → ℕ → List Order) → Fits orders self.new.seats → AnswersTo (told L.tagged L.calls L.heard L.plan) orders self.old.seats self.old.journal (deeds orders self.old.journal) (note_of L.tagged event) answer) }
+        ensures answer { IfOk result (λ answer. (orders : ObjectId → ℕ → List Order) → Fits orders self.new.seats → AnswersTo (told L.tagged L.calls L.heard L.given L.plan) orders self.old.seats self.old.journal (deeds orders self.old.journal) (note_of L.tagged event) answer) }
         ensures calls { OnOk result ((orders : ObjectId → ℕ → List Order) → Fits orders self.new.seats → (o : ObjectId) → calls_at o self.new.seats ≡ notes_of o (deeds orders self.new.journal)) }
-        ensures heard { OnOk result ((came : ObjectId → ListenerData) → ComesAs came (brought (told L.tagged L.calls L.heard L.plan) event) → HaveHeard came self.old.seats → HaveHeard came self.new.seats) }
-        ensures planned { OnOk result ((orders : ObjectId → ℕ → List Order) → ComesPlanned orders (brought (told L.tagged L.calls L.heard L.plan) event) → ArePlanned orders self.old.seats → ArePlanned orders self.new.seats) }
+        ensures heard { OnOk result ((object : ObjectId) (came : ListenerData) → ComesAs object came (brought (told L.tagged L.calls L.heard L.given L.plan) event) → HeardAt object came self.old.seats → HeardAt object came self.new.seats) }
+        ensures planned { OnOk result ((object : ObjectId) (f : ℕ → List Order) (count : ℕ) → ComesWith object f count (brought (told L.tagged L.calls L.heard L.given L.plan) event) → PlannedAt object f count self.old.seats → PlannedAt object f count self.new.seats) }
         ensures err { OnErr result (self.new ≡ self.old) }
         ensures puts_err { OnErr result (out.new.items ≡ out.old.items) }
         ensures back { IfErr result (λ given. given ≡ event) }
@@ -190,7 +192,6 @@ impl<L: Listener> Serving<L> {
         self.seats.apart();
         match self.seats.serve(self.alloc, event, out) {
             Ok(turn) => {
-                self.seats.few();
                 self.seats.apart();
                 self.journal.push_reserved((port, note));
                 add_image(&mut self.images, left);
@@ -204,7 +205,7 @@ impl<L: Listener> Serving<L> {
     fn finish<M: Tagged>(
         &mut self,
         port: u32,
-        out: &mut Outbox<QueueOut<M>>,
+        out: &mut Outbox<ToService<M>>,
     ) -> Result<Turn<L>, ToQueue<L>>
         ensures journal { OnOk result (self.new.journal ≡ self.old.journal ++ (port, note.Fin) ∷ []) }
         ensures queue { self.new.queue ≡ self.old.queue }
@@ -227,6 +228,14 @@ impl<L: Listener> Serving<L> {
         self.fins = fins;
         put_byes(is_second, out);
         Ok(ended(is_second))
+    }
+
+    /// A fact about any queue: where each object's listener came with no callbacks and told a plan, the orders that were
+    /// noted are those of the plans, as clauses that speak of orders ask.
+    pub fn planned_orders_fit(&self)
+        ensures { (orders : ObjectId → ℕ → List Order) → ArePlanned orders self.now.seats → Fits orders self.now.seats }
+    {
+        self.seats.few();
     }
 
     /// A fact about any queue: the orders that were noted with its callbacks are those of some function, as clauses that
@@ -306,13 +315,13 @@ impl<L: Listener> Serving<L> {
 }
 
 /// Says Bye to the bridge, and then to the timer service, if it is time.
-fn put_byes<M: Tagged>(is_time: bool, out: &mut Outbox<QueueOut<M>>)
+fn put_byes<M: Tagged>(is_time: bool, out: &mut Outbox<ToService<M>>)
     requires { 2 ≤ out.old.spare }
     ensures { map (put_note M.tagged) out.new.items ≡ map (put_note M.tagged) out.old.items ++ (if is_time then to_bridge bridge_note.Bye ∷ to_timers timers_note.Bye ∷ [] else []) }
 {
     if is_time {
-        out.push_reserved(QueueOut::Bridge(ToBridge::Bye));
-        out.push_reserved(QueueOut::Timers(ToTimers::Bye));
+        out.push_reserved(ToService::Bridge(ToBridge::Bye));
+        out.push_reserved(ToService::Timers(ToTimers::Bye));
     }
 }
 

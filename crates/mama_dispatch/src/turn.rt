@@ -1,11 +1,4 @@
-use mama_event::{ObjectId, ToBridge, ToTimers};
-
-/// What a queue puts: on the bridge's lane or on that of the timer service.
-#[derive(Debug, Drop)]
-pub enum QueueOut<L> {
-    Bridge(ToBridge<L>),
-    Timers(ToTimers<L>),
-}
+use mama_event::ObjectId;
 
 /// What a turn of a queue was.
 #[derive(Debug, Drop)]

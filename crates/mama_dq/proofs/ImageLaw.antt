@@ -23,7 +23,7 @@ use Rattle.mama_dq.specs.Table.{is_update, decided, relation_of, relation_of_num
 use Rattle.mama_dq.specs.Cache.{CacheData, has_number, put, trimmed, added, emptied, above, reached, Reached}
 use Rattle.mama_dq.specs.Context.{ContextData, new_context}
 use Rattle.mama_dq.specs.Strategy.{Step, updated, update_acted, acted, action_of, as_message, handled, started, cached_above, healed, reached_last, stopped_short, with_update, with_cached, turned_to, with_image_of, step_by, snapshot_acted, after, after_all, fold}
-use Rattle.mama_dq.specs.Image.{IsSendersRecord, ImageLaw}
+use Rattle.mama_dq.specs.Image.{IsSendersRecord, ImageLaw, BasicLaw}
 use Rattle.mama_dq.proofs.Relations.{Related, related}
 use Rattle.mama_dq.proofs.StrategyLemmas.{updated_sender}
 use Rattle.mama_dq.proofs.Comparisons.{eq_true, equal_is}
@@ -233,3 +233,12 @@ module _ (bases : ℕ → List FieldData) (updates : ℕ → List (List FieldDat
 pub image_law : ImageLaw
 image_law bases updates kind size messages genuine ok =
     (after_all_holds bases updates messages (new_context kind size) (new_holds bases updates kind size) genuine).image ok
+
+-- A BASIC SUBSCRIPTION
+
+unmoved : (size : ℕ) (ms : List MarketMsg) → after_all (new_context Basic size) ms ≡ new_context Basic size
+unmoved size [] = refl
+unmoved size (m ∷ ms) = unmoved size ms
+
+pub no_image : BasicLaw
+no_image size ms = ap (λ (c : ContextData). c.phase) (unmoved size ms)

@@ -1,4 +1,4 @@
--- The cache of a context: updates by number, ascending.
+-- believed: The cache of a context: updates by number, ascending.
 use Rattle.std.specs.Prelude.{◌≡◌, ℕ, suc, Bool, ◌==◌, nat_lt, List, [], ◌∷◌, length, drop, filter, is_some, if◌then◌else◌}
 use Rattle.std.specs.Ordering.{nat_cmp}
 use Rattle.std.specs.Map.{lookup}

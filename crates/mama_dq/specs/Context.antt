@@ -1,4 +1,4 @@
--- The context of a subscription: what it knows of its image.
+-- believed: The context of a subscription: what it knows of its image.
 use Rattle.std.specs.Prelude.{ℕ, List, []}
 use Rattle.mama_msg.specs.Field.{FieldData}
 use Rattle.mama_event.specs.declared.market.SubKind.{SubKind}

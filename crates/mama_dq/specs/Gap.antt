@@ -1,4 +1,4 @@
--- What a gap that is told is about, and when an image is called stale.
+-- believed: What a gap that is told is about, and when an image is called stale.
 use Rattle.std.specs.Prelude.{◌≡◌, ℕ, ◌≤◌, Bool, true, false, not, ◌&&◌, ◌||◌, ◌==◌, nat_lt, List, [], ◌∷◌, ◌++◌, length, if◌then◌else◌, ◌⊎◌}
 use Rattle.std.specs.List.{AllByRecursion, list_any}
 use Rattle.mama_msg.specs.Field.{FieldData}

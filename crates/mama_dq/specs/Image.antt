@@ -1,12 +1,13 @@
--- What an image that is ok promises.
+-- believed: What an image that is ok promises, and who has none.
 use Rattle.std.specs.Prelude.{◌≡◌, ℕ, List}
 use Rattle.std.specs.List.{AllByRecursion}
 use Rattle.mama_msg.specs.Field.{FieldData}
 use Rattle.mama_event.specs.declared.market.SubKind.{SubKind}
+use Rattle.mama_event.specs.declared.market.SubKind.TheVariants.{Basic}
 use Rattle.mama_event.specs.declared.market.MarketMsg.{MarketMsg}
 use Rattle.mama_event.specs.Record.{record_after, IsGenuine}
 use Rattle.mama_dq.specs.declared.table.Phase.{Phase}
-use Rattle.mama_dq.specs.declared.table.Phase.TheVariants.{LiveOk}
+use Rattle.mama_dq.specs.declared.table.Phase.TheVariants.{Await, LiveOk}
 use Rattle.mama_dq.specs.Context.{ContextData}
 use Rattle.mama_dq.specs.Strategy.{fold}
 
@@ -21,3 +22,7 @@ ImageLaw = (bases : ℕ → List FieldData) (updates : ℕ → List (List FieldD
     → AllByRecursion (IsGenuine bases updates) messages
     → (fold kind size messages).phase ≡ LiveOk
     → IsSendersRecord bases updates (fold kind size messages)
+
+-- Whatever messages a basic subscription took, it has no image.
+abbrev pub BasicLaw : Type 0
+BasicLaw = (size : ℕ) (messages : List MarketMsg) → (fold Basic size messages).phase ≡ Await

@@ -1,4 +1,4 @@
--- What a subscription gets over a link without faults, from one sender.
+-- believed: What a subscription gets over a link without faults, from one sender.
 use Rattle.std.specs.Prelude.{◌≡◌, ℕ, suc, Bool, ◌&&◌, nat_lt, List, [], ◌∷◌, map, filter, if◌then◌else◌}
 use Rattle.std.specs.List.{flat_map}
 use Rattle.mama_event.specs.declared.market.SubKind.TheVariants.{Market}

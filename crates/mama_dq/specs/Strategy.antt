@@ -1,4 +1,4 @@
--- One step of a context: what a message makes of it, and the callbacks of the message.
+-- believed: One step of a context: what a message makes of it, and the callbacks of the message.
 use Rattle.std.specs.Prelude.{ℕ, suc, ◌-◌, Bool, true, false, ◌==◌, nat_le, List, [], ◌∷◌, ◌++◌, if◌then◌else◌}
 use Rattle.mama_msg.specs.Field.{FieldData}
 use Rattle.mama_event.specs.declared.market.SubKind.{SubKind}

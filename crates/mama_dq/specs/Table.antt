@@ -1,4 +1,4 @@
--- What a message is to an image, and the table of actions of market subscriptions.
+-- believed: What a message is to an image, and the table of actions of market subscriptions.
 use Rattle.std.specs.Prelude.{ℕ, suc, Bool, true, false, ◌==◌, nat_lt, if◌then◌else◌}
 use Rattle.mama_event.specs.declared.market.MsgKind.{MsgKind}
 use Rattle.mama_event.specs.declared.market.MsgKind.TheVariants.{Initial, Update, Recap}

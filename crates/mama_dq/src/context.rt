@@ -1,4 +1,5 @@
 ghost use Rattle.std.specs.Prelude.{◌≡◌, length, ◌↔◌, ◌≤◌, ◌<◌, ◌++◌, OnOk, OnErr, IfOk, IfSome, IsNone};
+ghost use Rattle.mama_event.specs.declared.market.SubKind.TheVariants as SubKind;
 ghost use Rattle.mama_dq.specs.Cache.{above};
 ghost use Rattle.mama_dq.specs.Context.{new_context, quality_in, with_image};
 ghost use Rattle.mama_dq.specs.Strategy.{updated, update_acted, handled, cached_above, step_by, started, healed, acted, with_image_of, turned_to, after, callbacks_of};
@@ -409,12 +410,14 @@ impl DqContext {
         Ok(())
     }
 
-    /// Takes a message: the context changes by the strategy, and the callbacks of the message are added.
+    /// Takes a message: the context changes by the strategy, and the callbacks of the message are added. The context of
+    /// a basic subscription never changes, so it never has an image.
     ///
     /// After want of memory the context and the callbacks are as before.
     pub fn step(&mut self, msg: &MarketMsg, calls: &mut Calls) -> Result<(), OutOfMemory>
         ensures context { OnOk result (self.new ≡ after self.old msg.now) }
         ensures calls { OnOk result (calls.new ≡ calls.old ++ callbacks_of self.old msg.now) }
+        ensures basic { self.old.kind ≡ SubKind.Basic → self.new ≡ self.old }
         ensures err { OnErr result (self.new ≡ self.old) }
         ensures calls_err { OnErr result (calls.new ≡ calls.old) }
     {

@@ -1,5 +1,5 @@
 //! What holds of contexts, whatever messages they take.
-ghost use Rattle.mama_dq.specs.Image.{ImageLaw};
+ghost use Rattle.mama_dq.specs.Image.{ImageLaw, BasicLaw};
 ghost use Rattle.mama_dq.specs.Gap.{GapLaw, StaleLaw};
 ghost use Rattle.mama_dq.specs.Orderly.{OrderlyLaw};
 
@@ -26,4 +26,9 @@ pub fn stale_law()
 /// quality, and each update numbered above the first image's number is called back once.
 pub fn orderly_law()
     ensures { OrderlyLaw }
+{}
+
+/// A basic subscription has no image, whatever messages it takes.
+pub fn basic_law()
+    ensures { BasicLaw }
 {}

@@ -6,7 +6,8 @@
 //! [`DqContext::step`] does exactly that, or changes nothing where it finds no memory.
 //!
 //! The promises hold for every list of messages, whatever links lose, repeat and reorder. [`image_law`]: an image
-//! that is ok is its sender's record (`ImageLaw` of `specs/Image.antt`). [`gap_law`] and [`stale_law`]: no gap that
+//! that is ok is its sender's record (`ImageLaw` of `specs/Image.antt`). [`basic_law`]: a
+//! basic subscription has none. [`gap_law`] and [`stale_law`]: no gap that
 //! is told is false, and an image is called stale for a reason (`specs/Gap.antt`). [`orderly_law`]: over a link
 //! without faults, from one sender, each message from the first image on is told once, and nothing else is
 //! (`specs/Orderly.antt`).
@@ -18,12 +19,10 @@ mod calls;
 mod context;
 mod laws;
 mod table;
-#[cfg(test)]
-mod tests;
 
 pub use calls::Calls;
 pub use context::DqContext;
-pub use laws::{gap_law, image_law, orderly_law, stale_law};
+pub use laws::{basic_law, gap_law, image_law, orderly_law, stale_law};
 pub use mama_event::{Callback, MarketMsg, MsgKind, Quality, SubKind};
 pub use mama_memory::OutOfMemory;
 pub use mama_msg::Msg;

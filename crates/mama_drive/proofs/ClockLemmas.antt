@@ -7,12 +7,12 @@ use Rattle.std.proofs.lemmas.List.{get_or-drop, drop-drop, length-drop}
 use Rattle.std.proofs.lemmas.List.Elements.{All-nil, All-cons}
 use Rattle.mama_edge.specs.Told.{after_first}
 use Rattle.mama_script.specs.declared.client.ClientLine.{ClientLine}
-use Rattle.mama_queue_rules.specs.Queue.{QueuePut}
+use Rattle.mama_rules_queue.specs.Queue.{QueuePut}
 use Rattle.mama_event.specs.Ports.{queues_of}
 use Rattle.mama_script.specs.Script.{ScriptData}
 use Rattle.mama_record.specs.RunData.{RunData}
-use Rattle.mama_rounds.specs.Client.{Planned}
-use Rattle.mama_rounds.specs.World.{World}
+use Rattle.mama_rules_rounds.specs.Client.{Planned}
+use Rattle.mama_rules_rounds.specs.World.{World}
 use Rattle.mama_seats.specs.Sender.{first_step, later_steps}
 use Rattle.mama_seats.specs.Stand.{Stand, left_after, BeginsWith, IsStep, IsReading, still_read}
 use Rattle.mama_seats.specs.Moments.{answers, remaining, Answered, client_reads, all_reads, read_in_round, read_in_rounds, AreHeard}

@@ -8,20 +8,21 @@ use Rattle.mama_event.specs.Ports.{queue_port_of_bridge, queue_port_of_timers}
 use Rattle.mama_event.specs.declared.to_bridge.BridgeNote.{BridgeNote}
 use Rattle.mama_event.specs.declared.to_queue.QueueNote.{QueueNote}
 use Rattle.mama_event.specs.ToBridge.{note_of}
-use Rattle.mama_rules.specs.Bridge.{BridgePut, to_publisher, to_queue}
-use Rattle.mama_rules.specs.Bridge as bridge
-use Rattle.mama_queue_rules.specs.Queue.{QueuePut}
-use Rattle.mama_queue_rules.specs.Queue as queue
-use Rattle.mama_rounds.specs.World.{Setting, World}
-use Rattle.mama_rounds.specs.Client.{bridge_part, timers_part}
+use Rattle.mama_rules_services.specs.Bridge.{BridgePut, to_publisher, to_queue}
+use Rattle.mama_rules_services.specs.Bridge as bridge
+use Rattle.mama_rules_queue.specs.Queue.{QueuePut}
+use Rattle.mama_rules_queue.specs.Queue as queue
+use Rattle.mama_rules_rounds.specs.World.{Setting, World}
+use Rattle.mama_rules_rounds.specs.Client.{bridge_part, timers_part}
 use Rattle.mama_bridge.specs.Outs.{put_note}
 use Rattle.mama_timer.specs.Out.{out_note}
-use Rattle.mama_queue_seat.specs.Put.{own_tag, notes_of}
+use Rattle.mama_plans.specs.Put.{own_tag, notes_of}
 use Rattle.mama_seats.specs.Sender.{steps_in}
 use Rattle.mama_drive.specs.declared.held.Held.{Held}
 use Rattle.mama_drive.specs.declared.held.Held.TheVariants as held
 use Rattle.mama_drive.specs.Scene.{Scene, Moves, setting_in, world_in, script_in, entries_in, lane_in, journal_in, waiting_in, put_on, spread, spread_one, spread_ticks, tick_one}
-use Rattle.mama_drive.specs.Held.{changed_at, with_note, with_event, lay_put, lay_tick, lay_event, lay_out, lay_all, led, waits, seen}
+use Rattle.mama_seats.specs.Waiting.{led, waits}
+use Rattle.mama_drive.specs.Held.{changed_at, with_note, with_event, lay_put, lay_tick, lay_event, lay_out, lay_all, seen}
 use Rattle.mama_drive.proofs.LaneLemmas.{append_nil, spread_nil, spread_cons, ticks_nil, ticks_cons}
 use Rattle.mama_drive.proofs.SceneLemmas.{moves_none, moves_then}
 

@@ -1,19 +1,20 @@
 -- A turn of one actor, where what it puts is held.
 use Rattle.std.proofs.Common.{◌≡◌, ℕ, ◌<◌, List, [], ◌∷◌, ◌++◌, map, length, get_or, refl, sym, ◌∙◌, ap, subst}
-use Rattle.std.specs.Prelude.{Option}
+use Rattle.std.specs.Prelude.{Option, None}
 use Rattle.std.proofs.Math.ListN.{set}
 use Rattle.mama_event.specs.Ports.{bridge_port_of_publisher, bridge_port_of_queue, timers_port_of_queue}
 use Rattle.mama_event.specs.declared.to_bridge.BridgeNote.{BridgeNote}
 use Rattle.mama_event.specs.declared.to_timers.TimersNote.{TimersNote}
 use Rattle.mama_event.specs.declared.to_queue.QueueNote.{QueueNote}
-use Rattle.mama_rules.specs.Bridge.{BridgePut, bridge_puts_at}
-use Rattle.mama_rules.specs.Timers.{timers_puts_at}
-use Rattle.mama_queue_rules.specs.Queue.{QueuePut}
-use Rattle.mama_rounds.specs.World.{bridge_turn, bridge_took, timers_turn, timers_took, publisher_turn, queue_turn}
-use Rattle.mama_rounds.specs.Stage.{client_step, publisher_step}
+use Rattle.mama_rules_services.specs.Bridge.{BridgePut, bridge_puts_at}
+use Rattle.mama_rules_services.specs.Timers.{timers_puts_at}
+use Rattle.mama_rules_queue.specs.Queue.{QueuePut}
+use Rattle.mama_rules_rounds.specs.World.{bridge_turn, bridge_took, timers_turn, timers_took, publisher_turn, queue_turn}
+use Rattle.mama_rules_rounds.specs.Stage.{client_step, publisher_step}
 use Rattle.mama_seats.specs.Sender.{Sender, taken, taken_puts, IsSenderStep}
 use Rattle.mama_seats.specs.Stand.{Stand, IsStep, IsReading}
-use Rattle.mama_queue_seat.specs.Server.{Server, served, served_puts}
+use Rattle.mama_seats.specs.Server.{Server, served, served_puts}
+use Rattle.mama_seats.specs.Waiting.{Queued, waits}
 use Rattle.mama_drive.specs.Scene.{Scene, Moves, Advances, Stepped, setting_in, world_in, objects_in, spread, spread_ticks}
 use Rattle.mama_drive.specs.Heard.{Hears, StepRead}
 use Rattle.mama_drive.specs.Held.{lay_put, lay_tick, lay_event, lay_out, lay_all}
@@ -22,6 +23,10 @@ use Rattle.mama_drive.proofs.SceneLemmas.{sender_turned_to, put_all_to}
 use Rattle.mama_drive.proofs.ServerLemmas.{queue_turned_to}
 use Rattle.mama_drive.proofs.StageLemmas.{client_stepped_to, sender_stepped_to}
 use Rattle.mama_drive.proofs.ClockLemmas.{step_heard}
+
+-- what waits is all that an outbox has
+pub all_wait : {T V : Type 0} → (f : List T → List V) (w : Queued T) (events : List T) → w ≡ record { apart = None; rest = events } → f (waits w) ≡ f events
+all_wait {T} f w events is = ap (λ (q : Queued T). f (waits q)) is
 
 -- the bridge takes the first event of its lane
 pub bridge_turned : (s old : Scene) (e : ℕ × BridgeNote) (rest journal : List (ℕ × BridgeNote)) (outs left : List BridgePut) → s ≡ old → s.to_bridge ≡ e ∷ rest

@@ -8,20 +8,20 @@ use Rattle.mama_event.specs.declared.to_bridge.BridgeNote.{BridgeNote}
 use Rattle.mama_event.specs.declared.to_timers.TimersNote.{TimersNote}
 use Rattle.mama_event.specs.declared.to_queue.QueueNote.{QueueNote}
 use Rattle.mama_script.specs.Script.{ScriptData}
-use Rattle.mama_rounds.specs.Client.{Planned, clock_lines, steps_from}
-use Rattle.mama_rounds.specs.World.{Setting, is_empty}
-use Rattle.mama_rounds.specs.Stage.{Stage, AreRounds}
-use Rattle.mama_rounds.specs.Round.{setting_of, start, record_of, last_image, IsRound}
+use Rattle.mama_rules_rounds.specs.Client.{Planned, clock_lines, steps_from}
+use Rattle.mama_rules_rounds.specs.World.{Setting, is_empty}
+use Rattle.mama_rules_rounds.specs.Stage.{Stage, AreRounds}
+use Rattle.mama_rules_rounds.specs.Round.{setting_of, start, record_of, last_image, IsRound}
 use Rattle.mama_seats.specs.Sender.{Sender, steps_in, steps_after}
 use Rattle.mama_seats.specs.Stand.{Stand, reading, left_after, standing_in}
 use Rattle.mama_drive.specs.Scene.{Scene, setting_in, stage_in, world_in, script_in, entries_in, journal_in, lefts, AreMoments, AllEnd, Plays, IsPlayed}
 use Rattle.mama_drive.specs.Start.{Starts}
 use Rattle.mama_drive.specs.Record.{read_in, recorded, calls_by, images_by}
 use Rattle.mama_event.specs.Ports.{queue_port_of_bridge, queue_port_of_timers}
-use Rattle.mama_rules.specs.Bridge.{BridgePut, to_publisher, to_queue}
-use Rattle.mama_rules.specs.Bridge as bridge
-use Rattle.mama_queue_rules.specs.Queue.{QueuePut}
-use Rattle.mama_queue_rules.specs.Queue as queue
+use Rattle.mama_rules_services.specs.Bridge.{BridgePut, to_publisher, to_queue}
+use Rattle.mama_rules_services.specs.Bridge as bridge
+use Rattle.mama_rules_queue.specs.Queue.{QueuePut}
+use Rattle.mama_rules_queue.specs.Queue as queue
 use Rattle.mama_event.specs.Publisher.{PublisherScript}
 use Rattle.mama_drive.specs.declared.held.Held.{Held}
 use Rattle.mama_drive.specs.Held.{seen, lay_put, lay_tick, lay_out, with_note, with_event, changed_at}

@@ -5,14 +5,15 @@ use Rattle.std.proofs.lemmas.List.{map-append, get_or-map, get_or_past, take_mor
 use Rattle.std.proofs.lemmas.Grind.{flat_map-append}
 use Rattle.mama_event.specs.declared.ids.ObjectId.{ObjectId}
 use Rattle.mama_event.specs.declared.ids.SubId.{SubId}
-use Rattle.mama_queue_rules.specs.Queue.{deeds, calls_of}
+use Rattle.mama_rules_queue.specs.Queue.{deeds, calls_of}
 use Rattle.mama_record.specs.RunData.{ObjectCalls, LastImage}
-use Rattle.mama_rounds.specs.Client.{Planned}
-use Rattle.mama_rounds.specs.Round.{noted}
-use Rattle.mama_queue_seat.specs.declared.plans.PlannedObject.{PlannedObject}
-use Rattle.mama_queue_seat.specs.Plans.{planned_object, planned_objects}
-use Rattle.mama_queue_seat.specs.Server.{Server, orders_in}
-use Rattle.mama_queue_seat.specs.Image.{image_of}
+use Rattle.mama_rules_rounds.specs.Client.{Planned}
+use Rattle.mama_rules_rounds.specs.Round.{noted}
+use Rattle.mama_plans.specs.declared.plans.PlannedObject.{PlannedObject}
+use Rattle.mama_plans.specs.Plans.{planned_object, planned_objects}
+use Rattle.mama_seats.specs.Server.{Server}
+use Rattle.mama_plans.specs.Orders.{orders_in}
+use Rattle.mama_plans.specs.Image.{image_of}
 use Rattle.mama_drive.specs.Scene.{objects_in, journal_in}
 use Rattle.mama_drive.specs.Record.{journal_at}
 use Rattle.mama_drive.proofs.LaneLemmas.{append_nil}
@@ -37,13 +38,13 @@ module _ (objects : List Planned) (seats : List Server) (q : ℕ) where
   calls_past o past = ap (λ j. map noted (calls_of o (deeds (orders_in objects) j))) (journal_past past)
 
   pub image_here : (s : SubId) (x : Server) → map objects_in seats ≡ map (λ (y : Server). objects) seats → q < length seats → x ≡ get_or seats q x
-      → image_of x s ≡ image_of (record { objects = objects; journal = journal_at (map journal_in seats) q; lane = [] }) s
+      → image_of x.objects x.journal s ≡ image_of objects (journal_at (map journal_in seats) q) s
   image_here s x shared within is =
-      ap (λ k. image_of (record { objects = k; journal = x.journal; lane = [] }) s) (own_objects seats objects q x shared within is)
-      ∙ ap (λ j. image_of (record { objects = objects; journal = j; lane = [] }) s) (journal_here x within is)
+      ap (λ k. image_of k x.journal s) (own_objects seats objects q x shared within is)
+      ∙ ap (λ j. image_of objects j s) (journal_here x within is)
 
-  pub image_past : (s : SubId) → length seats ≤ q → [] ≡ image_of (record { objects = objects; journal = journal_at (map journal_in seats) q; lane = [] }) s
-  image_past s past = ap (λ j. image_of (record { objects = objects; journal = j; lane = [] }) s) (journal_past past)
+  pub image_past : (s : SubId) → length seats ≤ q → [] ≡ image_of objects (journal_at (map journal_in seats) q) s
+  image_past s past = ap (λ j. image_of objects j s) (journal_past past)
 
 -- one object more
 pub calls_more : (f : Planned → ObjectCalls) (objects : List PlannedObject) (i : ℕ) (x : PlannedObject) → i < length objects → x ≡ get_or objects i x

@@ -7,11 +7,11 @@ use Rattle.std.proofs.lemmas.List.{length-map}
 use Rattle.std.proofs.lemmas.Grind.{common_steps}
 use Rattle.mama_event.specs.Ports.{clients_of, publishers_of}
 use Rattle.mama_event.specs.declared.publisher_entry.PublisherEntry.{PublisherEntry}
-use Rattle.mama_queue_rules.specs.Queue.{QueuePut}
-use Rattle.mama_rounds.specs.Client.{steps_from}
-use Rattle.mama_rounds.specs.World.{Setting, World, with_puts, IsQuiet}
-use Rattle.mama_rounds.specs.Round.{publisher_steps}
-use Rattle.mama_rounds.specs.Stage.{Stage, IsStageDrained, AreSteps, IsOneRound, AreRounds, client_step, publisher_step, entries_done}
+use Rattle.mama_rules_queue.specs.Queue.{QueuePut}
+use Rattle.mama_rules_rounds.specs.Client.{steps_from}
+use Rattle.mama_rules_rounds.specs.World.{Setting, World, with_puts, IsQuiet}
+use Rattle.mama_rules_rounds.specs.Round.{publisher_steps}
+use Rattle.mama_rules_rounds.specs.Stage.{Stage, IsStageDrained, AreSteps, IsOneRound, AreRounds, client_step, publisher_step, entries_done}
 use Rattle.mama_seats.specs.Sender.{Sender, first_step, later_steps, steps_in, steps_after}
 use Rattle.mama_seats.specs.Stand.{Stand, client_left, left_after, standing_in, reading}
 use Rattle.mama_drive.specs.Scene.{Scene, Advances, Rounds, Plays, CanRest, AreMoments, AllEnd, lefts, setting_in, world_in, stage_in, script_in, entries_in, lane_in, rested, rested_stand, rested_sender}

@@ -3,12 +3,12 @@ use Rattle.std.proofs.Common.{◌≡◌, ℕ, true, List, length, map, refl, sym
 use Rattle.std.specs.Prelude.{Option, nat_le, ◌||◌}
 use Rattle.std.specs.List.{list_all}
 use Rattle.mama_event.specs.Ports.{clients_of, publishers_of, queues_of, queue_port_of_bridge, queue_port_of_timers}
-use Rattle.mama_rules.specs.Bridge.{BridgePut, to_publisher, to_queue}
-use Rattle.mama_rules.specs.Bridge as bridge
-use Rattle.mama_queue_rules.specs.Queue.{QueuePut}
-use Rattle.mama_queue_rules.specs.Queue as queue
-use Rattle.mama_rounds.specs.World.{Setting, World, is_empty, in_turn, publisher_turn, queue_turn}
-use Rattle.mama_rounds.specs.Stage.{Stage, IsOneRound}
+use Rattle.mama_rules_services.specs.Bridge.{BridgePut, to_publisher, to_queue}
+use Rattle.mama_rules_services.specs.Bridge as bridge
+use Rattle.mama_rules_queue.specs.Queue.{QueuePut}
+use Rattle.mama_rules_queue.specs.Queue as queue
+use Rattle.mama_rules_rounds.specs.World.{Setting, World, is_empty, in_turn, publisher_turn, queue_turn}
+use Rattle.mama_rules_rounds.specs.Stage.{Stage, IsOneRound}
 use Rattle.mama_seats.specs.Stand.{Stand}
 use Rattle.mama_drive.specs.declared.held.Held.{Held}
 use Rattle.mama_drive.specs.Scene.{Scene, Moves, Advances, Rounds, Plays, Drains, rested_stand, setting_in, world_in}

@@ -8,9 +8,9 @@ use Rattle.mama_event.specs.Ports.{bridge_port_of_publisher}
 use Rattle.mama_event.specs.declared.to_bridge.BridgeNote.{BridgeNote}
 use Rattle.mama_event.specs.declared.to_publisher.PublisherNote.{PublisherNote}
 use Rattle.mama_event.specs.declared.publisher_entry.PublisherEntry.TheVariants.{Took}
-use Rattle.mama_rounds.specs.World.{Setting, World, no_section, publisher_turn, publisher_took, with_puts}
-use Rattle.mama_rounds.specs.Client.{bridge_part, timers_part}
-use Rattle.mama_queue_rules.specs.Queue.{QueuePut}
+use Rattle.mama_rules_rounds.specs.World.{Setting, World, no_section, publisher_turn, publisher_took, with_puts}
+use Rattle.mama_rules_rounds.specs.Client.{bridge_part, timers_part}
+use Rattle.mama_rules_queue.specs.Queue.{QueuePut}
 use Rattle.mama_event.specs.declared.to_timers.TimersNote.{TimersNote}
 use Rattle.std.specs.List.{flat_map}
 use Rattle.mama_seats.specs.Sender.{Sender, taken, taken_puts, steps_in}

@@ -6,7 +6,7 @@ use Rattle.std.proofs.lemmas.List.{set-get_or}
 use Rattle.mama_event.specs.declared.to_publisher.PublisherNote.{PublisherNote}
 use Rattle.mama_event.specs.declared.to_queue.QueueNote.{QueueNote}
 use Rattle.mama_seats.specs.Sender.{Sender}
-use Rattle.mama_queue_seat.specs.Server.{Server}
+use Rattle.mama_seats.specs.Server.{Server}
 use Rattle.mama_seats.specs.Stand.{Stand}
 use Rattle.mama_drive.specs.Scene.{Scene}
 use Rattle.mama_drive.specs.Held.{changed_at, with_note, with_event}

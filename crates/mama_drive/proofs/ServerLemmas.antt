@@ -8,10 +8,11 @@ use Rattle.mama_event.specs.declared.to_queue.QueueNote.{QueueNote}
 use Rattle.mama_event.specs.declared.to_bridge.BridgeNote.{BridgeNote}
 use Rattle.mama_event.specs.declared.to_timers.TimersNote.{TimersNote}
 use Rattle.mama_event.specs.Ports.{bridge_port_of_queue, timers_port_of_queue}
-use Rattle.mama_queue_rules.specs.Queue.{QueuePut, queue_puts_at}
-use Rattle.mama_rounds.specs.Client.{Planned, bridge_part, timers_part}
-use Rattle.mama_rounds.specs.World.{World, queue_turn, queue_took}
-use Rattle.mama_queue_seat.specs.Server.{Server, orders_in, served, served_puts}
+use Rattle.mama_rules_queue.specs.Queue.{QueuePut, queue_puts_at}
+use Rattle.mama_rules_rounds.specs.Client.{Planned, bridge_part, timers_part}
+use Rattle.mama_rules_rounds.specs.World.{World, queue_turn, queue_took}
+use Rattle.mama_seats.specs.Server.{Server, served, served_puts}
+use Rattle.mama_plans.specs.Orders.{orders_in}
 use Rattle.mama_drive.specs.Scene.{Scene, Moves, setting_in, world_in, journal_in, waiting_in, objects_in}
 use Rattle.mama_drive.proofs.LaneLemmas.{append_nil}
 

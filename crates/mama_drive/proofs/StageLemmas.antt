@@ -6,14 +6,14 @@ use Rattle.std.proofs.Math.ListN.{set}
 use Rattle.std.proofs.lemmas.List.{map-set, map-append, get_or-map, get_or-set_same, set-get_or, set-set, length-set, length-map}
 use Rattle.std.proofs.Math.Seq.{map-set_same}
 use Rattle.mama_journal.specs.Lane.{from_port}
-use Rattle.mama_queue_rules.specs.Queue.{QueuePut}
+use Rattle.mama_rules_queue.specs.Queue.{QueuePut}
 use Rattle.mama_journal.specs.Journal.{puts_after}
 use Rattle.mama_event.specs.Ports.{clients_of, publishers_of, bridge_port_of_publisher}
 use Rattle.mama_event.specs.Publisher.{PublisherScript, publisher_puts_at}
 use Rattle.mama_event.specs.declared.publisher_entry.PublisherEntry.{PublisherEntry}
 use Rattle.mama_event.specs.declared.to_bridge.BridgeNote.{BridgeNote}
-use Rattle.mama_rounds.specs.World.{Setting, World, with_puts, passes, no_section, publisher_did}
-use Rattle.mama_rounds.specs.Stage.{Stage, client_step, client_stepped, publisher_step, publisher_stepped, entries_done, IsOneRound}
+use Rattle.mama_rules_rounds.specs.World.{Setting, World, with_puts, passes, no_section, publisher_did}
+use Rattle.mama_rules_rounds.specs.Stage.{Stage, client_step, client_stepped, publisher_step, publisher_stepped, entries_done, IsOneRound}
 use Rattle.mama_seats.specs.Sender.{Sender, first_step, later_steps, steps_in, IsSenderStep}
 use Rattle.mama_seats.specs.Stand.{Stand, client_left, reading, Ends, BeginsWith, IsStep}
 use Rattle.mama_drive.specs.Scene.{Scene, Moves, Drains, Advances, Stepped, SteppedOut, SteppedAll, Rounds, Plays, AreMoments, AllEnd, lefts, setting_in, world_in, stage_in, script_in, entries_in, lane_in}

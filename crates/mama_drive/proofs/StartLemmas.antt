@@ -1,18 +1,20 @@
 -- The start of a run.
-use Rattle.std.proofs.Common.{◌≡◌, ℕ, zero, suc, List, [], ◌∷◌, ◌++◌, map, length, get_or, refl, sym, ◌∙◌, ap, append_assoc, arith, subst, zero-add}
-use Rattle.std.specs.List.{flat_map}
-use Rattle.std.proofs.lemmas.List.{map-append, length-append}
+use Rattle.std.proofs.Common.{◌≡◌, ℕ, zero, suc, ◌+◌, ◌^◌, ◌<◌, ◌≤◌, List, [], ◌∷◌, ◌++◌, map, length, get_or, refl, sym, ◌∙◌, ap, append_assoc, arith, subst, zero-add}
+use Rattle.std.specs.List.{flat_map, AllByRecursion}
+use Rattle.std.proofs.lemmas.List.{map-append, length-append, length-map}
 use Rattle.mama_journal.specs.Journal.{numbers_below}
-use Rattle.mama_event.specs.Ports.{queues_of}
+use Rattle.mama_event.specs.Ports.{queues_of, bridge_ports}
 use Rattle.mama_event.specs.declared.publisher_entry.PublisherEntry.{PublisherEntry}
 use Rattle.mama_event.specs.declared.to_publisher.PublisherNote.{PublisherNote}
 use Rattle.mama_event.specs.declared.to_queue.QueueNote.{QueueNote}
 use Rattle.mama_script.specs.declared.client.ClientLine.{ClientLine}
 use Rattle.mama_script.specs.declared.publisher.PublisherPart.{PublisherPart}
 use Rattle.mama_script.specs.Script.{ScriptData}
-use Rattle.mama_rounds.specs.Client.{Planned, clock_lines, client_steps}
-use Rattle.mama_rounds.specs.World.{World}
-use Rattle.mama_rounds.specs.Round.{setting_of, publishers_from, sends_in, publisher_steps, all_client_steps}
+use Rattle.mama_script.specs.Tree.{IsScript, topic_of_part}
+use Rattle.mama_script.specs.Within.{IsWithin, IsPublisherWithin}
+use Rattle.mama_rules_rounds.specs.Client.{Planned, clock_lines, client_steps}
+use Rattle.mama_rules_rounds.specs.World.{World}
+use Rattle.mama_rules_rounds.specs.Round.{setting_of, publishers_from, sends_in, publisher_steps, all_client_steps}
 use Rattle.mama_seats.specs.Sender.{steps_in}
 use Rattle.mama_seats.specs.Stand.{reading}
 use Rattle.mama_drive.specs.Scene.{Scene, world_in, script_in, entries_in, lane_in, journal_in, waiting_in, lefts, AreMoments, AllEnd}
@@ -97,3 +99,27 @@ starts script =
 
 pub starts_to : (script : ScriptData) (objects : List Planned) (s : Scene) → objects ≡ (setting_of script).objects → s ≡ started objects script → Starts script s
 starts_to script objects s known is = subst (Starts script) (sym (is ∙ ap (λ (o : List Planned). started o script) known)) (starts script)
+
+-- THE COUNTS OF A SCRIPT
+
+pub stands_length : (queues n : ℕ) (cs : List (List ClientLine)) → length (stands_from queues n cs) ≡ length cs
+stands_length queues n [] = refl
+stands_length queues n (c ∷ cs) = ap suc (stands_length queues (suc n) cs)
+
+pub senders_length : (n : ℕ) (ps : List PublisherPart) → length (senders_from n ps) ≡ length ps
+senders_length n [] = refl
+senders_length n (p ∷ ps) = ap suc (senders_length (suc n) ps)
+
+pub few_ports : (s : ScriptData) → IsScript s → IsWithin s → bridge_ports s.shape < 2 ^ 32
+few_ports s script within =
+    let publishers : length s.shape.publisher_topics ≡ length s.publishers = ap length script.shaped.publishers ∙ length-map s.publishers topic_of_part in
+    omega (arith, script.shaped.clients, within.clients_few, publishers, within.publishers_few, within.queues_few)
+
+pub small_bases : (topics : ℕ) (ps : List PublisherPart) → AllByRecursion (IsPublisherWithin topics) ps → AllByRecursion (λ (part : PublisherPart). length part.base ≤ 64) ps
+small_bases topics [] h = tt
+small_bases topics (p ∷ ps) h = (h.0.base, small_bases topics ps h.1)
+
+pub small_base : (ps : List PublisherPart) (i : ℕ) (p : PublisherPart) → i < length ps → p ≡ get_or ps i p → AllByRecursion (λ (part : PublisherPart). length part.base ≤ 64) ps → length p.base ≤ 64
+small_base [] i p within is h = absurd (omega arith)
+small_base (x ∷ xs) zero p within is h = subst (λ (q : PublisherPart). length q.base ≤ 64) (sym is) h.0
+small_base (x ∷ xs) (suc i) p within is h = small_base xs i p (omega arith) is h.1

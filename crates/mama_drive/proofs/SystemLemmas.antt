@@ -1,17 +1,17 @@
 -- What a system keeps where a seat or a mark changes.
-use Rattle.std.proofs.Common.{◌≡◌, ℕ, zero, suc, ◌+◌, Bool, true, false, not, List, [], ◌∷◌, ◌++◌, map, length, get_or, refl, sym, ◌∙◌, ap, add-one}
+use Rattle.std.proofs.Common.{◌≡◌, ℕ, zero, suc, ◌+◌, ◌^◌, ◌<◌, Bool, true, false, not, List, [], ◌∷◌, ◌++◌, map, length, get_or, refl, sym, ◌∙◌, ap, add-one}
 use Rattle.std.specs.List.{list_all}
 use Rattle.std.proofs.Math.ListN.{set}
 use Rattle.std.proofs.lemmas.List.{length-set, length-append, map-append}
 use Rattle.std.proofs.lemmas.List.Folds.{list_all-map}
 use Rattle.std.proofs.Math.Seq.{map-set_same}
 use Rattle.mama_event.specs.declared.shape.Shape.{Shape}
-use Rattle.mama_rounds.specs.Client.{Planned}
-use Rattle.mama_rounds.specs.World.{is_empty}
-use Rattle.mama_queue_seat.specs.Server.{Server}
+use Rattle.mama_rules_rounds.specs.Client.{Planned}
+use Rattle.mama_rules_rounds.specs.World.{is_empty}
+use Rattle.mama_seats.specs.Server.{Server}
 use Rattle.mama_seats.specs.Stand.{Stand}
 use Rattle.mama_seats.specs.Sender.{Sender}
-use Rattle.mama_event.specs.Ports.{clients_of, publishers_of, queues_of}
+use Rattle.mama_event.specs.Ports.{clients_of, publishers_of, queues_of, bridge_ports}
 use Rattle.mama_drive.specs.Start.{new_server, new_servers}
 use Rattle.mama_drive.specs.Scene.{lane_in, waiting_in, objects_in, IsSystem}
 
@@ -25,6 +25,7 @@ module _ (shape bridge_shape timers_shape : Shape) (objects : List Planned) (cli
   pub with_server : (q : ℕ) (x y : Server) → x ≡ get_or servers q x → y.objects ≡ x.objects
       → IsSystem shape bridge_shape timers_shape objects clients senders (set servers q y) publishers_wait true
   with_server q x y at same = record {
+    ports = h.ports;
     same_bridge = h.same_bridge;
     same_timers = h.same_timers;
     client_count = h.client_count;
@@ -38,6 +39,7 @@ module _ (shape bridge_shape timers_shape : Shape) (objects : List Planned) (cli
   -- another seat of a publisher, and the mark that events wait
   pub with_sender : (p : ℕ) (y : Sender) → IsSystem shape bridge_shape timers_shape objects clients (set senders p y) servers true queues_wait
   with_sender p y = record {
+    ports = h.ports;
     same_bridge = h.same_bridge;
     same_timers = h.same_timers;
     client_count = h.client_count;
@@ -52,6 +54,7 @@ module _ (shape bridge_shape timers_shape : Shape) (objects : List Planned) (cli
   pub with_same_lane : (p : ℕ) (x y : Sender) → x ≡ get_or senders p x → y.lane ≡ x.lane
       → IsSystem shape bridge_shape timers_shape objects clients (set senders p y) servers publishers_wait queues_wait
   with_same_lane p x y at same = record {
+    ports = h.ports;
     same_bridge = h.same_bridge;
     same_timers = h.same_timers;
     client_count = h.client_count;
@@ -65,6 +68,7 @@ module _ (shape bridge_shape timers_shape : Shape) (objects : List Planned) (cli
   -- another seat of a client
   pub with_client : (c : ℕ) (y : Stand) → IsSystem shape bridge_shape timers_shape objects (set clients c y) senders servers publishers_wait queues_wait
   with_client c y = record {
+    ports = h.ports;
     same_bridge = h.same_bridge;
     same_timers = h.same_timers;
     client_count = length-set clients c y ∙ h.client_count;
@@ -79,6 +83,7 @@ module _ (shape bridge_shape timers_shape : Shape) (objects : List Planned) (cli
   pub with_seats : (cs : List Stand) (ss : List Sender) → length cs ≡ length clients → length ss ≡ length senders → map lane_in ss ≡ map lane_in senders
       → IsSystem shape bridge_shape timers_shape objects cs ss servers publishers_wait queues_wait
   with_seats cs ss clients_same senders_same lanes = record {
+    ports = h.ports;
     same_bridge = h.same_bridge;
     same_timers = h.same_timers;
     client_count = clients_same ∙ h.client_count;
@@ -93,6 +98,7 @@ module _ (shape bridge_shape timers_shape : Shape) (objects : List Planned) (cli
   pub publishers_looked : (quiet : Bool) → quiet ≡ list_all (λ (s : Sender). is_empty s.lane) senders
       → IsSystem shape bridge_shape timers_shape objects clients senders servers (not quiet) queues_wait
   publishers_looked quiet is = record {
+    ports = h.ports;
     same_bridge = h.same_bridge;
     same_timers = h.same_timers;
     client_count = h.client_count;
@@ -107,6 +113,7 @@ module _ (shape bridge_shape timers_shape : Shape) (objects : List Planned) (cli
   pub queues_looked : (quiet : Bool) → quiet ≡ list_all (λ (s : Server). is_empty s.lane) servers
       → IsSystem shape bridge_shape timers_shape objects clients senders servers publishers_wait (not quiet)
   queues_looked quiet is = record {
+    ports = h.ports;
     same_bridge = h.same_bridge;
     same_timers = h.same_timers;
     client_count = h.client_count;
@@ -130,9 +137,10 @@ shared-new objects (suc n) =
 
 -- a system that has done nothing yet
 pub new_system : (shape bridge_shape timers_shape : Shape) (objects : List Planned) (clients : List Stand) (senders : List Sender) (servers : List Server)
-    → bridge_shape ≡ shape → timers_shape ≡ shape → length clients ≡ clients_of shape → length senders ≡ publishers_of shape → servers ≡ new_servers objects (queues_of shape)
+    → bridge_ports shape < 2 ^ 32 → bridge_shape ≡ shape → timers_shape ≡ shape → length clients ≡ clients_of shape → length senders ≡ publishers_of shape → servers ≡ new_servers objects (queues_of shape)
     → IsSystem shape bridge_shape timers_shape objects clients senders servers true true
-new_system shape bridge_shape timers_shape objects clients senders servers bridge timers client_count sender_count is = record {
+new_system shape bridge_shape timers_shape objects clients senders servers ports bridge timers client_count sender_count is = record {
+  ports = ports;
   same_bridge = bridge;
   same_timers = timers;
   client_count = client_count;

@@ -2,7 +2,7 @@
 use Rattle.std.proofs.Common.{◌≡◌, ℕ, zero, suc, ◌+◌, true, List, [], ◌∷◌, map, get_or, refl, sym, ◌∙◌, ap, subst, add-one}
 use Rattle.std.specs.List.{list_all}
 use Rattle.mama_event.specs.Ports.{publishers_of, queues_of}
-use Rattle.mama_rounds.specs.World.{Setting, World, is_empty, in_turn, publisher_turn, publisher_took, queue_turn, queue_took, bridge_turn, timers_turn, pass, IsQuiet}
+use Rattle.mama_rules_rounds.specs.World.{Setting, World, is_empty, in_turn, publisher_turn, publisher_took, queue_turn, queue_took, bridge_turn, timers_turn, pass, IsQuiet}
 use Rattle.mama_drive.specs.Scene.{Scene, Moves, setting_in, world_in, lane_in, waiting_in, Passes, Drains}
 use Rattle.mama_drive.proofs.SceneLemmas.{moves_then, moves_none}
 

@@ -1,4 +1,4 @@
--- What waits on the lanes of the bridge and of the timer service, as plain data.
+-- inner: What waits on the lanes of the bridge and of the timer service, as plain data.
 use Rattle.std.specs.Prelude.{ℕ}
 use Rattle.mama_event.specs.declared.ids.ObjectId.{ObjectId}
 use Rattle.mama_event.specs.declared.to_bridge.ToBridge.{ToBridge}
@@ -10,7 +10,7 @@ use Rattle.mama_event.specs.declared.to_queue.QueueNote.{QueueNote}
 use Rattle.mama_event.specs.ToBridge as bridge
 use Rattle.mama_event.specs.ToTimers as timers
 use Rattle.mama_event.specs.ToQueue as queue
-use Rattle.mama_queue_seat.specs.Put.{own_tag}
+use Rattle.mama_plans.specs.Put.{own_tag}
 
 abbrev pub bridge_entry : ℕ × ToBridge ObjectId → ℕ × BridgeNote
 bridge_entry e = (e.0, bridge.note_of own_tag e.1)

@@ -1,4 +1,4 @@
--- What the clients of a system hear of their clock.
+-- inner: What the clients of a system hear of their clock.
 use Rattle.std.specs.Prelude.{◌≡◌, ℕ, zero, suc, List, [], ◌∷◌, ◌++◌, map, drop, Option, slice_index_or, slice_set}
 use Rattle.mama_seats.specs.Sender.{first_step, later_steps}
 use Rattle.mama_seats.specs.Stand.{Stand, still_read}

@@ -1,21 +1,21 @@
--- What an actor put and what is not on its lane yet, and the scene where all of it lies on its lane.
+-- inner: What an actor put and what is not on its lane yet, and the scene where all of it lies on its lane.
 use Rattle.std.specs.Prelude.{ℕ, zero, suc, List, [], ◌∷◌, ◌++◌, map, Option, None, Some}
 use Rattle.mama_event.specs.declared.to_bridge.BridgeNote.{BridgeNote}
 use Rattle.mama_event.specs.declared.to_publisher.PublisherNote.{PublisherNote}
 use Rattle.mama_event.specs.declared.to_queue.QueueNote.{QueueNote}
 use Rattle.mama_event.specs.Ports.{timers_port_of_bridge, queue_port_of_bridge, queue_port_of_timers}
 use Rattle.mama_event.specs.ToBridge.{note_of}
-use Rattle.mama_rules.specs.Bridge.{BridgePut, to_publisher, to_queue}
-use Rattle.mama_rules.specs.Bridge as bridge
-use Rattle.mama_queue_rules.specs.Queue.{QueuePut}
-use Rattle.mama_queue_rules.specs.Queue as queue
+use Rattle.mama_rules_services.specs.Bridge.{BridgePut, to_publisher, to_queue}
+use Rattle.mama_rules_services.specs.Bridge as bridge
+use Rattle.mama_rules_queue.specs.Queue.{QueuePut}
+use Rattle.mama_rules_queue.specs.Queue as queue
 use Rattle.mama_bridge.specs.Outs.{put_note}
 use Rattle.mama_timer.specs.Out.{out_note}
-use Rattle.mama_queue_seat.specs.Put.{own_tag, notes_of}
-use Rattle.mama_queue_seat.specs.Server.{Server}
+use Rattle.mama_plans.specs.Put.{own_tag, notes_of}
+use Rattle.mama_seats.specs.Server.{Server}
 use Rattle.mama_seats.specs.Sender.{Sender}
+use Rattle.mama_seats.specs.Waiting.{waits}
 use Rattle.mama_drive.specs.Scene.{Scene}
-use Rattle.mama_drive.specs.declared.held.Waiting.{Waiting}
 use Rattle.mama_drive.specs.declared.held.Held.{Held}
 use Rattle.mama_drive.specs.declared.held.Held.TheVariants as held
 
@@ -55,14 +55,6 @@ lay_out bridge_port timers_port (queue.to_timers note) s = record s { to_timers 
 abbrev pub lay_all : {V : Type 0} → (V → Scene → Scene) → List V → Scene → Scene
 lay_all lay [] s = s
 lay_all lay (v ∷ vs) s = lay_all lay vs (lay v s)
-
--- what waits to be put on lanes
-abbrev pub led : {T : Type 0} → Option T → List T → List T
-led None rest = rest
-led (Some first) rest = first ∷ rest
-
-abbrev pub waits : {T : Type 0} → Waiting T → List T
-waits w = led w.first w.rest.items
 
 -- the scene where what is held lies on its lanes
 abbrev pub seen : Held → Scene → Scene

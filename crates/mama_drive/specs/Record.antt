@@ -1,14 +1,14 @@
--- The record of a scene.
+-- inner: The record of a scene.
 use Rattle.std.specs.Prelude.{ℕ, List, [], map, slice_index_or}
 use Rattle.mama_event.specs.declared.ids.ObjectId.{ObjectId}
 use Rattle.mama_event.specs.declared.ids.ObjectId.TheVariants.{Sub, Timer, Inbox}
 use Rattle.mama_event.specs.declared.to_queue.QueueNote.{QueueNote}
-use Rattle.mama_queue_rules.specs.Queue.{deeds, calls_of}
+use Rattle.mama_rules_queue.specs.Queue.{deeds, calls_of}
 use Rattle.mama_record.specs.RunData.{RunData, ObjectCalls, LastImage}
-use Rattle.mama_rounds.specs.Client.{Planned}
-use Rattle.mama_rounds.specs.Round.{noted, record_of}
-use Rattle.mama_queue_seat.specs.Server.{orders_in}
-use Rattle.mama_queue_seat.specs.Image.{image_of}
+use Rattle.mama_rules_rounds.specs.Client.{Planned}
+use Rattle.mama_rules_rounds.specs.Round.{noted, record_of}
+use Rattle.mama_plans.specs.Orders.{orders_in}
+use Rattle.mama_plans.specs.Image.{image_of}
 use Rattle.mama_seats.specs.Stand.{Stand}
 use Rattle.mama_drive.specs.Scene.{Scene, setting_in, world_in}
 
@@ -25,7 +25,7 @@ calls_by objects queues p = record { object = p.object; calls = map noted (calls
 
 -- the last image of a subscription on the queue with this journal
 abbrev pub image_by : List Planned → List (ℕ × QueueNote) → ObjectId → List LastImage
-image_by objects journal (Sub s) = image_of (record { objects = objects; journal = journal; lane = [] }) s
+image_by objects journal (Sub s) = image_of objects journal s
 image_by objects journal (Timer t) = []
 image_by objects journal (Inbox i) = []
 

@@ -1,5 +1,5 @@
--- The system on one thread, as its seats and lanes, and the stage of the run that it is.
-use Rattle.std.specs.Prelude.{◌≡◌, ℕ, ◌-◌, nat_le, Bool, true, false, ◌||◌, List, [], ◌∷◌, ◌++◌, map, length, slice_index_or, slice_set}
+-- inner: The system on one thread, as its seats and lanes, and the stage of the run that it is.
+use Rattle.std.specs.Prelude.{◌≡◌, ℕ, ◌-◌, ◌^◌, ◌<◌, nat_le, Bool, true, false, ◌||◌, List, [], ◌∷◌, ◌++◌, map, length, slice_index_or, slice_set}
 use Rattle.std.specs.List.{flat_map, list_all}
 use Rattle.mama_journal.specs.Lane.{from_port, by_port}
 use Rattle.mama_event.specs.declared.shape.Shape.{Shape}
@@ -9,16 +9,16 @@ use Rattle.mama_event.specs.declared.to_queue.QueueNote.{QueueNote}
 use Rattle.mama_event.specs.declared.publisher_entry.PublisherEntry.{PublisherEntry}
 use Rattle.mama_event.specs.declared.to_publisher.PublisherNote.{PublisherNote}
 use Rattle.mama_event.specs.Publisher.{PublisherScript}
-use Rattle.mama_event.specs.Ports.{clients_of, publishers_of, queues_of, timers_port_of_bridge, queue_port_of_bridge, queue_port_of_timers}
-use Rattle.mama_rules.specs.Bridge.{BridgePut, to_publisher, to_queue}
-use Rattle.mama_rules.specs.Bridge as bridge
-use Rattle.mama_queue_rules.specs.Queue.{QueuePut}
-use Rattle.mama_rounds.specs.Client.{Planned}
-use Rattle.mama_rounds.specs.World.{Setting, World, extended, publisher_part, queue_part, timer_part, is_empty, passes, IsQuiet}
-use Rattle.mama_rounds.specs.Stage.{Stage, IsStageDrained, AreSteps, AreRounds}
+use Rattle.mama_event.specs.Ports.{clients_of, publishers_of, queues_of, bridge_ports, timers_port_of_bridge, queue_port_of_bridge, queue_port_of_timers}
+use Rattle.mama_rules_services.specs.Bridge.{BridgePut, to_publisher, to_queue}
+use Rattle.mama_rules_services.specs.Bridge as bridge
+use Rattle.mama_rules_queue.specs.Queue.{QueuePut}
+use Rattle.mama_rules_rounds.specs.Client.{Planned}
+use Rattle.mama_rules_rounds.specs.World.{Setting, World, extended, publisher_part, queue_part, timer_part, is_empty, passes, IsQuiet}
+use Rattle.mama_rules_rounds.specs.Stage.{Stage, IsStageDrained, AreSteps, AreRounds}
 use Rattle.mama_seats.specs.Sender.{Sender, steps_in}
 use Rattle.mama_seats.specs.Stand.{Stand, client_left, reading, Ends, BeginsWith}
-use Rattle.mama_queue_seat.specs.Server.{Server}
+use Rattle.mama_seats.specs.Server.{Server}
 
 pub record Scene : Type 0 where
   pub shape : Shape
@@ -82,9 +82,10 @@ AreMoments [] (c ∷ cs) = ⊥
 AreMoments (m ∷ ms) [] = ⊥
 AreMoments (m ∷ ms) (c ∷ cs) = BeginsWith c.read m × AreMoments ms cs
 
--- What a system keeps: its actors are those of the shape, its queues know the plans of the same objects, and where it
+-- What a system keeps: the ports have numbers, its actors are those of the shape, its queues know the plans of the same objects, and where it
 -- has no mark that events wait on the lanes of some publisher, or of some queue, none does.
 pub record IsSystem (shape bridge_shape timers_shape : Shape) (objects : List Planned) (clients : List Stand) (senders : List Sender) (servers : List Server) (publishers_wait queues_wait : Bool) : Type 0 where
+  pub ports : bridge_ports shape < 2 ^ 32
   pub same_bridge : bridge_shape ≡ shape
   pub same_timers : timers_shape ≡ shape
   pub client_count : length clients ≡ clients_of shape

@@ -1,12 +1,12 @@
--- A system that has done nothing yet.
+-- inner: A system that has done nothing yet.
 use Rattle.std.specs.Prelude.{◌≡◌, ℕ, zero, suc, false, List, [], ◌∷◌, ◌++◌, map}
 use Rattle.mama_event.specs.Ports.{queues_of}
 use Rattle.mama_script.specs.declared.client.ClientLine.{ClientLine}
 use Rattle.mama_script.specs.declared.publisher.PublisherPart.{PublisherPart}
 use Rattle.mama_script.specs.Script.{ScriptData}
-use Rattle.mama_rounds.specs.Client.{Planned, clock_lines}
-use Rattle.mama_rounds.specs.Round.{setting_of, start}
-use Rattle.mama_queue_seat.specs.Server.{Server}
+use Rattle.mama_rules_rounds.specs.Client.{Planned, clock_lines}
+use Rattle.mama_rules_rounds.specs.Round.{setting_of, start}
+use Rattle.mama_seats.specs.Server.{Server}
 use Rattle.mama_seats.specs.Sender.{Sender, script_of}
 use Rattle.mama_seats.specs.Stand.{Stand, reading}
 use Rattle.mama_drive.specs.Scene.{Scene, setting_in, stage_in, AreMoments, AllEnd}

@@ -1,60 +1,18 @@
-ghost use Rattle.std.specs.Prelude.{◌≡◌, ◌∷◌, [], ◌↔◌, map, true, None, IsTrue, IfSome, IfNone, OnOk};
+ghost use Rattle.std.specs.Prelude.{◌≡◌, [], map, true, OnOk};
 ghost use Rattle.mama_event.specs.ToBridge.{note_of};
 ghost use Rattle.mama_bridge.specs.Outs.{put_note};
 ghost use Rattle.mama_timer.specs.Out.{out_note};
-ghost use Rattle.mama_queue_seat.specs.Put.{own_tag, notes_of};
+ghost use Rattle.mama_plans.specs.Put.{own_tag, notes_of};
 ghost use Rattle.mama_drive.specs.Scene.{Scene};
-ghost use Rattle.mama_drive.specs.Held.{waits, lay_put, lay_tick, lay_event, lay_out, lay_all, seen};
+ghost use Rattle.mama_seats.specs.Waiting.{waits};
+ghost use Rattle.mama_drive.specs.Held.{lay_put, lay_tick, lay_event, lay_out, lay_all, seen};
 
 use crate::system::System;
 use mama_bridge::BridgeOut;
-use mama_event::{ObjectId, ToBridge};
-use mama_link::Outbox;
+use mama_event::{ObjectId, ToBridge, ToService};
 use mama_memory::OutOfMemory;
-use mama_queue_seat::QueueOut;
+use mama_seats::Waiting;
 use mama_timer::TimerOut;
-
-/// Events that wait to be put on their lanes, in order. The first is apart where its lane found no room for it.
-#[derive(Drop)]
-pub(crate) struct Waiting<T> {
-    first: Option<T>,
-    rest: Outbox<T>,
-}
-
-impl<T> Waiting<T> {
-    /// All of an outbox.
-    pub(crate) fn all(events: Outbox<T>) -> Waiting<T>
-        ensures { waits result ≡ events.items }
-    {
-        Waiting {
-            first: None,
-            rest: events,
-        }
-    }
-
-    /// Whether no event waits.
-    fn is_empty(&self) -> bool
-        ensures { result ≡ true → waits self.now ≡ [] }
-    {
-        match &self.first {
-            Some(_) => false,
-            None => self.rest.is_empty(),
-        }
-    }
-
-    /// Takes the first event out.
-    fn take_first(&mut self) -> Option<T>
-        ensures some { IfSome result (λ event. waits self.old ≡ event ∷ waits self.new) }
-        ensures none { IfNone result (waits self.old ≡ []) }
-        ensures unchanged { IfNone result (waits self.new ≡ []) }
-        ensures first { self.new.first ≡ None }
-    {
-        match self.first.take() {
-            Some(event) => Some(event),
-            None => self.rest.take_first(),
-        }
-    }
-}
 
 /// What one actor put and what is not on its lanes yet: the bridge, the timer service, a publisher with its port, or a
 /// client or a queue with its ports.
@@ -70,7 +28,7 @@ pub(crate) enum Held {
     Given {
         bridge_port: u32,
         timers_port: u32,
-        outs: Waiting<QueueOut<ObjectId>>,
+        outs: Waiting<ToService<ObjectId>>,
     },
 }
 
@@ -121,7 +79,7 @@ fn settle_puts(
 {
     while let Some(event) = puts.take_first() {
         if let Err(event) = system.put_one(event) {
-            puts.first = Some(event);
+            puts.put_back(event);
             return Err(OutOfMemory);
         }
     }
@@ -138,7 +96,7 @@ fn settle_ticks(
 {
     while let Some(tick) = ticks.take_first() {
         if let Err(tick) = system.put_tick(tick) {
-            ticks.first = Some(tick);
+            ticks.put_back(tick);
             return Err(OutOfMemory);
         }
     }
@@ -156,7 +114,7 @@ fn settle_events(
 {
     while let Some(event) = events.take_first() {
         if let Err(event) = system.put_to_bridge(port, event) {
-            events.first = Some(event);
+            events.put_back(event);
             return Err(OutOfMemory);
         }
     }
@@ -168,14 +126,14 @@ fn settle_outs(
     system: &mut System,
     bridge_port: u32,
     timers_port: u32,
-    outs: &mut Waiting<QueueOut<ObjectId>>,
+    outs: &mut Waiting<ToService<ObjectId>>,
 ) -> Result<(), OutOfMemory>
     ensures same { lay_all (lay_out bridge_port timers_port) (notes_of (waits outs.new)) system.new ≡ lay_all (lay_out bridge_port timers_port) (notes_of (waits outs.old)) system.old }
     ensures clear { OnOk result (waits outs.new ≡ []) }
 {
     while let Some(out) = outs.take_first() {
         if let Err(out) = system.put_out(bridge_port, timers_port, out) {
-            outs.first = Some(out);
+            outs.put_back(out);
             return Err(OutOfMemory);
         }
     }

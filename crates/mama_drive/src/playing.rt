@@ -1,13 +1,13 @@
 ghost use Rattle.std.specs.Prelude.{IfOk};
-ghost use Rattle.mama_rounds.specs.Round.{IsRound};
+ghost use Rattle.mama_rules_rounds.specs.Round.{IsRound};
 ghost use Rattle.mama_seats.specs.Moments.{AreHeard};
 
 use crate::run::Run;
 use mama_edge::Clock;
 use mama_memory::OutOfMemory;
+use mama_plans::{plans_are_few, plans_of};
 use mama_record::RunRecord;
 use mama_script::Script;
-use mama_seats::plans_of;
 use std::alloc::Global;
 
 /// Plays the script on one thread. A round gives each client, and then each publisher, its next step, and everything
@@ -22,6 +22,7 @@ pub fn serial<C: Clock>(
     ensures clock { IfOk result (λ run. AreHeard (C.left clock.old) (C.left clock.new) script.now.clients run.clients) }
 {
     let plans = plans_of(alloc, script)?;
+    plans_are_few(script);
     let mut driver = Run::new(alloc, script, &plans)?;
     driver.play(clock)?;
     driver.into_record()

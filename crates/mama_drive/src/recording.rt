@@ -1,20 +1,21 @@
 ghost use Rattle.std.specs.Prelude.{◌≡◌, ◌++◌, map, IfOk, OnOk};
 ghost use Rattle.std.specs.List.{flat_map};
-ghost use Rattle.mama_rounds.specs.Round.{noted};
+ghost use Rattle.mama_rules_rounds.specs.Round.{noted};
 ghost use Rattle.mama_record.specs.RunView.{moments_of, entries_of, events_of, calls_of, images_of, calls_in};
-ghost use Rattle.mama_queue_seat.specs.Plans.{planned_object};
-ghost use Rattle.mama_queue_seat.specs.Server.{Server};
+ghost use Rattle.mama_plans.specs.Plans.{planned_object};
+ghost use Rattle.mama_seats.specs.Server.{Server};
 ghost use Rattle.mama_drive.specs.Scene.{journal_in, entries_in, objects_in};
 ghost use Rattle.mama_drive.specs.Record.{read_in, recorded, calls_by, image_by, images_by, journal_at};
 
 use crate::run::Run;
 use crate::system::System;
+use mama_bridge::Bridge;
 use mama_event::{CallNote, ImageHead, ObjectId, PublisherEntry, QueueNote, SubId};
 use mama_memory::OutOfMemory;
 use mama_msg::Msg;
-use mama_queue_seat::{PlannedObject, Plans, QueueSeat};
+use mama_plans::{PlannedObject, Plans};
 use mama_record::RunRecord;
-use mama_seats::{ClientSeat, PublisherSeat};
+use mama_seats::{ClientSeat, PublisherSeat, QueueSeat};
 use std::alloc::Global;
 
 impl<'a> Run<'a> {

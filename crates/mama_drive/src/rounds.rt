@@ -1,6 +1,6 @@
 ghost use Rattle.std.specs.Prelude.{◌≡◌, ◌<◌, List, ℕ, Option, length, true, false, OnOk};
 ghost use Rattle.mama_event.specs.Ports.{clients_of, publishers_of};
-ghost use Rattle.mama_rounds.specs.Stage as stage;
+ghost use Rattle.mama_rules_rounds.specs.Stage as stage;
 ghost use Rattle.mama_drive.specs.Heard.{Hears, StepRead, StepsRead, RoundsRead, HearsRounds};
 ghost use Rattle.mama_drive.specs.Scene.{Advances, SteppedOut, SteppedAll, Drains, Rounds, Plays, IsPlayed};
 
@@ -37,7 +37,7 @@ impl<'a> Run<'a> {
         ensures steps { OnOk result (Advances (SteppedAll stage.client_step (clients_of self.old.shape)) self.old self.new) }
         ensures clock { OnOk result (Hears (StepsRead (length self.old.clients)) (C.left clock.old) (C.left clock.new) self.old.clients self.new.clients) }
     {
-        let count = self.client_count()?;
+        let count = self.client_count();
         for number in 0..count {
             self.client_step(number, clock)?;
         }
@@ -59,7 +59,7 @@ impl<'a> Run<'a> {
         ensures steps { OnOk result (Advances (SteppedAll stage.publisher_step (publishers_of self.old.shape)) self.old self.new) }
         ensures clients { OnOk result (self.new.clients ≡ self.old.clients) }
     {
-        let count = self.publisher_count()?;
+        let count = self.publisher_count();
         for number in 0..count {
             self.publisher_step(number)?;
         }

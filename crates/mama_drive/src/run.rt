@@ -1,9 +1,9 @@
-ghost use Rattle.std.specs.Prelude.{◌≡◌, ◌<◌, length, true, IfOk, OnOk, OnErr};
+ghost use Rattle.std.specs.Prelude.{◌≡◌, ◌<◌, length, true, OnOk, OnErr};
 ghost use Rattle.std.specs.List.{list_all};
 ghost use Rattle.mama_event.specs.Ports.{clients_of, publishers_of, queues_of};
-ghost use Rattle.mama_rounds.specs.World as world;
-ghost use Rattle.mama_rounds.specs.World.{is_empty};
-ghost use Rattle.mama_rounds.specs.Stage as stage;
+ghost use Rattle.mama_rules_rounds.specs.World as world;
+ghost use Rattle.mama_rules_rounds.specs.World.{is_empty};
+ghost use Rattle.mama_rules_rounds.specs.Stage as stage;
 ghost use Rattle.mama_drive.specs.Heard.{Hears, StepRead};
 ghost use Rattle.mama_drive.specs.Scene.{setting_in, world_in, Moves, Advances, Stepped};
 
@@ -131,7 +131,7 @@ impl<'a> Run<'a> {
     fn each_publisher(&mut self) -> Result<(), OutOfMemory>
         ensures { OnOk result (Moves self.old self.new (world.in_turn (world.publisher_turn (setting_in self.old)) (publishers_of self.old.shape) (world_in self.old))) }
     {
-        let count = self.publisher_count()?;
+        let count = self.publisher_count();
         for number in 0..count {
             self.publisher_turn(number)?;
         }
@@ -154,7 +154,7 @@ impl<'a> Run<'a> {
     fn each_queue(&mut self) -> Result<(), OutOfMemory>
         ensures { OnOk result (Moves self.old self.new (world.in_turn (world.queue_turn (setting_in self.old)) (queues_of self.old.shape) (world_in self.old))) }
     {
-        let count = self.queue_count()?;
+        let count = self.queue_count();
         for number in 0..count {
             self.queue_turn(number)?;
         }
@@ -208,25 +208,25 @@ impl<'a> Run<'a> {
     }
 
     /// How many clients there are.
-    pub(crate) fn client_count(&self) -> Result<u32, OutOfMemory>
-        ensures number { IfOk result (λ count. count ≡ length self.now.clients) }
-        ensures shape { IfOk result (λ count. count ≡ clients_of self.now.shape) }
+    pub(crate) fn client_count(&self) -> u32
+        ensures number { result ≡ length self.now.clients }
+        ensures shape { result ≡ clients_of self.now.shape }
     {
         self.system.client_count()
     }
 
     /// How many publishers there are.
-    pub(crate) fn publisher_count(&self) -> Result<u32, OutOfMemory>
-        ensures number { IfOk result (λ count. count ≡ length self.now.senders) }
-        ensures shape { IfOk result (λ count. count ≡ publishers_of self.now.shape) }
+    pub(crate) fn publisher_count(&self) -> u32
+        ensures number { result ≡ length self.now.senders }
+        ensures shape { result ≡ publishers_of self.now.shape }
     {
         self.system.publisher_count()
     }
 
     /// How many queues there are.
-    fn queue_count(&self) -> Result<u32, OutOfMemory>
-        ensures number { IfOk result (λ count. count ≡ length self.now.servers) }
-        ensures shape { IfOk result (λ count. count ≡ queues_of self.now.shape) }
+    fn queue_count(&self) -> u32
+        ensures number { result ≡ length self.now.servers }
+        ensures shape { result ≡ queues_of self.now.shape }
     {
         self.system.queue_count()
     }

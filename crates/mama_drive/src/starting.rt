@@ -1,14 +1,17 @@
-ghost use Rattle.std.specs.Prelude.{◌≡◌, IfOk};
+ghost use Rattle.std.specs.Prelude.{◌≡◌, ◌^◌, ◌<◌, ◌≤◌, length, IfOk};
+ghost use Rattle.std.specs.List.{AllByRecursion};
+ghost use Rattle.mama_script.specs.declared.publisher.PublisherPart.{PublisherPart};
+ghost use Rattle.mama_plans.specs.Plans.{AreFew};
 ghost use Rattle.mama_drive.specs.Start.{stands_from, senders_from, new_servers, started};
 
 use crate::held::Held;
 use crate::run::Run;
-use crate::system::{System, count_of};
+use crate::system::System;
 use mama_bridge::MemoryBridge;
 use mama_memory::OutOfMemory;
-use mama_queue_seat::{Plans, QueueSeat};
+use mama_plans::Plans;
 use mama_script::{ClientLines, PublisherPart, Script};
-use mama_seats::{ClientSeat, PublisherSeat};
+use mama_seats::{ClientSeat, PublisherSeat, QueueSeat};
 use mama_timer::Timers;
 use std::alloc::Global;
 use std::collections::VecDeque;
@@ -16,6 +19,7 @@ use std::collections::VecDeque;
 impl<'a> Run<'a> {
     /// The run of a script, in which nothing is done yet. These are the plans of its objects.
     pub fn new(alloc: Global, script: &'a Script, plans: &'a Plans) -> Result<Run<'a>, OutOfMemory>
+        requires { AreFew plans.now }
         ensures { IfOk result (λ run. run ≡ started plans.now script.now) }
     {
         Ok(Run {
@@ -28,18 +32,13 @@ impl<'a> Run<'a> {
 impl<'a> System<'a> {
     /// All actors of a script, which have done nothing yet. These are the plans of its objects.
     fn new(alloc: Global, script: &'a Script, plans: &'a Plans) -> Result<System<'a>, OutOfMemory>
+        requires { AreFew plans.now }
         ensures { IfOk result (λ system. system ≡ started plans.now script.now) }
     {
         let shape = script.shape();
         let queues = queue_seats(alloc, shape.bounds.queues, plans)?;
         let publishers = publisher_seats(alloc, script.publishers())?;
         let clients = client_seats(alloc, shape.bounds.queues, script.clients())?;
-        // An accepted script has a section for each client and each publisher of its head.
-        if clients.len() != shape.clients as usize
-            || publishers.len() != shape.publisher_topics.len()
-        {
-            return Err(OutOfMemory);
-        }
         let bridge = MemoryBridge::new(alloc, shape)?;
         let timers = Timers::new(alloc, shape)?;
         Ok(System {
@@ -65,6 +64,7 @@ fn queue_seats<'a>(
     queues: u32,
     plans: &'a Plans,
 ) -> Result<Vec<QueueSeat<'a>>, OutOfMemory>
+    requires { AreFew plans.now }
     ensures { IfOk result (λ seats. seats.items ≡ new_servers plans.now queues) }
 {
     let mut seats = Vec::new(alloc);
@@ -79,12 +79,13 @@ fn publisher_seats<'a>(
     alloc: Global,
     parts: &'a [PublisherPart],
 ) -> Result<Vec<PublisherSeat<'a>>, OutOfMemory>
+    requires count { length parts.now < 2 ^ 32 }
+    requires within { AllByRecursion (λ (part : PublisherPart). length part.base ≤ 64) parts.now }
     ensures { IfOk result (λ seats. seats.items ≡ senders_from 0 parts.now) }
 {
     let mut seats = Vec::new(alloc);
-    for part in parts {
-        let number = count_of(seats.len())?;
-        seats.push(PublisherSeat::new(alloc, number, part)?)?;
+    for (number, part) in parts.iter().enumerate() {
+        seats.push(PublisherSeat::new(alloc, number as u32, part)?)?;
     }
     Ok(seats)
 }
@@ -95,12 +96,12 @@ fn client_seats<'a>(
     queues: u32,
     sections: &'a [ClientLines],
 ) -> Result<Vec<ClientSeat<'a>>, OutOfMemory>
+    requires { length sections.now < 2 ^ 32 }
     ensures { IfOk result (λ seats. seats.items ≡ stands_from queues 0 sections.now) }
 {
     let mut seats = Vec::new(alloc);
-    for lines in sections {
-        let number = count_of(seats.len())?;
-        seats.push(ClientSeat::new(alloc, number, queues, lines.as_slice()))?;
+    for (number, lines) in sections.iter().enumerate() {
+        seats.push(ClientSeat::new(alloc, number as u32, queues, lines.as_slice()))?;
     }
     Ok(seats)
 }

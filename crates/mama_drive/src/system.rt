@@ -1,4 +1,4 @@
-ghost use Rattle.std.specs.Prelude.{◌≡◌, ◌+◌, ◌<◌, List, [], ◌∷◌, ◌++◌, map, length, true, IfOk, IfErr, OnOk, OnErr};
+ghost use Rattle.std.specs.Prelude.{◌≡◌, ◌+◌, ◌^◌, ◌<◌, List, [], ◌∷◌, ◌++◌, map, length, true, IfOk, IfErr, OnOk, OnErr};
 ghost use Rattle.std.specs.List.{list_all};
 ghost use Rattle.mama_event.specs.ToBridge.{note_of};
 ghost use Rattle.mama_event.specs.ToPublisher.{note_of as publisher_note_of};
@@ -7,22 +7,21 @@ ghost use Rattle.mama_event.specs.ToTimers.{note_of as timers_note_of};
 ghost use Rattle.mama_event.specs.Ports.{clients_of, publishers_of, queues_of, timers_port_of_bridge, bridge_port_of_queue};
 ghost use Rattle.mama_bridge.specs.Outs.{put_note};
 ghost use Rattle.mama_timer.specs.Out.{out_note};
-ghost use Rattle.mama_rounds.specs.World as world;
-ghost use Rattle.mama_rounds.specs.World.{is_empty};
-ghost use Rattle.mama_rounds.specs.Stage as stage;
-ghost use Rattle.mama_queue_seat.specs.Put.{own_tag, note_of as out_note_of};
+ghost use Rattle.mama_rules_rounds.specs.World as world;
+ghost use Rattle.mama_rules_rounds.specs.World.{is_empty};
+ghost use Rattle.mama_rules_rounds.specs.Stage as stage;
+ghost use Rattle.mama_plans.specs.Put.{own_tag, note_of as out_note_of};
 ghost use Rattle.mama_drive.specs.Heard.{Hears, StepRead};
 ghost use Rattle.mama_drive.specs.Held.{changed_at, with_note, with_event, lay_put, lay_tick, lay_event, lay_out, seen};
 ghost use Rattle.mama_drive.specs.Scene.{setting_in, world_in, lane_in, waiting_in, Moves, Advances, Stepped};
 
-use crate::held::{Held, Waiting};
-use mama_bridge::{BridgeOut, MemoryBridge};
+use crate::held::Held;
+use mama_bridge::{Bridge, BridgeOut, MemoryBridge};
 use mama_edge::Clock;
-use mama_event::{ObjectId, Shape, ToBridge, ToPublisher, ToQueue, ToTimers};
-use mama_link::Outbox;
-use mama_memory::OutOfMemory;
-use mama_queue_seat::{Plans, QueueOut, QueueSeat};
-use mama_seats::{ClientSeat, PublisherSeat};
+use mama_event::{ObjectId, Shape, ToBridge, ToPublisher, ToQueue, ToService, ToTimers};
+use mama_memory::{OutOfMemory, Outbox};
+use mama_plans::Plans;
+use mama_seats::{ClientSeat, PublisherSeat, QueueSeat, Waiting};
 use mama_timer::{TimerOut, Timers};
 use std::alloc::Global;
 use std::collections::VecDeque;
@@ -56,16 +55,6 @@ impl<'a> Model for System<'a> {
     ghost view = { λ s. record { shape = s.shape.now; objects = s.plans.now; clients = s.clients.items; senders = s.publishers.items; servers = s.queues.items; bridge = s.bridge.journal; timers = s.timers.journal; to_bridge = map bridge_entry s.to_bridge.items; to_timers = map timers_entry s.to_timers.items } };
 
     ghost invariant = { λ s. IsSystem s.shape.now s.bridge.shape s.timers.shape s.plans.now s.clients.items s.publishers.items s.queues.items s.publishers_wait s.queues_wait };
-}
-
-/// The port of the actor of this number, where those of its kind begin at `base`.
-pub(crate) fn port_from(base: u32, number: u32) -> Result<u32, OutOfMemory>
-    ensures { IfOk result (λ port. port ≡ base + number) }
-{
-    match base.checked_add(number) {
-        Some(port) => Ok(port),
-        None => Err(OutOfMemory),
-    }
 }
 
 impl<'a> System<'a> {
@@ -130,10 +119,8 @@ impl<'a> System<'a> {
         ensures back { IfErr result (λ given. given ≡ event) }
         ensures err { OnErr result (self.new ≡ self.old) }
     {
-        match port_from(self.shape.clients, self.shape.bounds.queues) {
-            Ok(port) => push_or_back(&mut self.to_timers, port, event),
-            Err(_) => Err(event),
-        }
+        let port = self.shape.clients + self.shape.bounds.queues;
+        push_or_back(&mut self.to_timers, port, event)
     }
 
     /// Puts one of the timer service's events on its lane, or gives it back.
@@ -167,20 +154,28 @@ impl<'a> System<'a> {
         &mut self,
         bridge_port: u32,
         timers_port: u32,
-        out: QueueOut<ObjectId>,
-    ) -> Result<(), QueueOut<ObjectId>>
+        out: ToService<ObjectId>,
+    ) -> Result<(), ToService<ObjectId>>
         ensures lane { OnOk result (self.new ≡ lay_out bridge_port timers_port (out_note_of out) self.old) }
         ensures back { IfErr result (λ given. given ≡ out) }
         ensures err { OnErr result (self.new ≡ self.old) }
     {
         match out {
-            QueueOut::Bridge(event) => match push_or_back(&mut self.to_bridge, bridge_port, event) {
+            ToService::Bridge(event) => match push_or_back(
+                &mut self.to_bridge,
+                bridge_port,
+                event,
+            ) {
                 Ok(()) => Ok(()),
-                Err(event) => Err(QueueOut::Bridge(event)),
+                Err(event) => Err(ToService::Bridge(event)),
             },
-            QueueOut::Timers(event) => match push_or_back(&mut self.to_timers, timers_port, event) {
+            ToService::Timers(event) => match push_or_back(
+                &mut self.to_timers,
+                timers_port,
+                event,
+            ) {
                 Ok(()) => Ok(()),
-                Err(event) => Err(QueueOut::Timers(event)),
+                Err(event) => Err(ToService::Timers(event)),
             },
         }
     }
@@ -232,7 +227,7 @@ impl<'a> System<'a> {
         ensures turn { IfOk result (λ held. Moves self.old (seen held self.new) (world.publisher_turn (setting_in self.old) number (world_in self.old))) }
         ensures err { OnErr result (self.new ≡ self.old) }
     {
-        let port = port_from(self.shape.clients, number)?;
+        let port = self.shape.clients + number;
         self.publishers_wait = true;
         let seat = &mut self.publishers[number as usize];
         let out = seat.turn()?;
@@ -248,8 +243,8 @@ impl<'a> System<'a> {
         ensures turn { IfOk result (λ held. Moves self.old (seen held self.new) (world.queue_turn (setting_in self.old) number (world_in self.old))) }
         ensures err { OnErr result (self.new ≡ self.old) }
     {
-        let timers_port = port_from(self.shape.clients, number)?;
-        let bridge_port = port_of_queue(self.shape, number)?;
+        let timers_port = self.shape.clients + number;
+        let bridge_port = port_of_queue(self.shape, number);
         self.queues_wait = true;
         let seat = &mut self.queues[number as usize];
         let outs = seat.turn()?;
@@ -289,7 +284,7 @@ impl<'a> System<'a> {
         ensures clients { IfOk result (λ held. (seen held self.new).clients ≡ self.old.clients) }
         ensures err { OnErr result (self.new ≡ self.old) }
     {
-        let port = port_from(self.shape.clients, number)?;
+        let port = self.shape.clients + number;
         let seat = &mut self.publishers[number as usize];
         let out = seat.step()?;
         Ok(Held::Sent {
@@ -299,27 +294,27 @@ impl<'a> System<'a> {
     }
 
     /// How many clients there are.
-    pub(crate) fn client_count(&self) -> Result<u32, OutOfMemory>
-        ensures number { IfOk result (λ count. count ≡ length self.now.clients) }
-        ensures shape { IfOk result (λ count. count ≡ clients_of self.now.shape) }
+    pub(crate) fn client_count(&self) -> u32
+        ensures number { result ≡ length self.now.clients }
+        ensures shape { result ≡ clients_of self.now.shape }
     {
-        count_of(self.clients.len())
+        self.shape.clients
     }
 
     /// How many publishers there are.
-    pub(crate) fn publisher_count(&self) -> Result<u32, OutOfMemory>
-        ensures number { IfOk result (λ count. count ≡ length self.now.senders) }
-        ensures shape { IfOk result (λ count. count ≡ publishers_of self.now.shape) }
+    pub(crate) fn publisher_count(&self) -> u32
+        ensures number { result ≡ length self.now.senders }
+        ensures shape { result ≡ publishers_of self.now.shape }
     {
-        count_of(self.publishers.len())
+        publishers_in(self.shape)
     }
 
     /// How many queues there are.
-    pub(crate) fn queue_count(&self) -> Result<u32, OutOfMemory>
-        ensures number { IfOk result (λ count. count ≡ length self.now.servers) }
-        ensures shape { IfOk result (λ count. count ≡ queues_of self.now.shape) }
+    pub(crate) fn queue_count(&self) -> u32
+        ensures number { result ≡ length self.now.servers }
+        ensures shape { result ≡ queues_of self.now.shape }
     {
-        count_of(self.queues.len())
+        self.shape.bounds.queues
     }
 
     /// Marks whether events wait on the lane of some publisher.
@@ -389,13 +384,20 @@ fn is_free<T>(lane: &VecDeque<T>) -> bool
     lane.is_empty()
 }
 
-/// The bridge's port of a queue.
-fn port_of_queue(shape: &Shape, number: u32) -> Result<u32, OutOfMemory>
-    ensures { IfOk result (λ port. port ≡ bridge_port_of_queue shape.now number) }
+/// The number of publishers.
+fn publishers_in(shape: &Shape) -> u32
+    requires { publishers_of shape.now < 2 ^ 32 }
+    ensures { result ≡ publishers_of shape.now }
 {
-    let publishers = count_of(shape.publisher_topics.len())?;
-    let first = port_from(shape.clients, publishers)?;
-    port_from(first, number)
+    shape.publisher_topics.len() as u32
+}
+
+/// The bridge's port of a queue.
+fn port_of_queue(shape: &Shape, number: u32) -> u32
+    requires { bridge_port_of_queue shape.now number < 2 ^ 32 }
+    ensures { result ≡ bridge_port_of_queue shape.now number }
+{
+    shape.clients + publishers_in(shape) + number
 }
 
 /// Whether nothing waits on the lane of any publisher.
@@ -410,14 +412,4 @@ fn are_queues_quiet(seats: &[QueueSeat]) -> bool
     ensures { result ≡ list_all (λ seat. is_empty seat.lane) seats.now }
 {
     seats.iter().all(|seat| seat.is_quiet())
-}
-
-/// The number of actors of a kind. No accepted script has more than fit.
-pub(crate) fn count_of(count: usize) -> Result<u32, OutOfMemory>
-    ensures { IfOk result (λ number. number ≡ count) }
-{
-    match u32::try_from(count) {
-        Ok(number) => Ok(number),
-        Err(_) => Err(OutOfMemory),
-    }
 }

@@ -1,4 +1,4 @@
--- How a count changes that is kept in 64 bits.
+-- believed: how a count changes that is kept in 64 bits.
 use Rattle.std.specs.Prelude.{◌≡◌, ℕ, ◌+◌, ◌-◌, ◌^◌, ◌<◌, ◌⊎◌, min}
 
 -- a count one higher, or as it was where it stands at its counter's last value

@@ -1,4 +1,4 @@
--- The decimal spelling of a number.
+-- believed: the decimal spelling of a number.
 use Rattle.std.specs.Prelude.{ℕ, suc, ℤ, pos, negsuc, List, ◌∷◌}
 use Rattle.std.specs.Fmt as text
 

@@ -1,4 +1,4 @@
--- What the sources and sinks over memory hold.
+-- believed: what the sources and sinks over memory hold.
 use Rattle.std.specs.Prelude.{ℕ, List}
 
 -- the bytes that are left, the most that a call gives, the numbers of the calls that fail, how many calls were made,

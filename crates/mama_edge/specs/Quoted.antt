@@ -1,4 +1,4 @@
--- The quoted spelling of a text.
+-- believed: the quoted spelling of a text.
 use Rattle.std.specs.Prelude.{◌≡◌, ℕ, Bool, true, ◌&&◌, ◌||◌, ◌==◌, nat_le, List, [], ◌∷◌, ◌++◌, if◌then◌else◌}
 use Rattle.std.specs.List.{flat_map, list_all}
 

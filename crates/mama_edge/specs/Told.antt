@@ -1,4 +1,4 @@
--- What is told of bytes and moments, and what becomes of it.
+-- believed: what is told of bytes and moments, and what becomes of it.
 use Rattle.std.specs.Prelude.{◌≡◌, ℕ, ◌≤◌, List, [], ◌∷◌, ◌++◌, length, drop, Option, Some, IfSome}
 
 -- where bytes were told, they were these bytes and then the ones that are told now

@@ -1,4 +1,4 @@
--- How the bytes behind the first quote of a quoted text are read, one by one.
+-- inner: how the bytes behind the first quote of a quoted text are read, one by one.
 use Rattle.std.specs.Prelude.{◌≡◌, ℕ, Bool, true, false, ◌==◌, List, [], ◌∷◌, ◌++◌, Option, Some, None, if◌then◌else◌}
 use Rattle.mama_edge.specs.Quoted.{is_printable, is_special}
 use Rattle.mama_edge.specs.declared.quotation.Taken.{Taken}

@@ -19,11 +19,10 @@ mod memory_source;
 mod number;
 mod quotation;
 mod reading;
+mod room;
 mod sink;
 mod source;
 mod standard;
-#[cfg(test)]
-mod tests;
 mod writing;
 
 pub use clock::Clock;

@@ -1,6 +1,7 @@
 ghost use Rattle.std.specs.Prelude.{◌≡◌, ◌↔◌, ◌⊎◌, ◌+◌, ◌-◌, ◌<◌, ◌≤◌, [], ◌++◌, Some, length, take, min, Contains, IsErr, IfOk, OnErr, MatchResult, vec_len, vec_capacity};
 ghost use Rattle.mama_edge.specs.Count.{Rose, raised};
 
+use crate::room::append_reserved;
 use crate::sink::{Sink, WriteFailed};
 use mama_memory::OutOfMemory;
 use std::alloc::Global;
@@ -112,13 +113,4 @@ impl Sink for MemorySink {
         append_reserved(&mut self.bytes, &buf[..count]);
         Ok(count)
     }
-}
-
-/// Appends the bytes, for which there is room.
-fn append_reserved(out: &mut Vec<u8>, bytes: &[u8])
-    requires { vec_len out.old + length bytes.now ≤ vec_capacity out.old }
-    ensures items { out.new.items ≡ out.old.items ++ bytes.now }
-    ensures capacity { vec_capacity out.old ≤ vec_capacity out.new }
-{
-    let _ = out.extend_from_slice(bytes);
 }

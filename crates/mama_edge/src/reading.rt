@@ -2,6 +2,7 @@ ghost use Rattle.std.specs.Prelude.{◌≡◌, ◌+◌, ◌≤◌, [], Some, IfO
 ghost use Rattle.mama_edge.specs.Count.{Rose};
 ghost use Rattle.mama_edge.specs.Told.{Lost, LostAtMost};
 
+use crate::room::append_reserved;
 use crate::source::Source;
 use std::alloc::Global;
 use std::error::Error;
@@ -70,9 +71,6 @@ pub fn read_all<S: Source>(alloc: Global, source: &mut S, limit: usize) -> Resul
         if count > room {
             return Err(ReadAll::TooLong);
         }
-        // There is room.
-        if bytes.extend_from_slice(&piece[..count]).is_err() {
-            return Err(ReadAll::OutOfMemory);
-        }
+        append_reserved(&mut bytes, &piece[..count]);
     }
 }

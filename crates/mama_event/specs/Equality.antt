@@ -1,11 +1,9 @@
--- Plain data is compared exactly: the tests hold where both sides are one, and nowhere else.
+-- believed: plain data is compared exactly: the tests hold where both sides are one, and nowhere else.
 use Rattle.std.specs.Prelude.{Bool, true, false, ◌==◌, ◌&&◌, List}
 use Rattle.std.specs.Cmp.Lexicographic.{pointwise}
 use Rattle.std.specs.Str.{bytes_eq}
 use Rattle.mama_msg.specs.Equality.{same_message}
-use Rattle.mama_link.specs.declared.faults.Fault.{Fault}
-use Rattle.mama_link.specs.declared.faults.Fault.TheVariants as fault
-use Rattle.mama_link.specs.declared.faults.FaultRow.{FaultRow}
+use Rattle.mama_link.specs.Equality.{same_rows}
 use Rattle.mama_event.specs.Object.{same_sub, same_timer, same_inbox, same_object}
 use Rattle.mama_event.specs.declared.market.MsgKind.{MsgKind}
 use Rattle.mama_event.specs.declared.market.MsgKind.TheVariants.{Initial, Update, Recap}
@@ -96,21 +94,6 @@ same_callback _ _ = false
 -- two calls were the same callback with the same orders
 abbrev pub same_call_note : CallNote → CallNote → Bool
 same_call_note a b = same_callback a.call b.call && same_orders a.orders b.orders
-
--- two faults are one
-abbrev pub same_fault : Fault → Fault → Bool
-same_fault fault.Lose fault.Lose = true
-same_fault fault.Dup fault.Dup = true
-same_fault (fault.Hold by) (fault.Hold by') = by == by'
-same_fault _ _ = false
-
--- two rows tell one fault of one message
-abbrev pub same_row : FaultRow → FaultRow → Bool
-same_row a b = a.index == b.index && same_fault a.fault b.fault
-
--- two links have the same faults, in the same order
-abbrev pub same_rows : List FaultRow → List FaultRow → Bool
-same_rows a b = pointwise same_row a b
 
 -- two subscriptions have the same terms
 abbrev pub same_sub_terms : SubTerms → SubTerms → Bool

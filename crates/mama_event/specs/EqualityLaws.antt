@@ -1,17 +1,14 @@
--- The tests of plain data decide whether both sides are one, so they are equivalences.
-use Rattle.std.specs.Prelude.{◌≡◌, Bool, true, false, ◌==◌, ◌&&◌, List, refl}
+-- inner: the tests of plain data decide whether both sides are one, so they are equivalences.
+use Rattle.std.specs.Prelude.{◌≡◌, Bool, true, ◌&&◌, List, refl}
 use Rattle.std.specs.Bool.{Decides}
 use Rattle.std.specs.Cmp.{IsEquivalence, decided}
-use Rattle.std.specs.Cmp.Lexicographic.{pointwise, pointwise_decides}
-use Rattle.std.specs.Str.{bytes_eq}
+use Rattle.std.specs.Cmp.Lexicographic.{pointwise_decides}
 use Rattle.std.proofs.Common.{ap, sym, true≢false}
 use Rattle.std.proofs.lemmas.Bool.{and_parts, and_from}
 use Rattle.std.proofs.lemmas.Bool.Decides.{Decides-eqb}
 use Rattle.std.proofs.lemmas.Slice.Eq.{bytes_eq-Decides}
-use Rattle.mama_msg.specs.Equality.{same_message, same_message-Decides}
-use Rattle.mama_link.specs.declared.faults.Fault.{Fault}
-use Rattle.mama_link.specs.declared.faults.Fault.TheVariants as fault
-use Rattle.mama_link.specs.declared.faults.FaultRow.{FaultRow}
+use Rattle.mama_msg.specs.EqualityLaws.{same_message-Decides}
+use Rattle.mama_link.specs.EqualityLaws.{same_rows-Decides}
 use Rattle.mama_event.specs.declared.market.MsgKind.{MsgKind}
 use Rattle.mama_event.specs.declared.market.MsgKind.TheVariants.{Initial, Update, Recap}
 use Rattle.mama_event.specs.declared.market.Quality.{Quality}
@@ -43,7 +40,7 @@ use Rattle.mama_event.specs.declared.ids.InboxId.{InboxId}
 use Rattle.mama_event.specs.declared.ids.ObjectId.{ObjectId}
 use Rattle.mama_event.specs.declared.ids.ObjectId.TheVariants.{Sub, Timer, Inbox}
 use Rattle.mama_event.specs.Object.{same_sub, same_timer, same_inbox, same_object}
-use Rattle.mama_event.specs.Equality.{same_kind, same_quality, same_sub_kind, same_make, same_market_msg, same_order, same_orders, same_plan_row, same_callback, same_call_note, same_fault, same_row, same_rows, same_sub_terms, same_inbox_terms, same_publisher_note, same_publisher_entry, same_queue_note, same_bridge_note}
+use Rattle.mama_event.specs.Equality.{same_kind, same_quality, same_sub_kind, same_make, same_market_msg, same_order, same_orders, same_plan_row, same_callback, same_call_note, same_sub_terms, same_inbox_terms, same_publisher_note, same_publisher_entry, same_queue_note, same_bridge_note}
 
 -- two tests decide two facts
 and-Decides : {a b : Bool} {P Q : Type 0} → Decides a P → Decides b Q → Decides (a && b) (P × Q)
@@ -125,18 +122,6 @@ same_callback-Decides _ _ = (λ h. absurd (true≢false (sym h)), λ e. cc)
 pub same_call_note-Decides : (a b : CallNote) → Decides (same_call_note a b) (a ≡ b)
 same_call_note-Decides a b = via (and-Decides (same_callback-Decides a.call b.call) (same_orders-Decides a.orders b.orders)) (λ p. λ i. record { call = p.0 i; orders = p.1 i }) (λ e. (ap (λ (x : CallNote). x.call) e, ap (λ (x : CallNote). x.orders) e))
 
-pub same_fault-Decides : (a b : Fault) → Decides (same_fault a b) (a ≡ b)
-same_fault-Decides fault.Lose fault.Lose = (λ h. refl, λ e. refl)
-same_fault-Decides fault.Dup fault.Dup = (λ h. refl, λ e. refl)
-same_fault-Decides (fault.Hold by) (fault.Hold by') = via (Decides-eqb by by') (λ p. λ i. fault.Hold (p i)) (λ e. (cc))
-same_fault-Decides _ _ = (λ h. absurd (true≢false (sym h)), λ e. cc)
-
-pub same_row-Decides : (a b : FaultRow) → Decides (same_row a b) (a ≡ b)
-same_row-Decides a b = via (and-Decides (Decides-eqb a.index b.index) (same_fault-Decides a.fault b.fault)) (λ p. λ i. record { index = p.0 i; fault = p.1 i }) (λ e. (ap (λ (x : FaultRow). x.index) e, ap (λ (x : FaultRow). x.fault) e))
-
-pub same_rows-Decides : (a b : List FaultRow) → Decides (same_rows a b) (a ≡ b)
-same_rows-Decides a b = pointwise_decides same_row-Decides a b
-
 pub same_sub_terms-Decides : (a b : SubTerms) → Decides (same_sub_terms a b) (a ≡ b)
 same_sub_terms-Decides a b = via (and-Decides (and-Decides (and-Decides (and-Decides (and-Decides (Decides-eqb a.topic b.topic) (same_sub_kind-Decides a.kind b.kind)) (Decides-eqb a.queue b.queue)) (Decides-eqb a.cache b.cache)) (Decides-eqb a.recaps b.recaps)) (same_rows-Decides a.faults b.faults)) (λ p. λ i. record { topic = p.0.0.0.0.0 i; kind = p.0.0.0.0.1 i; queue = p.0.0.0.1 i; cache = p.0.0.1 i; recaps = p.0.1 i; faults = p.1 i }) (λ e. (((((ap (λ (x : SubTerms). x.topic) e, ap (λ (x : SubTerms). x.kind) e), ap (λ (x : SubTerms). x.queue) e), ap (λ (x : SubTerms). x.cache) e), ap (λ (x : SubTerms). x.recaps) e), ap (λ (x : SubTerms). x.faults) e))
 
@@ -182,18 +167,6 @@ same_bridge_note-Decides bridged.Bye bridged.Bye = (λ h. refl, λ e. refl)
 same_bridge_note-Decides _ _ = (λ h. absurd (true≢false (sym h)), λ e. cc)
 
 -- so they are equivalences
-pub same_kind_equivalence : IsEquivalence same_kind
-same_kind_equivalence = decided same_kind same_kind-Decides
-
-pub same_quality_equivalence : IsEquivalence same_quality
-same_quality_equivalence = decided same_quality same_quality-Decides
-
-pub same_sub_kind_equivalence : IsEquivalence same_sub_kind
-same_sub_kind_equivalence = decided same_sub_kind same_sub_kind-Decides
-
-pub same_make_equivalence : IsEquivalence same_make
-same_make_equivalence = decided same_make same_make-Decides
-
 pub same_market_msg_equivalence : IsEquivalence same_market_msg
 same_market_msg_equivalence = decided same_market_msg same_market_msg-Decides
 
@@ -211,15 +184,6 @@ same_callback_equivalence = decided same_callback same_callback-Decides
 
 pub same_call_note_equivalence : IsEquivalence same_call_note
 same_call_note_equivalence = decided same_call_note same_call_note-Decides
-
-pub same_fault_equivalence : IsEquivalence same_fault
-same_fault_equivalence = decided same_fault same_fault-Decides
-
-pub same_row_equivalence : IsEquivalence same_row
-same_row_equivalence = decided same_row same_row-Decides
-
-pub same_rows_equivalence : IsEquivalence same_rows
-same_rows_equivalence = decided same_rows same_rows-Decides
 
 pub same_sub_terms_equivalence : IsEquivalence same_sub_terms
 same_sub_terms_equivalence = decided same_sub_terms same_sub_terms-Decides

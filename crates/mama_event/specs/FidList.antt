@@ -1,4 +1,4 @@
--- Which lists of fids can be asked for.
+-- believed: which lists of fids can be asked for.
 use Rattle.std.specs.Prelude.{ℕ, Bool, true, ◌&&◌, nat_le, nat_lt, List, [], ◌∷◌, length}
 
 -- each number is above the one before it, and the first above a bound

@@ -1,4 +1,4 @@
--- The fids of a question, as they lie in the value and as contracts see them.
+-- inner: the fids of a question, as they lie in the value and as contracts see them.
 use Rattle.std.specs.Prelude.{◌≡◌, ℕ, true, ◌+◌, ◌-◌, ◌≤◌, ◌<◌, List, ◌++◌, length, take, drop, replicate}
 use Rattle.std.proofs.Common.{ap, ◌∙◌, sym, arith}
 use Rattle.std.proofs.lemmas.List.{take-append-drop, length-take-le}

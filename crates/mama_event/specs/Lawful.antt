@@ -1,4 +1,4 @@
--- What a port may put: each event fits those before it, and nothing follows a last event.
+-- believed: what a port may put: each event fits those before it, and nothing follows a last event.
 use Rattle.std.specs.Prelude.{◌≡◌, Bool, true, ◌&&◌, not, List, [], ◌∷◌, ◌++◌}
 use Rattle.std.specs.List.{list_any}
 

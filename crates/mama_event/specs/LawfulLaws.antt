@@ -1,4 +1,4 @@
--- The laws of lists that a port may put, whatever the events.
+-- inner: the laws of lists that a port may put, whatever the events.
 use Rattle.std.specs.Prelude.{◌≡◌, Bool, true, false, ◌&&◌, ◌||◌, not, List, [], ◌∷◌, ◌++◌, refl}
 use Rattle.std.specs.List.{list_any}
 use Rattle.std.proofs.Common.{ap, sym, subst, ◌∙◌, append_assoc, append-nil}

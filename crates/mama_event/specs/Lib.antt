@@ -4,7 +4,6 @@ pub mod EqualityLaws
 pub mod FidList
 pub mod Lawful
 pub mod LawfulLaws
-pub mod Laws
 pub mod Listener
 pub mod Object
 pub mod Ports
@@ -13,4 +12,5 @@ pub mod Record
 pub mod ToBridge
 pub mod ToPublisher
 pub mod ToQueue
+pub mod ToService
 pub mod ToTimers

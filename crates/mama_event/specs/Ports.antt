@@ -1,4 +1,4 @@
--- The numbers of the ports of each lane, by the counts of a shape.
+-- believed: the numbers of the ports of each lane, by the counts of a shape.
 use Rattle.std.specs.Prelude.{ℕ, ◌+◌, Bool, ◌&&◌, ◌==◌, nat_lt, nat_le, length}
 use Rattle.mama_event.specs.declared.shape.Shape.{Shape}
 

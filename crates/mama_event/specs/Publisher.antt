@@ -1,4 +1,4 @@
--- What a publisher puts, entry by entry over its journal.
+-- believed: what a publisher puts, entry by entry over its journal.
 use Rattle.std.specs.Prelude.{ℕ, ◌+◌, Bool, true, false, List, [], ◌∷◌, ◌++◌, take, length, filter_map, Option, Some, None, slice_get}
 use Rattle.mama_journal.specs.Journal.{count_of, puts}
 use Rattle.mama_msg.specs.Field.{FieldData}

@@ -1,4 +1,4 @@
--- A publisher's record, and what makes a message of the market genuine.
+-- believed: a publisher's record, and what makes a message of the market genuine.
 use Rattle.std.specs.Prelude.{◌≡◌, ℕ, zero, suc, ◌<◌, ◌≤◌, List, [], slice_index_or, length}
 use Rattle.mama_msg.specs.Field.{FieldData}
 use Rattle.mama_msg.specs.Message.{apply}

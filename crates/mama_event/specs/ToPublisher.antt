@@ -1,4 +1,4 @@
--- What a publisher takes, as plain data, and what the bridge may put to it.
+-- believed: what a publisher takes, as plain data, and what the bridge may put to it.
 use Rattle.std.specs.Prelude.{Bool, true, false, List}
 use Rattle.mama_event.specs.declared.to_publisher.ToPublisher.{ToPublisher}
 use Rattle.mama_event.specs.declared.to_publisher.ToPublisher.TheVariants as event

@@ -1,4 +1,4 @@
--- What a queue takes, as plain data, and what its ports may put: for each slot blocks of one object each.
+-- believed: what a queue takes, as plain data, and what its ports may put: for each slot blocks of one object each.
 use Rattle.std.specs.Prelude.{ℕ, Bool, true, false, ◌&&◌, not, ◌==◌, List, [], ◌∷◌, ◌++◌, filter, fold, length}
 use Rattle.std.specs.List.{list_any}
 use Rattle.mama_event.specs.Object.{same_object}

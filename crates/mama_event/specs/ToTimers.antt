@@ -1,4 +1,4 @@
--- What the timer service takes, as plain data, and what its ports may put.
+-- believed: what the timer service takes, as plain data, and what its ports may put.
 use Rattle.std.specs.Prelude.{ℕ, Bool, true, false, nat_lt, List}
 use Rattle.mama_event.specs.declared.ids.ObjectId.{ObjectId}
 use Rattle.mama_event.specs.declared.shape.Bounds.{Bounds}

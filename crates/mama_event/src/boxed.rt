@@ -21,6 +21,8 @@ impl Listener for Box<dyn Listener + Send> {
 
     ghost heard = { λ b. (Listener-box b).Listener.heard b.value };
 
+    ghost given = { λ b. (Listener-box b).Listener.given b.value };
+
     ghost plan = { λ b. (Listener-box b).Listener.plan b.value };
 
     fn count(&self) -> u64 {

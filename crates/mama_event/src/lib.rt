@@ -3,7 +3,8 @@
 //!
 //! Everything here is plain data, except that an event that makes an object brings its listener. Each event has a
 //! note, which is plain data with the listener's tag in the listener's place: journals are lists of notes. What an
-//! actor does with an event stands in the actor's own crate.
+//! actor does with an event stands in the actor's own crate. [`plain_data_is_compared_exactly`] says of `==` that it
+//! holds exactly where both sides are the same data.
 //!
 //! The trait [`Stream`] says of the events of one lane which lists a port may put, by their notes; `IsLawful` carries
 //! that promise, with `fits` of each lane for what an event asks of those before it. Nothing follows a last event, and
@@ -25,6 +26,7 @@ mod stream;
 mod to_bridge;
 mod to_publisher;
 mod to_queue;
+mod to_service;
 mod to_timers;
 
 pub use callback::{CallNote, Callback};
@@ -41,7 +43,5 @@ pub use stream::{Stream, Tagged};
 pub use to_bridge::{BridgeNote, InboxTerms, SubTerms, ToBridge};
 pub use to_publisher::{PublisherNote, ToPublisher};
 pub use to_queue::{Make, QueueNote, ToQueue};
+pub use to_service::ToService;
 pub use to_timers::{TimersNote, ToTimers};
-
-#[cfg(test)]
-mod tests;

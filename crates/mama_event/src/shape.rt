@@ -1,4 +1,5 @@
 ghost use Rattle.std.specs.Prelude.{◌≡◌, ◌==◌, ◌<◌, length, slice_index};
+ghost use Rattle.std.specs.Str.{bytes_eq};
 
 use std::marker::Model;
 
@@ -21,6 +22,27 @@ impl Model for Topics {
     ghost Value = { List ℕ };
 
     ghost view = { λ t. t.topics.items };
+}
+
+impl PartialEq for Topics {
+    ghost use Rattle.std.specs.Cmp.{partial_equiv_from_equiv};
+    ghost use Rattle.std.specs.Cmp.Lexicographic.{nat_list_eq_equiv};
+
+    ghost eq = { bytes_eq };
+
+    ghost laws = { partial_equiv_from_equiv nat_list_eq_equiv };
+
+    fn eq(&self, other: &Topics) -> bool
+        ensures { result ≡ bytes_eq self.now other.now }
+    {
+        self.as_slice() == other.as_slice()
+    }
+}
+
+impl Eq for Topics {
+    ghost use Rattle.std.specs.Cmp.Lexicographic.{nat_list_eq_equiv};
+
+    ghost laws = { nat_list_eq_equiv };
 }
 
 impl Topics {
@@ -71,7 +93,7 @@ impl Topics {
 
 /// How many actors of each kind there are, and which topic each publisher sends. A publisher's number is below the
 /// length of `publisher_topics` and a client's below `clients`.
-#[derive(Debug, Drop)]
+#[derive(Debug, Drop, PartialEq, Eq)]
 pub struct Shape {
     pub clients: u32,
     pub publisher_topics: Topics,

@@ -7,11 +7,10 @@ use crate::stream::{Stream, Tagged};
 use mama_link::Faults;
 use mama_memory::{Duplicate, OutOfMemory};
 use mama_msg::Msg;
-use std::fmt;
 
 /// What a client asks of a subscription: its topic, its kind, the queue that gets its callbacks, the most updates
 /// that it caches, the most recaps that may be asked for it, and the faults of its link.
-#[derive(Drop)]
+#[derive(Debug, Drop)]
 pub struct SubTerms {
     pub topic: u32,
     pub kind: SubKind,
@@ -39,7 +38,7 @@ impl PartialEq for SubTerms {
             && self.queue == other.queue
             && self.cache == other.cache
             && self.recaps == other.recaps
-            && self.faults.rows() == other.faults.rows()
+            && self.faults == other.faults
     }
 }
 
@@ -47,21 +46,6 @@ impl Eq for SubTerms {
     ghost use Rattle.mama_event.specs.EqualityLaws.{same_sub_terms_equivalence};
 
     ghost laws = { same_sub_terms_equivalence };
-}
-
-impl fmt::Debug for SubTerms {
-    fn fmt<W: fmt::Write>(&self, f: &mut fmt::Formatter<W>) -> fmt::Result {
-        let topic = self.topic;
-        let kind = self.kind;
-        let queue = self.queue;
-        let cache = self.cache;
-        let recaps = self.recaps;
-        let faults = self.faults.rows();
-        write!(
-            f,
-            "SubTerms {{ topic: {topic}, kind: {kind:?}, queue: {queue}, cache: {cache}, recaps: {recaps}, faults: {faults:?} }}"
-        )
-    }
 }
 
 impl Duplicate for SubTerms {
@@ -79,7 +63,7 @@ impl Duplicate for SubTerms {
 }
 
 /// What a client asks of an inbox: the queue that gets its callbacks, and the faults of its link.
-#[derive(Drop)]
+#[derive(Debug, Drop)]
 pub struct InboxTerms {
     pub queue: u32,
     pub faults: Faults,
@@ -98,7 +82,7 @@ impl PartialEq for InboxTerms {
     fn eq(&self, other: &InboxTerms) -> bool
         ensures { result ≡ same_inbox_terms self.now other.now }
     {
-        self.queue == other.queue && self.faults.rows() == other.faults.rows()
+        self.queue == other.queue && self.faults == other.faults
     }
 }
 
@@ -106,14 +90,6 @@ impl Eq for InboxTerms {
     ghost use Rattle.mama_event.specs.EqualityLaws.{same_inbox_terms_equivalence};
 
     ghost laws = { same_inbox_terms_equivalence };
-}
-
-impl fmt::Debug for InboxTerms {
-    fn fmt<W: fmt::Write>(&self, f: &mut fmt::Formatter<W>) -> fmt::Result {
-        let queue = self.queue;
-        let faults = self.faults.rows();
-        write!(f, "InboxTerms {{ queue: {queue}, faults: {faults:?} }}")
-    }
 }
 
 impl Duplicate for InboxTerms {

@@ -1,4 +1,4 @@
--- What lanes carry: pairs of a port's number and what it put.
+-- believed: what lanes carry: pairs of a port's number and what it put.
 use Rattle.std.specs.Prelude.{◌≡◌, ℕ, Bool, true, ◌==◌, List, [], ◌∷◌, ◌++◌, map, if◌then◌else◌, slice_index_or, slice_set}
 use Rattle.std.specs.List.{list_any}
 

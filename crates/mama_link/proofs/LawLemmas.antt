@@ -13,7 +13,8 @@ use Rattle.mama_link.specs.declared.faults.Fault.{Fault}
 use Rattle.mama_link.specs.declared.faults.Fault.TheVariants.{Lose, Dup, Hold}
 use Rattle.mama_link.specs.declared.faults.FaultRow.{FaultRow}
 use Rattle.mama_link.specs.Faults.{fault_at, first_fault}
-use Rattle.mama_link.specs.Link.{is_held_until, is_due, is_held, copies, shares, shared, numbered, messages, emit, held, through, standing_after, coming, held_back, at_place, standing_next}
+use Rattle.mama_link.specs.Link.{is_held_until, is_due, is_held, copies, shares, shared, numbered, messages, emit, held, through, standing_after, coming}
+use Rattle.mama_link.specs.Steps.{held_back, at_place, standing_next}
 use Rattle.mama_link.specs.Laws.{PassesAll, SharesOut, LosesNone, LosesNothing, AtMostTwice}
 use Rattle.mama_link.proofs.LinkLemmas.{HoldsByMore, numbered-more, emit-next, held-next}
 use Rattle.mama_link.proofs.CursorLemmas.{holds_by_more}
@@ -69,7 +70,7 @@ range-more a n = ap (range_with_len a) (add-one n) ∙ by_length a n
 abbrev pub emitted : {T : Type 0} → List FaultRow → List T → List T
 emitted rows x = flat_map (emit rows x) (range_with_len 1 (length x))
 
-emitted-more : {T : Type 0} (rows : List FaultRow) (x : List T) (message : T) → emitted rows (x ++ message ∷ []) ≡ emitted rows x ++ emit rows (x ++ message ∷ []) (length x + 1)
+pub emitted-more : {T : Type 0} (rows : List FaultRow) (x : List T) (message : T) → emitted rows (x ++ message ∷ []) ≡ emitted rows x ++ emit rows (x ++ message ∷ []) (length x + 1)
 emitted-more {T} rows x message =
     let all : List T = x ++ message ∷ [] in
     let long : length all ≡ length x + 1 = length-append x (message ∷ []) in

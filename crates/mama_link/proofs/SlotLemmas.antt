@@ -11,7 +11,8 @@ use Rattle.mama_link.specs.declared.faults.Fault.TheVariants.{Lose, Dup, Hold}
 use Rattle.mama_link.specs.declared.faults.FaultRow.{FaultRow}
 use Rattle.mama_link.specs.Faults.{fault_at}
 use Rattle.mama_link.specs.Table.{holds_until, slots_due}
-use Rattle.mama_link.specs.Link.{is_held_until, is_due, messages, at_place}
+use Rattle.mama_link.specs.Link.{is_held_until, is_due, messages}
+use Rattle.mama_link.specs.Steps.{at_place}
 use Rattle.mama_link.specs.Slots.{no_entry, held_in, due_in, without_due, found_at, taken_at, emptied_at}
 
 -- ---- one slot more

@@ -1,4 +1,4 @@
--- Fault rows: which fault a list of rows tells for an index, and which row of a list is bad first.
+-- believed: fault rows: which fault a list of rows tells for an index, and which row of a list is bad first.
 use Rattle.std.specs.Prelude.{ℕ, Bool, false, ◌==◌, List, [], ◌∷◌, ◌++◌, Option, None, Some, is_some, if◌then◌else◌}
 use Rattle.std.specs.Option.{option_or}
 use Rattle.mama_link.specs.declared.faults.Fault.{Fault}

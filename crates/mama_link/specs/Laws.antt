@@ -1,4 +1,4 @@
--- What a link does to any list of messages.
+-- believed: what a link does to any list of messages.
 use Rattle.std.specs.Prelude.{◌≡◌, ◌≢◌, ℕ, ◌*◌, ◌≤◌, Bool, List, [], None, Some, count_by}
 use Rattle.std.specs.List.{flat_map}
 use Rattle.std.specs.List.Sorted.{IsPermutation}

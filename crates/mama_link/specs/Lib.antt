@@ -1,7 +1,9 @@
+pub mod Equality
+pub mod EqualityLaws
 pub mod Faults
 pub mod Table
-pub mod Outbox
 pub mod Link
+pub mod Steps
 pub mod Prepared
 pub mod Slots
 pub mod Laws

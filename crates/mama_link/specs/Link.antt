@@ -1,5 +1,5 @@
--- What a link lets through. The messages that go into a link are numbered from 1, and `rows` are its fault rows.
-use Rattle.std.specs.Prelude.{◌≡◌, ℕ, ◌+◌, Bool, false, not, ◌==◌, nat_lt, List, [], ◌∷◌, ◌++◌, length, Option, None, Some, filter, map}
+-- believed: what a link lets through. The messages that go into a link are numbered from 1, and `rows` are its fault rows.
+use Rattle.std.specs.Prelude.{◌≡◌, ℕ, ◌+◌, Bool, false, ◌==◌, nat_lt, List, [], ◌∷◌, ◌++◌, length, Option, None, Some, filter, map}
 use Rattle.std.specs.List.{enumerate_from, flat_map, range_with_len}
 use Rattle.mama_link.specs.declared.faults.Fault.{Fault}
 use Rattle.mama_link.specs.declared.faults.Fault.TheVariants.{Lose, Dup, Hold}
@@ -100,23 +100,3 @@ module _ {T : Type 0} where
   abbrev pub coming : Standing T → T → List T
   coming link message =
       copies (fault_at link.rows (link.passed + 1)) message ++ messages (filter (is_due link.rows (link.passed + 1)) link.held)
-
-  -- the message, where its fault holds it back
-  abbrev pub held_back : Option Fault → T → Option T
-  held_back None message = None
-  held_back (Some Lose) message = None
-  held_back (Some Dup) message = None
-  held_back (Some (Hold by)) message = Some message
-
-  -- at a place, nothing or the message of that number
-  abbrev pub at_place : ℕ → Option T → List (ℕ × T)
-  at_place place None = []
-  at_place place (Some message) = (place, message) ∷ []
-
-  -- how a link stands when it passed the message next
-  abbrev pub standing_next : Standing T → T → Standing T
-  standing_next link message = record {
-    rows = link.rows;
-    passed = link.passed + 1;
-    held = filter (λ (entry : ℕ × T). not (is_due link.rows (link.passed + 1) entry)) link.held ++ at_place (link.passed + 1) (held_back (fault_at link.rows (link.passed + 1)) message);
-  }

@@ -1,7 +1,6 @@
--- What contracts see of a prepared pass.
-use Rattle.std.specs.Prelude.{◌≡◌, ℕ, ◌+◌, ◌<◌, length, Option, None, Some, IsSome}
+-- believed: what contracts see of a prepared pass.
+use Rattle.std.specs.Prelude.{◌≡◌, ℕ, ◌+◌, ◌<◌, length, Option, IsSome}
 use Rattle.mama_link.specs.declared.faults.Fault.{Fault}
-use Rattle.mama_link.specs.declared.faults.Fault.TheVariants.{Lose, Dup, Hold}
 use Rattle.mama_link.specs.Faults.{fault_at}
 use Rattle.mama_link.specs.Link.{LinkData, coming}
 
@@ -18,10 +17,3 @@ pub record IsPreparedFor {T : Type 0} (link : LinkData T) (prepared : Readied T)
   pub fault : prepared.fault ≡ fault_at link.standing.rows prepared.place
   pub len : prepared.len ≡ length (coming link.standing prepared.message)
   pub room : IsSome prepared.fault → 0 < link.room
-
--- the copy of a message that its fault repeats
-abbrev pub copy_for : {T : Type 0} → Option Fault → T → Option T
-copy_for None message = None
-copy_for (Some Lose) message = None
-copy_for (Some Dup) message = Some message
-copy_for (Some (Hold by)) message = None

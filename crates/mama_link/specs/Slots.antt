@@ -1,10 +1,10 @@
--- How a link keeps the messages that it holds: a slot for each row whose message came, in the order of indexes, with the message where it is still held.
+-- inner: how a link keeps the messages that it holds: a slot for each row whose message came, in the order of indexes, with the message where it is still held.
 use Rattle.std.specs.Prelude.{◌≡◌, ℕ, ◌<◌, ◌≤◌, ◌==◌, List, [], ◌∷◌, ◌++◌, length, Option, None, Some, slice_index_or, slice_set, option_to_list, if◌then◌else◌}
 use Rattle.std.specs.List.{flat_map}
 use Rattle.mama_link.specs.declared.faults.Fault.{Fault}
 use Rattle.mama_link.specs.declared.faults.Fault.TheVariants.{Lose}
 use Rattle.mama_link.specs.Table.{holds_until}
-use Rattle.mama_link.specs.Link.{at_place}
+use Rattle.mama_link.specs.Steps.{at_place}
 
 -- where no entry stands, an entry that is never looked at
 abbrev pub no_entry : ℕ × Fault

@@ -1,4 +1,4 @@
--- How the rows are kept: by index, and by the place at which a held message is due.
+-- inner: how the rows are kept: by index, and by the place at which a held message is due.
 use Rattle.std.specs.Prelude.{◌≡◌, ℕ, ◌+◌, Bool, false, ◌==◌, List, [], ◌∷◌, Option, None, Some, if◌then◌else◌}
 use Rattle.std.specs.Ordering.{nat_cmp}
 use Rattle.std.specs.BTreeMap.{BTreeMap, get, insert_entry, is_at}

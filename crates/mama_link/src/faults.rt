@@ -232,64 +232,38 @@ impl Faults {
         ensures { IfOk result (λ copy. copy ≡ self.now) }
     {
         let rows = self.rows.clone()?;
-        match Faults::new(*self.rows.allocator(), rows) {
-            Ok(copy) => Ok(copy),
-            Err(_) => Err(OutOfMemory),
-        }
+        let table = self.table.clone()?;
+        let dues = by_place(*self.rows.allocator(), table.as_slice())?;
+        Ok(Faults { rows, table, dues })
     }
 }
 
-#[cfg(test)]
-mod tests {
-    use super::*;
-    use std::test::Fail;
-
-    fn row(index: u32, fault: Fault) -> FaultRow {
-        FaultRow { index, fault }
+impl fmt::Debug for Faults {
+    fn fmt<W: fmt::Write>(&self, f: &mut fmt::Formatter<W>) -> fmt::Result {
+        let rows = self.rows();
+        write!(f, "{rows:?}")
     }
+}
 
-    #[test]
-    fn names_the_first_bad_row(rt: HostRuntime) -> Result<(), Fail> {
-        let lose = Fault::Lose;
-        let cases = [
-            (
-                [row(1, lose), row(1, lose)],
-                FaultsFault::Repeated { index: 1 },
-            ),
-            (
-                [row(1, lose), row(4, Fault::Hold(0))],
-                FaultsFault::ZeroHold { index: 4 },
-            ),
-            (
-                [row(4, lose), row(4, Fault::Hold(0))],
-                FaultsFault::ZeroHold { index: 4 },
-            ),
-            (
-                [row(0, Fault::Hold(0)), row(4, Fault::Hold(0))],
-                FaultsFault::ZeroIndex,
-            ),
-            (
-                [row(4, Fault::Hold(0)), row(0, lose)],
-                FaultsFault::ZeroHold { index: 4 },
-            ),
-        ];
-        for (rows, want) in &cases {
-            let found = Faults::new(rt.alloc(), rows.to_vec(rt.alloc())?);
-            assert_eq!(rt; found.err(), Some(*want));
-        }
-        Ok(())
-    }
+impl PartialEq for Faults {
+    ghost use Rattle.std.specs.Prelude.{◌≡◌};
+    ghost use Rattle.std.specs.Cmp.{partial_equiv_from_equiv};
+    ghost use Rattle.mama_link.specs.Equality.{same_rows};
+    ghost use Rattle.mama_link.specs.EqualityLaws.{same_rows_equivalence};
 
-    #[test]
-    fn keeps_the_rows_in_their_order(rt: HostRuntime) -> Result<(), Fail> {
-        let rows = [
-            row(u32::MAX, Fault::Hold(u32::MAX)),
-            row(7, Fault::Dup),
-            row(1, Fault::Lose),
-        ];
-        let faults = Faults::new(rt.alloc(), rows.to_vec(rt.alloc())?)?;
-        assert_eq!(rt; faults.try_clone()?.rows(), rows.as_slice());
-        assert!(rt; Faults::none(rt.alloc()).rows().is_empty());
-        Ok(())
+    ghost eq = { same_rows };
+
+    ghost laws = { partial_equiv_from_equiv same_rows_equivalence };
+
+    fn eq(&self, other: &Faults) -> bool
+        ensures { result ≡ same_rows self.now other.now }
+    {
+        self.rows() == other.rows()
     }
+}
+
+impl Eq for Faults {
+    ghost use Rattle.mama_link.specs.EqualityLaws.{same_rows_equivalence};
+
+    ghost laws = { same_rows_equivalence };
 }

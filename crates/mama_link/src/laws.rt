@@ -1,4 +1,8 @@
+ghost use Rattle.std.specs.Prelude.{◌≡◌, List};
+ghost use Rattle.std.specs.Bool.{Decides};
 ghost use Rattle.mama_link.specs.Laws.{PassesAll, SharesOut, LosesNothing, AtMostTwice};
+
+use crate::faults::{Fault, FaultRow, Faults};
 
 /// Without rows a link is the identity. The contract is the law; the call does nothing.
 pub fn passes_all<T>()
@@ -19,4 +23,12 @@ pub fn loses_nothing<T>()
 /// Each message comes out at most twice. The contract is the law; the call does nothing.
 pub fn at_most_twice<T>()
     ensures { AtMostTwice T }
+{}
+
+/// `==` of faults, of rows and of lists of rows holds exactly where both sides are the same data. The contract is the
+/// law; the call does nothing.
+pub fn faults_are_compared_exactly()
+    ensures fault { (a b : Fault) → Decides (⟦<Fault as PartialEq>⟧.eq a b) (a ≡ b) }
+    ensures row { (a b : FaultRow) → Decides (⟦<FaultRow as PartialEq>⟧.eq a b) (a ≡ b) }
+    ensures faults { (a b : List FaultRow) → Decides (⟦<Faults as PartialEq>⟧.eq a b) (a ≡ b) }
 {}

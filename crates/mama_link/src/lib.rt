@@ -7,7 +7,7 @@
 //! puts out, for every list for which the link stood, and that the link stands for one message more.
 //!
 //! [`passes_all`], [`shares_out`], [`loses_nothing`] and [`at_most_twice`] are laws of those definitions: their contracts
-//! are the laws, and the calls do nothing.
+//! are the laws, and the calls do nothing. [`faults_are_compared_exactly`] says the same of `==`.
 //!
 //! A pass costs time by what comes out at its place, and a logarithm of the number of rows. A link keeps a slot for each
 //! row whose message came, and the slots that are due at a place are listed when the rows are read ([`Faults::new`]).
@@ -16,13 +16,11 @@
 mod faults;
 mod laws;
 mod link;
-mod outbox;
 mod prepared;
 mod slots;
 
 pub use faults::{Fault, FaultRow, Faults, FaultsFault};
-pub use laws::{at_most_twice, loses_nothing, passes_all, shares_out};
+pub use laws::{at_most_twice, faults_are_compared_exactly, loses_nothing, passes_all, shares_out};
 pub use link::Link;
 pub use mama_memory::{Duplicate, OutOfMemory};
-pub use outbox::Outbox;
 pub use prepared::Prepared;

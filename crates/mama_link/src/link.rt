@@ -4,10 +4,9 @@ ghost use Rattle.mama_link.specs.Link.{emit, rest, messages, standing_after, Sta
 ghost use Rattle.mama_link.specs.Prepared.{IsPreparedFor};
 
 use crate::faults::Faults;
-use crate::outbox::Outbox;
 use crate::prepared::Prepared;
 use crate::slots::{count_found, count_slot, fault_at_cursor, keep, make_room, put_all, release};
-use mama_memory::{Duplicate, OutOfMemory};
+use mama_memory::{Duplicate, OutOfMemory, Outbox};
 use std::alloc::Global;
 use std::marker::Model;
 
@@ -81,7 +80,8 @@ impl<T: Duplicate> Link<T> {
     }
 
     /// Makes the copies and the room that the next pass takes, which is to be of this message. What the link holds stays,
-    /// and what was prepared before stays prepared.
+    /// and what was prepared before stays prepared. The error is want of memory, and also the answer of a link that
+    /// 2^64 - 1 messages have passed.
     pub fn prepare(&mut self, message: &T) -> Result<Prepared<T>, OutOfMemory>
         ensures prepared { IfOk result (λ prepared. IsPreparedFor self.new prepared) }
         ensures message { IfOk result (λ prepared. prepared.message ≡ message.now) }
@@ -151,6 +151,3 @@ impl<T: Duplicate> Link<T> {
         Ok(())
     }
 }
-
-#[cfg(test)]
-mod tests;

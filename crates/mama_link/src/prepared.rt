@@ -1,10 +1,9 @@
 ghost use Rattle.std.specs.Prelude.{◌≡◌, ◌+◌, ◌<◌, ◌≤◌, ◌^◌, ◌++◌, ◌↔◌, length, IsTrue, IfOk, IfErr};
-ghost use Rattle.mama_link.specs.Link.{copies, held_back};
-ghost use Rattle.mama_link.specs.Prepared.{copy_for};
+ghost use Rattle.mama_link.specs.Link.{copies};
+ghost use Rattle.mama_link.specs.Steps.{held_back, copy_for};
 
 use crate::faults::Fault;
-use crate::outbox::Outbox;
-use mama_memory::Duplicate;
+use mama_memory::{Duplicate, Outbox};
 use std::marker::Model;
 
 /// A pass of one message through a link, for which all memory is there.
@@ -19,7 +18,8 @@ pub struct Prepared<T> {
 
 impl<T> Model for Prepared<T> {
     ghost use Rattle.std.specs.Prelude.{◌≡◌};
-    ghost use Rattle.mama_link.specs.Prepared.{Readied, copy_for};
+    ghost use Rattle.mama_link.specs.Prepared.{Readied};
+    ghost use Rattle.mama_link.specs.Steps.{copy_for};
 
     ghost Value = { Readied T };
 

@@ -4,8 +4,7 @@ ghost use Rattle.std.specs.Vec.{vec_capacity};
 ghost use Rattle.mama_link.specs.Slots.{fault_here, found_at, taken_at, emptied_at};
 
 use crate::faults::Fault;
-use crate::outbox::Outbox;
-use mama_memory::OutOfMemory;
+use mama_memory::{OutOfMemory, Outbox};
 
 /// The fault of the entry at the cursor, if it is the entry of the place.
 pub(crate) fn fault_at_cursor(table: &[(u32, Fault)], cursor: usize, place: u64) -> Option<Fault>

@@ -6,7 +6,7 @@ use Rattle.std.proofs.lemmas.List.{take_all}
 use Rattle.mama_event.specs.declared.order.PlanRow.{PlanRow}
 use Rattle.mama_event.specs.Listener.{planned}
 use Rattle.mama_listener.specs.Plan.{HasFewRows}
-use Rattle.mama_listener.proofs.Plans.{planned_taken, planned_left}
+use Rattle.mama_listener.proofs.Plans.{planned_taken, planned_left, room_for_planned}
 
 -- the counts of the first rows, of which none is above 8
 pub record AreCounts (count : ℕ → Option ℕ) (rows : List PlanRow) (i : ℕ) : Type 0 where
@@ -49,3 +49,9 @@ counts_none count rows none = record { each = λ call. ap (λ (x : Option ℕ). 
 
 pub few_counted : (count : ℕ → Option ℕ) (rows : List PlanRow) (i : ℕ) → AreCounts count rows i → length rows ≤ i → HasFewRows rows
 few_counted count rows i counts whole = record { most = λ call. subst (λ (rs : List PlanRow). length (planned rs call) ≤ 8) (take_all i rows whole) (counts.most call) }
+
+-- a row whose call had 8 orders before it is one too many
+pub one_too_many : (count : ℕ → Option ℕ) (rows : List PlanRow) (i : ℕ) (row : PlanRow) → AreCounts count rows i → i < length rows → row ≡ get_or rows i row
+    → 8 ≤ unwrap_or (count row.call) 0 → HasFewRows rows → ⊥
+one_too_many count rows i row counts within here many few =
+    omega (arith, counts.each row.call, room_for_planned rows i row row.call few within (ap (λ (r : PlanRow). r.call) (sym here)), many)

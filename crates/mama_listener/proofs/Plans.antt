@@ -1,6 +1,8 @@
 -- The orders of a plan for one call, row by row.
-use Rattle.std.specs.Prelude.{filter, map, not, if◌then◌else◌, Result, Ok, Err, is_ok, OnOk}
-use Rattle.std.specs.Ordering.{nat_cmp, is_lt}
+use Rattle.std.specs.Prelude.{filter, map, not, if◌then◌else◌, Some, Result, Ok, Err, is_ok, OnOk}
+use Rattle.std.specs.Ordering.{nat_cmp, is_lt, is_le, is_some_and}
+use Rattle.std.specs.List.{IsAllAdjacentAnswer}
+use Rattle.std.proofs.lemmas.List.Sorted.{IsNonDecreasingBy-from_all_adjacent}
 use Rattle.std.specs.List.Sorted.{IsNonDecreasingBy, IsStableByKey}
 use Rattle.std.proofs.Common.{◌≡◌, ℕ, zero, suc, ◌+◌, ◌<◌, ◌≤◌, Bool, true, false, cond, ◌&&◌, ◌==◌, List, [], ◌∷◌, ◌++◌, length, take, drop, get_or, refl, ap, sym, ◌∙◌, inl, inr, append-nil, append_assoc, length-append, arith}
 use Rattle.std.proofs.lemmas.List.{take_more, take_all, take-append-drop, get_or_default}
@@ -10,7 +12,8 @@ use Rattle.mama_event.specs.declared.order.Order.{Order}
 use Rattle.mama_event.specs.declared.order.Order.TheVariants as order
 use Rattle.mama_event.specs.declared.order.PlanRow.{PlanRow}
 use Rattle.mama_event.specs.Listener.{planned}
-use Rattle.mama_listener.specs.Plan.{call_of, HasFewRows, IsSameByCall, IsPassed}
+use Rattle.mama_listener.specs.Passed.{IsPassed}
+use Rattle.mama_listener.specs.Plan.{call_of, HasFewRows, IsSameByCall}
 
 -- the order of a row, if it is for this call
 abbrev pub given_by : ℕ → PlanRow → List Order
@@ -140,3 +143,11 @@ same_by_call before after stable = record {
 pub on_ok : {T E P : Type 0} (r : Result T E) → is_ok r ≡ true → OnOk r P → P
 on_ok (Ok x) went h = h
 on_ok (Err e) went h = absurd (false≢true went)
+
+-- rows of which each and the next are in order ascend
+not_after : (a b : ℕ) → true ≡ is_some_and is_le (Some (nat_cmp a b)) → a ≤ b
+not_after a b tested = grind (arith, common_steps)
+
+pub ascend_by_pairs : (rows : List PlanRow) (answer : Bool) → IsAllAdjacentAnswer (λ (x y : PlanRow) (b : Bool). b ≡ is_some_and is_le (Some (nat_cmp x.call y.call))) rows answer → answer ≡ true → IsNonDecreasingBy call_of rows
+ascend_by_pairs rows true pairs tested = IsNonDecreasingBy-from_all_adjacent call_of rows (λ k d within. not_after _ _ (pairs k d within))
+ascend_by_pairs rows false pairs tested = absurd (false≢true tested)

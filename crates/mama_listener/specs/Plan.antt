@@ -1,5 +1,5 @@
--- The rows of a plan, by the calls that they are for.
-use Rattle.std.specs.Prelude.{◌≡◌, ℕ, ◌<◌, ◌≤◌, List, length, slice_index_or}
+-- believed: The rows of a plan, by the calls that they are for.
+use Rattle.std.specs.Prelude.{◌≡◌, ℕ, ◌≤◌, List, length}
 use Rattle.mama_event.specs.declared.order.PlanRow.{PlanRow}
 use Rattle.mama_event.specs.Listener.{planned}
 
@@ -13,7 +13,3 @@ pub record HasFewRows (rows : List PlanRow) : Type 0 where
 -- both plans have the same orders for each call
 pub record IsSameByCall (before after : List PlanRow) : Type 0 where
   pub same : (call : ℕ) → planned after call ≡ planned before call
-
--- the rows before a place are for earlier calls
-pub record IsPassed (rows : List PlanRow) (place call : ℕ) : Type 0 where
-  pub each : (k : ℕ) (d : PlanRow) → k < place → (slice_index_or rows k d).call < call

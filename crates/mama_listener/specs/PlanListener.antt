@@ -1,10 +1,11 @@
--- What a plan listener keeps.
+-- inner: What a plan listener keeps.
 use Rattle.std.specs.Prelude.{◌≡◌, ◌+◌, ◌≤◌, true, List, length, Option, None, Some}
 use Rattle.std.specs.Global.{Vec}
 use Rattle.std.specs.List.Sorted.{IsNonDecreasingBy}
 use Rattle.mama_event.specs.declared.callback.Callback.{Callback}
 use Rattle.mama_listener.specs.declared.plan_listener.PlanListener.TheInside.{Inside}
-use Rattle.mama_listener.specs.Plan.{call_of, HasFewRows, IsPassed}
+use Rattle.mama_listener.specs.Plan.{call_of, HasFewRows}
+use Rattle.mama_listener.specs.Passed.{IsPassed}
 
 -- the callbacks that were kept
 abbrev pub heard_by : Option (Vec Callback) → Option (List Callback)

@@ -1,4 +1,4 @@
-ghost use Rattle.std.specs.Prelude.{◌≡◌, ◌+◌, true, IfOk, nat_eq, unwrap_or};
+ghost use Rattle.std.specs.Prelude.{◌≡◌, ◌↔◌, ◌+◌, true, IfOk, nat_eq, unwrap_or};
 ghost use Rattle.indexmap.specs.IndexMap.{get};
 ghost use Rattle.mama_listener.specs.Plan.{HasFewRows};
 
@@ -17,9 +17,10 @@ fn counted(counts: &IndexMap<u32, usize>, call: u32) -> usize
     }
 }
 
-/// Whether at most 8 rows of a plan are for one call, so that a listener can give all its orders.
+/// Whether at most 8 rows of a plan are for one call, so that a listener can give all its orders. The error is want of
+/// memory.
 pub fn has_few_rows(alloc: Global, rows: &[PlanRow]) -> Result<bool, OutOfMemory>
-    ensures { IfOk result (λ few. few ≡ true → HasFewRows rows.now) }
+    ensures { IfOk result (λ few. (few ≡ true) ↔ HasFewRows rows.now) }
 {
     let mut counts: IndexMap<u32, usize> = IndexMap::new(alloc);
     for row in rows {

@@ -1,12 +1,12 @@
-ghost use Rattle.std.specs.Prelude.{◌≡◌, [], ◌∷◌, Some, IfOk};
+ghost use Rattle.std.specs.Prelude.{◌≡◌, [], ◌∷◌, Some, None, IfOk};
 ghost use Rattle.std.specs.Option.{option_copied};
 ghost use Rattle.mama_event.specs.declared.callback.Callback.{Callback};
 ghost use Rattle.mama_event.specs.declared.callback.Callback.TheVariants as on;
-ghost use Rattle.mama_event.specs.Listener.{risen, Heard, HeardNext, IsPlanned, PlansAs};
+ghost use Rattle.mama_event.specs.Listener.{risen, Heard, HeardNext, IsPlanned};
 ghost use Rattle.mama_listener.specs.Plan.{HasFewRows};
 ghost use Rattle.mama_listener.specs.PlanListener.{heard_by};
 
-use crate::planned::{give_by_look, give_from, sort_rows};
+use crate::planned::{are_in_order, give_by_look, give_from};
 use mama_event::{
     Callback, Duplicate, Listener, MarketMsg, ObjectId, Orders, PlanRow, Quality, Tagged,
 };
@@ -32,31 +32,28 @@ impl Model for PlanListener {
 
     ghost Value = { ListenerData };
 
-    ghost use Rattle.std.specs.Prelude.{Some};
+    ghost use Rattle.std.specs.Prelude.{Some, None};
     ghost use Rattle.mama_listener.specs.PlanListener.{heard_by, IsReady};
 
-    ghost view = { λ l. record { tag = l.tag; calls = l.count; heard = heard_by l.heard; plan = Some l.rows.items } };
+    ghost view = { λ l. record { tag = l.tag; calls = l.count; heard = heard_by l.heard; given = None; plan = Some l.rows.items } };
 
     ghost invariant = { λ l. IsReady l };
 }
 
 impl PlanListener {
-    /// A listener for this object with this plan, which has had no calls yet. It takes no memory, but where it finds
-    /// some it puts the rows in order, so that a callback costs the orders of its number alone.
+    /// A listener for this object with this plan, which it tells, and which has had no calls yet. It takes no memory.
+    ///
+    /// Where the rows are in order of their calls, as `order_rows` leaves them, a callback costs the orders of its
+    /// number alone; else it costs a look at each row.
     pub fn new(alloc: Global, tag: ObjectId, plan: Vec<PlanRow>) -> PlanListener
         requires { HasFewRows plan.items }
-        ensures tag { result.tag ≡ tag }
-        ensures calls { result.calls ≡ 0 }
-        ensures heard { result.heard ≡ Some [] }
-        ensures plan { PlansAs result.plan plan.items }
+        ensures { result ≡ record { tag = tag; calls = 0; heard = Some []; given = None; plan = Some plan.items } }
     {
-        let mut rows = plan;
-        let sorted = sort_rows(&mut rows);
         PlanListener {
             tag,
             count: 0,
-            rows,
-            sorted,
+            sorted: are_in_order(&plan),
+            rows: plan,
             next: 0,
             heard: Some(Vec::new(alloc)),
         }
@@ -78,6 +75,7 @@ impl PlanListener {
         ensures tag { self.new.tag ≡ self.old.tag }
         ensures calls { self.new.calls ≡ risen self.old.calls }
         ensures heard { self.new.heard ≡ self.old.heard }
+        ensures given { self.new.given ≡ None }
         ensures plan { self.new.plan ≡ self.old.plan }
         ensures orders { IsPlanned self.old.plan self.new.calls orders.new }
     {
@@ -144,6 +142,8 @@ impl Listener for PlanListener {
     ghost calls = { λ l. l.calls };
 
     ghost heard = { λ l. l.heard };
+
+    ghost given = { λ l. l.given };
 
     ghost plan = { λ l. l.plan };
 

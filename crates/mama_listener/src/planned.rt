@@ -1,16 +1,25 @@
 ghost use Rattle.std.specs.Prelude.{◌≡◌, ℕ, ◌<◌, ◌≤◌, ◌+◌, [], length, IsTrue};
 ghost use Rattle.std.specs.List.Sorted.{IsNonDecreasingBy};
 ghost use Rattle.mama_event.specs.Listener.{planned};
-ghost use Rattle.mama_listener.specs.Plan.{call_of, IsPassed, HasFewRows, IsSameByCall};
+ghost use Rattle.mama_listener.specs.Passed.{IsPassed};
+ghost use Rattle.mama_listener.specs.Plan.{call_of, HasFewRows, IsSameByCall};
 
 use mama_event::{Orders, PlanRow};
 
-/// Puts the rows in order of their calls, where memory is found for it: then the answer is true.
-pub(crate) fn sort_rows(rows: &mut Vec<PlanRow>) -> bool
+/// Puts the rows of a plan in order of their calls, where memory is found for it: then the answer is true. Rows of one
+/// call stay in their order, so that the plan has the same orders for each call, whatever the answer is.
+pub fn order_rows(rows: &mut Vec<PlanRow>) -> bool
     ensures sorted { IsTrue result → IsNonDecreasingBy call_of rows.new.items }
     ensures same { IsSameByCall rows.old.items rows.new.items }
 {
     rows.sort_by_key(|row| row.call).is_ok()
+}
+
+/// Whether the rows are in order of their calls.
+pub(crate) fn are_in_order(rows: &[PlanRow]) -> bool
+    ensures { IsTrue result → IsNonDecreasingBy call_of rows.now }
+{
+    rows.is_sorted_by_key(|row| row.call)
 }
 
 /// Gives the orders of the rows for a call, by a look at each row.

@@ -1,4 +1,5 @@
-//! What every layer says of memory: the answer of a call that found none, and copies that may be refused.
+//! What every layer says of memory: the answer of a call that found none, copies that may be refused, and a list that
+//! knows how much room it has ([`Outbox`]).
 //!
 //! No clause of this repository ties an [`OutOfMemory`] to its cause. Contracts say what stands after that
 //! answer, and tests show that it is not given where there is ample memory.
@@ -6,6 +7,9 @@
 
 ghost use Rattle.std.specs.Prelude.{◌≡◌, IfOk};
 
+mod outbox;
+
+pub use outbox::Outbox;
 use std::alloc::{AllocError, AllocFailed};
 use std::error::Error;
 use std::fmt;

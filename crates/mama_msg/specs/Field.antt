@@ -1,4 +1,4 @@
--- A field as contracts see it, and its key.
+-- believed: a field as contracts see it, and its key.
 use Rattle.std.specs.Prelude.{◌≡◌, ◌≢◌, ℕ, Bool, false, ◌==◌, List, [], if◌then◌else◌}
 use Rattle.std.specs.Str.{bytes_eq}
 use Rattle.mama_msg.specs.declared.value.Value.{Value}

@@ -1,4 +1,4 @@
--- What the getters answer.
+-- believed: what the getters answer.
 use Rattle.std.specs.Prelude.{ℕ, ◌&&◌, nat_le, int_le, ℤ, pos, negsuc, Bool, List, Option, Some, None, Result, Ok, Err, if◌then◌else◌}
 use Rattle.std.specs.Option.{ok_or}
 use Rattle.mama_msg.specs.Price.{PriceData}

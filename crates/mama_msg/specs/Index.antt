@@ -1,4 +1,4 @@
--- How a message is kept: an entry for each field, in order, under the field's key.
+-- inner: how a message is kept: an entry for each field, in order, under the field's key.
 use Rattle.std.specs.Prelude.{◌≡◌, List, map}
 use Rattle.std.specs.Map.{values_of}
 use Rattle.mama_msg.specs.declared.field.Key.{Key}

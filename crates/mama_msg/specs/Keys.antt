@@ -1,4 +1,4 @@
--- The test of two keys is exact: it holds where the keys are one, and nowhere else.
+-- inner: the test of two keys is exact: it holds where the keys are one, and nowhere else.
 use Rattle.std.specs.Prelude.{◌≡◌}
 use Rattle.std.specs.Bool.{Decides}
 use Rattle.std.specs.Cmp.{IsEquivalence, decided}

@@ -1,4 +1,4 @@
--- What holds of all messages and updates.
+-- believed: what holds of all messages and updates.
 use Rattle.std.specs.Prelude.{◌≡◌, ℕ, ◌+◌, false, not, List, [], length, fold, count_by, Some, if◌then◌else◌, slice_get}
 use Rattle.mama_msg.specs.declared.field.Key.{Key}
 use Rattle.mama_msg.specs.Field.{FieldData, key_of}

@@ -1,4 +1,5 @@
 pub mod Name
+pub mod Padding
 pub mod Price
 pub mod Value
 pub mod Field
@@ -8,3 +9,4 @@ pub mod Index
 pub mod Laws
 pub mod Get
 pub mod Equality
+pub mod EqualityLaws

@@ -1,4 +1,4 @@
--- A message is the list of its fields, which have distinct keys.
+-- believed: a message is the list of its fields, which have distinct keys.
 use Rattle.std.specs.Prelude.{◌≡◌, ℕ, Bool, false, not, ◌==◌, List, [], ◌∷◌, ◌++◌, map, filter, Option, unwrap_or, find, if◌then◌else◌}
 use Rattle.std.specs.List.{list_any}
 use Rattle.std.specs.Str.{bytes_eq}

@@ -1,4 +1,4 @@
--- A price as contracts see it.
+-- believed: a price as contracts see it.
 use Rattle.std.specs.Prelude.{ℕ, ℤ}
 
 -- the mantissa divided by ten to the power of the decimals

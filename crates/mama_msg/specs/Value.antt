@@ -1,4 +1,4 @@
--- What the parts of a value may be.
+-- believed: what the parts of a value may be.
 use Rattle.std.specs.Prelude.{ℕ, ◌≤◌, ◌≡◌, Bool, true, ◌&&◌, nat_le, List, length}
 use Rattle.std.specs.List.{list_all}
 

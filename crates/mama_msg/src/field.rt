@@ -146,7 +146,8 @@ impl Field {
 
 impl PartialEq for Field {
     ghost use Rattle.std.specs.Cmp.{partial_equiv_from_equiv};
-    ghost use Rattle.mama_msg.specs.Equality.{same_field, same_field_equivalence};
+    ghost use Rattle.mama_msg.specs.Equality.{same_field};
+    ghost use Rattle.mama_msg.specs.EqualityLaws.{same_field_equivalence};
 
     ghost eq = { same_field };
 
@@ -161,7 +162,7 @@ impl PartialEq for Field {
 }
 
 impl Eq for Field {
-    ghost use Rattle.mama_msg.specs.Equality.{same_field_equivalence};
+    ghost use Rattle.mama_msg.specs.EqualityLaws.{same_field_equivalence};
 
     ghost laws = { same_field_equivalence };
 }

@@ -29,6 +29,3 @@ pub use price::Price;
 pub use raw::BytesValue;
 pub use text::{TextValue, is_printable};
 pub use value::Value;
-
-#[cfg(test)]
-mod tests;

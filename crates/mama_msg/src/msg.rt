@@ -254,7 +254,8 @@ impl Duplicate for Msg {
 }
 
 impl PartialEq for Msg {
-    ghost use Rattle.mama_msg.specs.Equality.{same_message, same_message_equivalence};
+    ghost use Rattle.mama_msg.specs.Equality.{same_message};
+    ghost use Rattle.mama_msg.specs.EqualityLaws.{same_message_equivalence};
 
     ghost eq = { same_message };
 
@@ -269,7 +270,7 @@ impl PartialEq for Msg {
 }
 
 impl Eq for Msg {
-    ghost use Rattle.mama_msg.specs.Equality.{same_message_equivalence};
+    ghost use Rattle.mama_msg.specs.EqualityLaws.{same_message_equivalence};
 
     ghost laws = { same_message_equivalence };
 }

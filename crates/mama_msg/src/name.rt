@@ -24,7 +24,7 @@ impl Model for Name {
 
     ghost Value = { List ℕ };
 
-    ghost use Rattle.mama_msg.specs.Name.{text_of, IsPadded, inside_of, inside_of-text_of};
+    ghost use Rattle.mama_msg.specs.Padding.{text_of, IsPadded, inside_of, inside_of-text_of};
 
     ghost view = { text_of };
 

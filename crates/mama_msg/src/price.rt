@@ -58,7 +58,8 @@ impl Price {
 }
 
 impl PartialEq for Price {
-    ghost use Rattle.mama_msg.specs.Equality.{same_price, same_price_equivalence};
+    ghost use Rattle.mama_msg.specs.Equality.{same_price};
+    ghost use Rattle.mama_msg.specs.EqualityLaws.{same_price_equivalence};
 
     ghost eq = { same_price };
 
@@ -73,7 +74,7 @@ impl PartialEq for Price {
 }
 
 impl Eq for Price {
-    ghost use Rattle.mama_msg.specs.Equality.{same_price_equivalence};
+    ghost use Rattle.mama_msg.specs.EqualityLaws.{same_price_equivalence};
 
     ghost laws = { same_price_equivalence };
 }

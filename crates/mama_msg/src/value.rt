@@ -65,7 +65,8 @@ impl Value {
 }
 
 impl PartialEq for Value {
-    ghost use Rattle.mama_msg.specs.Equality.{same_value, same_value_equivalence};
+    ghost use Rattle.mama_msg.specs.Equality.{same_value};
+    ghost use Rattle.mama_msg.specs.EqualityLaws.{same_value_equivalence};
 
     ghost eq = { same_value };
 
@@ -96,7 +97,7 @@ impl PartialEq for Value {
 }
 
 impl Eq for Value {
-    ghost use Rattle.mama_msg.specs.Equality.{same_value_equivalence};
+    ghost use Rattle.mama_msg.specs.EqualityLaws.{same_value_equivalence};
 
     ghost laws = { same_value_equivalence };
 }

@@ -9,7 +9,7 @@ use Rattle.mama_msg.specs.Field.{FieldData}
 use Rattle.mama_payload.specs.declared.fault.Fault.{Fault}
 use Rattle.mama_payload.specs.declared.fault.Stop.{Stop}
 use Rattle.mama_payload.specs.declared.fault.Stop.TheVariants as stops
-use Rattle.mama_payload.specs.Stop.{Stops}
+use Rattle.mama_payload.specs.Giving.{Stops}
 use Rattle.mama_payload.specs.Reading.{field_at, fields_at}
 
 -- ---- reading

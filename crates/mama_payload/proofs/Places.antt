@@ -9,7 +9,8 @@ use Rattle.mama_payload.specs.declared.fault.DecodeFault.{DecodeFault}
 use Rattle.mama_payload.specs.declared.fault.DecodeFault.TheVariants as faults
 use Rattle.mama_payload.specs.declared.fault.Stop.{Stop}
 use Rattle.mama_payload.specs.declared.fault.Stop.TheVariants as stops
-use Rattle.mama_payload.specs.Stop.{fault_at, Stops, IsWithin}
+use Rattle.mama_payload.specs.Stop.{fault_at}
+use Rattle.mama_payload.specs.Giving.{Stops, IsWithin}
 use Rattle.mama_payload.specs.Reading.{message_at, ended, whole, broken, placed, decoded}
 use Rattle.mama_payload.proofs.Going.{later, failed, failed_with, failed_is, bind_err}
 use Rattle.mama_payload.proofs.GoingOn.{message_goes}

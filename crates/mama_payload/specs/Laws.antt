@@ -1,4 +1,4 @@
--- What holds of all spellings and of all bytes.
+-- believed: what holds of all spellings and of all bytes.
 use Rattle.std.specs.Prelude.{◌≡◌, ◌≢◌, ℕ, List, ◌∷◌, ◌++◌, length, Ok, Err}
 use Rattle.mama_msg.specs.Field.{FieldData}
 use Rattle.mama_payload.specs.declared.fault.DecodeFault.{DecodeFault}

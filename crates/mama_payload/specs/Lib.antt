@@ -1,4 +1,5 @@
 pub mod Stop
+pub mod Giving
 pub mod Spelling
 pub mod Reading
 pub mod Laws

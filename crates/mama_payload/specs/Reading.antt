@@ -1,4 +1,4 @@
--- Reading from the front, with the first fault that is met. A reader answers a value and the bytes after it.
+-- believed: reading from the front, with the first fault that is met. A reader answers a value and the bytes after it.
 use Rattle.std.specs.Prelude.{ℕ, ℤ, zero, suc, ◌-◌, Bool, true, false, ◌&&◌, List, [], ◌∷◌, ◌++◌, length, take, drop, Option, Some, None, Result, Ok, Err, nat_lt, ◌==◌, if◌then◌else◌}
 use Rattle.std.specs.Int.{Width, w8, w16, w32, w64, byte_len, from_be_bytes, cast_signed}
 use Rattle.mama_msg.specs.declared.value.Value.{Value}

@@ -1,4 +1,4 @@
--- The one spelling of a message, payload version 1. All numbers have the most significant byte first; signed ones are
+-- believed: the one spelling of a message, payload version 1. All numbers have the most significant byte first; signed ones are
 -- two's complement.
 use Rattle.std.specs.Prelude.{ℕ, ℤ, ◌<◌, ◌≤◌, ◌^◌, true, false, List, [], ◌∷◌, ◌++◌, length}
 use Rattle.std.specs.List.{flat_map, AllByRecursion}

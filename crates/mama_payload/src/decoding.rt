@@ -2,7 +2,7 @@
 ghost use Rattle.std.specs.Prelude.{◌≡◌, ◌⊎◌, false, List, [], ◌∷◌, ◌++◌, length, IfOk, OnOk, IfErr, Ok, Err};
 ghost use Rattle.mama_msg.specs.Field.{FieldData, key_of};
 ghost use Rattle.mama_msg.specs.Message.{has_key};
-ghost use Rattle.mama_payload.specs.Stop.{Gives, IsWithin};
+ghost use Rattle.mama_payload.specs.Giving.{Gives, IsWithin};
 ghost use Rattle.mama_payload.specs.Spelling.{spelling, HasSpelling};
 ghost use Rattle.mama_payload.specs.Reading.{field_at, fields_at, version_at, message_at, whole, broken, stopped, decoded};
 

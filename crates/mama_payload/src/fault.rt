@@ -6,7 +6,7 @@ use std::error::Error;
 use std::fmt;
 
 /// A rule of the payload that bytes can break.
-#[derive(Clone, Copy, Debug, PartialEq, Eq)]
+#[derive(Clone, Copy)]
 pub enum Rule {
     Truncated,
     BadTag,
@@ -17,21 +17,21 @@ pub enum Rule {
 }
 
 /// A broken rule, and how many bytes are left from the place on at which it is broken.
-#[derive(Clone, Copy, Debug, PartialEq, Eq)]
+#[derive(Clone, Copy)]
 pub struct Fault {
     pub rule: Rule,
     pub left: usize,
 }
 
 /// Why reading stopped.
-#[derive(Clone, Copy, Debug, PartialEq, Eq)]
+#[derive(Clone, Copy)]
 pub enum Stop {
     OutOfMemory,
     Fault(Fault),
 }
 
 impl Stop {
-    ghost use Rattle.mama_payload.specs.Stop.{stop_at};
+    ghost use Rattle.mama_payload.specs.Giving.{stop_at};
 
     /// A rule is broken at the first of these bytes.
     pub fn at(rule: Rule, bytes: &[u8]) -> Stop

@@ -1,7 +1,7 @@
 //! Names and texts, byte by byte.
 ghost use Rattle.std.specs.Prelude.{◌≡◌, true, length, IfOk};
 ghost use Rattle.std.specs.List.{list_all};
-ghost use Rattle.mama_payload.specs.Stop.{Gives};
+ghost use Rattle.mama_payload.specs.Giving.{Gives};
 ghost use Rattle.mama_payload.specs.Reading.{allowed, letters_at};
 
 use crate::fault::{Rule, Stop};

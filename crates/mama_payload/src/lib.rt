@@ -25,8 +25,3 @@ pub use encoding::{MAX_FIELDS, VERSION, encode};
 pub use fault::{DecodeFault, EncodeFault};
 pub use laws::{faults_stand, spellings_are_apart, spellings_are_read};
 pub use mama_memory::OutOfMemory;
-
-#[cfg(test)]
-mod tests;
-#[cfg(test)]
-mod vectors;

@@ -3,7 +3,7 @@ ghost use Rattle.std.specs.Prelude.{◌≡◌, ◌≤◌, length, IfOk};
 ghost use Rattle.std.specs.Int.{w8, w16, w32, w64};
 ghost use Rattle.mama_msg.specs.Name.{IsNameText};
 ghost use Rattle.mama_msg.specs.Field.{IsKeyed};
-ghost use Rattle.mama_payload.specs.Stop.{Gives};
+ghost use Rattle.mama_payload.specs.Giving.{Gives};
 ghost use Rattle.mama_payload.specs.Reading.{byte_at, limited_at, number_at, signed_at, bytes_at, flag_at, text_at, block_at, price_at, value_at, kind_with_tag, kind_at, name_at};
 
 use crate::fault::{Rule, Stop};

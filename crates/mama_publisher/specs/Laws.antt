@@ -1,4 +1,4 @@
--- A publisher that sends the lines of its part of a script, in order, puts what its journal puts.
+-- believed: a publisher that sends the lines of its part of a script, in order, puts what its journal puts.
 use Rattle.std.specs.Prelude.{◌≡◌, ℕ, ◌+◌, List, [], ◌∷◌, ◌++◌, Some, slice_get}
 use Rattle.mama_journal.specs.Journal.{count_of}
 use Rattle.mama_msg.specs.Field.{FieldData}

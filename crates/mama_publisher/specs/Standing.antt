@@ -1,4 +1,4 @@
--- A publisher as contracts see it, and what its calls put on the bridge's lane.
+-- believed: a publisher as contracts see it, and what its calls put on the bridge's lane.
 use Rattle.std.specs.Prelude.{ℕ, ◌+◌, List, [], ◌∷◌}
 use Rattle.mama_msg.specs.Field.{FieldData}
 use Rattle.mama_msg.specs.Message.{apply}

@@ -19,6 +19,3 @@ pub use laws::{
 };
 pub use mama_memory::OutOfMemory;
 pub use publisher::{MOST_FIELDS, Publisher, SendFault};
-
-#[cfg(test)]
-mod tests;

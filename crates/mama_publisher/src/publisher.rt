@@ -9,8 +9,7 @@ ghost use Rattle.mama_publisher.specs.Standing.{advanced, events_for};
 
 use crate::asked::asked;
 use mama_event::{Fids, MarketMsg, MsgKind, Tagged, ToBridge, ToPublisher, Took};
-use mama_link::Outbox;
-use mama_memory::OutOfMemory;
+use mama_memory::{OutOfMemory, Outbox};
 use mama_msg::Msg;
 use std::alloc::Global;
 use std::error::Error;

@@ -1,4 +1,4 @@
--- The record of a run, as plain data.
+-- believed: The record of a run, as plain data.
 use Rattle.std.specs.Prelude.{ℕ, List}
 use Rattle.mama_msg.specs.Field.{FieldData}
 use Rattle.mama_event.specs.declared.ids.ObjectId.{ObjectId}

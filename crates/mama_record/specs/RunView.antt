@@ -1,4 +1,4 @@
--- A run record as it lies in memory, seen as plain data.
+-- believed: A run record as it lies in memory, seen as plain data.
 use Rattle.std.specs.Prelude.{ℕ, List, map}
 use Rattle.std.specs.Global.{Vec}
 use Rattle.mama_msg.specs.Field.{FieldData}

@@ -2,6 +2,7 @@
 #![tactic(auto)]
 
 mod calls;
+mod compared;
 mod log;
 mod notes;
 mod record;

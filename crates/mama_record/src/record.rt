@@ -1,5 +1,8 @@
-ghost use Rattle.std.specs.Prelude.{◌≡◌, map};
+ghost use Rattle.std.specs.Prelude.{◌≡◌, ◌↔◌, IsTrue};
 
+use crate::compared::{
+    same_calls, same_clients, same_images, same_publishers, same_queues, same_timers,
+};
 use mama_event::{
     BridgeNote, CallNote, ImageHead, ObjectId, PublisherEntry, QueueNote, SubId, TimersNote,
 };
@@ -30,8 +33,32 @@ impl Model for RunRecord {
     ghost view = { run_of };
 }
 
+impl PartialEq for RunRecord {
+    ghost use Rattle.std.specs.Cmp.{partial_equiv_from_equiv};
+    ghost use Rattle.mama_record.specs.Equality.{same_run};
+    ghost use Rattle.mama_record.specs.EqualityLaws.{same_run_equivalence};
+
+    ghost eq = { same_run };
+
+    ghost laws = { partial_equiv_from_equiv same_run_equivalence };
+
+    fn eq(&self, other: &RunRecord) -> bool
+        ensures value { result ≡ same_run self.now other.now }
+        ensures exact { IsTrue result ↔ (self.now ≡ other.now) }
+    {
+        self.has_parts_of(other)
+    }
+}
+
+impl Eq for RunRecord {
+    ghost use Rattle.mama_record.specs.EqualityLaws.{same_run_equivalence};
+
+    ghost laws = { same_run_equivalence };
+}
+
 impl RunRecord {
     ghost use Rattle.mama_record.specs.RunView.{moments_of, entries_of, events_of, calls_of, images_of};
+    ghost use Rattle.mama_record.specs.Equality.{same_run};
 
     /// A record of these parts. It takes no memory.
     pub fn new(
@@ -111,5 +138,17 @@ impl RunRecord {
         ensures { images_of result.now ≡ self.now.images }
     {
         self.images.as_slice()
+    }
+
+    fn has_parts_of(&self, other: &RunRecord) -> bool
+        ensures { result ≡ same_run self.now other.now }
+    {
+        same_clients(self.clients.as_slice(), other.clients.as_slice())
+            && same_publishers(self.publishers.as_slice(), other.publishers.as_slice())
+            && self.bridge == other.bridge
+            && same_timers(self.timers.as_slice(), other.timers.as_slice())
+            && same_queues(self.queues.as_slice(), other.queues.as_slice())
+            && same_calls(self.calls.as_slice(), other.calls.as_slice())
+            && same_images(self.images.as_slice(), other.images.as_slice())
     }
 }

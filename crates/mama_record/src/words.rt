@@ -2,7 +2,7 @@ ghost use Rattle.std.specs.Prelude.{◌≡◌, ◌++◌, OnOk};
 ghost use Rattle.std.specs.List.{flat_map};
 ghost use Rattle.mama_edge.specs.Decimal.{decimal};
 ghost use Rattle.mama_words.specs.Order.{spaced_number};
-ghost use Rattle.mama_rules.specs.Ports as ports;
+ghost use Rattle.mama_rules_services.specs.Ports as ports;
 ghost use Rattle.mama_record.specs.LogText as text;
 
 use mama_edge::print_u64;

@@ -1,32 +1,16 @@
 //! Plays scripts of publishers, subscribers and link faults, and writes what every actor took and called back; and judges
 //! whether such a log is that of a legal run.
+//!
+//! The program is [`run_plain`] over standard input and output and the clock; it tells on standard error how it ended, and
+//! by its exit status.
 #![tactic(auto)]
 
 ghost use Rattle.std.specs.Prelude.{◌≡◌};
 ghost use Rattle.std.specs.Process.{exit_status};
-ghost use Rattle.mama_run.specs.Status.{exit_number};
+ghost use Rattle.mama_plain.specs.Status.{exit_number};
 
-mod check;
-#[cfg(test)]
-mod check_tests;
-mod command;
-#[cfg(test)]
-mod damaged;
-mod laws;
-#[cfg(test)]
-mod morning;
-mod parts;
-mod run;
-mod status;
-#[cfg(test)]
-mod tests;
-
-pub use check::NoVerdict;
-pub use command::Command;
-pub use laws::logs_of_serial_are_legal;
 use mama_edge::{RealClock, StdSink, StdSource};
-pub use run::{MOST_INPUT, NoLog, run_plain};
-pub use status::Status;
+use mama_plain::{Status, run_plain};
 use std::process::ExitCode;
 use std::{env, io};
 

@@ -12,7 +12,8 @@ use Rattle.mama_words.specs.declared.order.OrderWord.TheVariants as orders
 use Rattle.mama_words.specs.Reading.{◌>>=◌}
 use Rattle.mama_words.specs.Parting.{parted_in, is_empty_word}
 use Rattle.mama_words.specs.Order.{order_words, IsOrder}
-use Rattle.mama_words.specs.Sentence.{sentence, IsWord, AreWords}
+use Rattle.mama_words.specs.Sentence.{sentence}
+use Rattle.mama_words.specs.WordForm.{IsWord, AreWords}
 use Rattle.mama_words.proofs.Numbers.{number_in_again}
 use Rattle.mama_words.proofs.Cutting.{decimal_lacks}
 use Rattle.mama_words.proofs.KindLaws.{sub_kind_again}
@@ -26,7 +27,8 @@ use Rattle.mama_script.specs.declared.line.QueueName.{QueueName}
 use Rattle.mama_script.specs.declared.line.QueueName.TheVariants.{Number, Any}
 use Rattle.mama_script.specs.declared.line.Line.{Line}
 use Rattle.mama_script.specs.declared.line.Line.TheVariants as lines
-use Rattle.mama_script.specs.Head.{head_text, allows}
+use Rattle.mama_script.specs.Head.{allows}
+use Rattle.mama_script.specs.HeadText.{head_text}
 use Rattle.mama_script.specs.Line.{queue_text, fault_words, line_words, line_text, head_of, head_of_order, IsQueueName, IsFault, IsLine}
 use Rattle.mama_script.specs.Form.{queue_in, queues_in, topic_in, publisher_in, update_in, alone_in, pause_in, sub_in, timer_in, inbox_in, short_fault_in, hold_in, fault_in, at_in, order_line_in, now_in, body_in, head_at, form_in}
 use Rattle.mama_script.proofs.Heads.{head_at_again, between_again, decimal_is_no_word}

@@ -29,7 +29,8 @@ use Rattle.mama_script.specs.declared.line.QueueName.{QueueName}
 use Rattle.mama_script.specs.declared.line.QueueName.TheVariants.{Number, Any}
 use Rattle.mama_script.specs.declared.line.Line.{Line}
 use Rattle.mama_script.specs.declared.line.Line.TheVariants as lines
-use Rattle.mama_script.specs.Head.{head_text, head_in, allows}
+use Rattle.mama_script.specs.Head.{head_in, allows}
+use Rattle.mama_script.specs.HeadText.{head_text}
 use Rattle.mama_script.specs.Line.{queue_text, line_words, line_text, head_of, head_of_order, IsQueueName, IsLine}
 use Rattle.mama_script.specs.Form.{queue_in, count_in, queues_in, topic_or_fault, topic_in, publisher_in, update_in, alone_in, pause_in, sub_in, timer_in, inbox_in, short_fault_in, hold_in, fault_in, at_in, order_line_in, now_in, body_in, head_at, form_in}
 use Rattle.mama_script.proofs.Heads.{head_again, head_at_found, between_found}

@@ -10,7 +10,8 @@ use Rattle.mama_words.proofs.Numbers.{number_in_again, number_in_found}
 use Rattle.mama_script.specs.declared.head.Head.{Head}
 use Rattle.mama_script.specs.declared.head.Head.TheVariants as heads
 use Rattle.mama_script.specs.declared.head.Place.{Place}
-use Rattle.mama_script.specs.Head.{head_text, head_in, allows}
+use Rattle.mama_script.specs.Head.{head_in, allows}
+use Rattle.mama_script.specs.HeadText.{head_text}
 use Rattle.mama_script.specs.Form.{if_allowed, head_at}
 
 -- one word of a list of words: the word is this one, or the rest decides

@@ -8,7 +8,8 @@ use Rattle.mama_script.specs.declared.fault.ScriptFault.{ScriptFault}
 use Rattle.mama_script.specs.declared.fault.ScriptFault.TheVariants.{Bad, OverLimit, OutOfMemory}
 use Rattle.mama_script.specs.declared.line.Line.{Line}
 use Rattle.mama_script.specs.Before.{Before, start, after}
-use Rattle.mama_script.specs.Reading.{and_then, line_in, end_fault, unless_faulty, line_first, read_from, first_line, lines_in, Fails}
+use Rattle.mama_script.specs.Reading.{and_then, line_in, end_fault, unless_faulty, line_first, read_from, first_line, lines_in}
+use Rattle.mama_script.specs.Answer.{Fails}
 use Rattle.mama_script.proofs.Whole.{read_from_line, pieces_some}
 
 -- the lines of an answer behind those that were read

@@ -1,5 +1,5 @@
--- What the lines before a line say about it: its faults from 9 on, and the limits that it passes.
-use Rattle.std.specs.Prelude.{◌≡◌, ℕ, ◌+◌, ◌-◌, ◌^◌, min, Bool, ◌==◌, nat_lt, nat_le, List, [], length, Option, Some, None, unwrap_or, Result, Ok, Err, if◌then◌else◌}
+-- believed: What the lines before a line say about it: its faults from 9 on, and the limits that it passes.
+use Rattle.std.specs.Prelude.{ℕ, ◌+◌, ◌-◌, ◌^◌, min, Bool, ◌==◌, nat_lt, nat_le, List, [], length, Option, Some, None, unwrap_or, if◌then◌else◌}
 use Rattle.std.specs.List.{list_any}
 use Rattle.std.specs.Ordering.{nat_cmp}
 use Rattle.std.specs.Map.{lookup}
@@ -13,8 +13,6 @@ use Rattle.mama_script.specs.declared.head.Place.{Place}
 use Rattle.mama_script.specs.declared.head.Place.TheVariants as places
 use Rattle.mama_script.specs.declared.fault.Flaw.{Flaw}
 use Rattle.mama_script.specs.declared.fault.Flaw.TheVariants.{Fault, Limit}
-use Rattle.mama_script.specs.declared.fault.Refused.{Refused}
-use Rattle.mama_script.specs.declared.fault.Refused.TheVariants as refused
 use Rattle.mama_script.specs.declared.line.QueueName.{QueueName}
 use Rattle.mama_script.specs.declared.line.QueueName.TheVariants.{Number, Any}
 use Rattle.mama_script.specs.declared.line.Line.{Line}
@@ -111,12 +109,8 @@ with_object place b = record b { place = place; indexes = []; calls = [] }
 
 -- a line that is no part of an object stands behind what was at hand
 abbrev pub beside : Place → Place
-beside places.Start = places.Client
-beside places.Topics = places.Client
 beside places.Publisher = places.Publisher
-beside places.Client = places.Client
-beside places.Linked = places.Client
-beside places.Planned = places.Client
+beside _ = places.Client
 
 -- what all subscriptions weigh once there is one more of the topic
 abbrev pub weight_with : ℕ → Before → ℕ
@@ -162,16 +156,13 @@ after b (lines.Topic name) = after_topic b
 after b (lines.Publisher topic base) = after_publisher topic base b
 after b (lines.Update update) = after_update update b
 after b lines.Recap = with_send recap_weight b
-after b (lines.Pause rounds) = after_step b
 after b lines.Client = after_client b
 after b (lines.Sub topic kind queue cache recaps) = after_sub topic b
 after b (lines.Timer queue interval) = after_timer b
 after b (lines.Inbox queue) = after_inbox b
 after b (lines.Fault row) = after_fault row.index b
 after b (lines.At call order) = after_at call b
-after b (lines.Order order) = after_step b
-after b (lines.Now moment) = after_step b
-after b lines.NowClock = after_step b
+after b _ = after_step b
 
 -- this flaw where the test holds, and otherwise what else there is
 abbrev pub flaw_if : Bool → Flaw → Option Flaw → Option Flaw
@@ -191,10 +182,8 @@ queue_flaw Any b = None
 
 -- an ask names a topic
 abbrev pub order_flaw : OrderWord → Before → Option Flaw
-order_flaw (orders.Stop id) b = None
-order_flaw (orders.Disarm id) b = None
-order_flaw (orders.Close id) b = None
 order_flaw (orders.Ask inbox topic fids) b = topic_flaw topic b
+order_flaw _ b = None
 
 abbrev pub publisher_flaw : ℕ → List FieldData → Before → Option Flaw
 publisher_flaw topic base b =
@@ -239,8 +228,6 @@ flaw b (lines.Queues n) = queues_flaw n
 flaw b (lines.Topic name) = topics_flaw b
 flaw b (lines.Publisher topic base) = publisher_flaw topic base b
 flaw b (lines.Update update) = update_flaw update b
-flaw b lines.Recap = None
-flaw b (lines.Pause rounds) = None
 flaw b lines.Client = client_flaw b
 flaw b (lines.Sub topic kind queue cache recaps) = sub_flaw topic queue b
 flaw b (lines.Timer queue interval) = timer_flaw queue interval b
@@ -248,15 +235,4 @@ flaw b (lines.Inbox queue) = inbox_flaw queue b
 flaw b (lines.Fault row) = fault_flaw row.index b
 flaw b (lines.At call order) = at_flaw call order b
 flaw b (lines.Order order) = order_flaw order b
-flaw b (lines.Now moment) = None
-flaw b lines.NowClock = None
-
--- a line is refused for its flaw. Want of memory says nothing.
-abbrev pub Refuses : Option Flaw → Refused → Type 0
-Refuses flaw refused.Memory = Unit {0}
-Refuses flaw (refused.Flawed found) = flaw ≡ Some found
-
--- a test that finds nothing finds no flaw, and otherwise the one that there is
-abbrev pub Checks : {A : Type 0} → Option Flaw → Result A Flaw → Type 0
-Checks flaw (Ok done) = flaw ≡ None
-Checks flaw (Err found) = flaw ≡ Some found
+flaw b _ = None

@@ -1,4 +1,4 @@
--- The first line that is wrong, in plain words: it has lines before it that all fit, and it has the flaw itself.
+-- believed: The first line that is wrong, in plain words: it has lines before it that all fit, and it has the flaw itself.
 use Rattle.std.specs.Prelude.{◌≡◌, ◌≢◌, ℕ, ◌+◌, List, [], ◌∷◌, ◌++◌, length, map, ◌==◌, Option, Some, None, Result, Ok, Err, ◌⊎◌, if◌then◌else◌}
 use Rattle.mama_words.specs.Parting.{pieces}
 use Rattle.mama_script.specs.declared.fault.Flaw.{Flaw}

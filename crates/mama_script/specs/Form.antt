@@ -1,4 +1,4 @@
--- How a line is read by its own form: the line, or the lowest of its faults from 2 to 8. The faults of one number are
+-- believed: How a line is read by its own form: the line, or the lowest of its faults from 2 to 8. The faults of one number are
 -- looked for in all the words before those of the next.
 use Rattle.std.specs.Prelude.{ℕ, codes, ◌==◌, List, [], ◌∷◌, length, Option, Some, None, option_map, Result, Ok, Err, if◌then◌else◌}
 use Rattle.std.specs.Str.{bytes_eq}

@@ -1,30 +1,10 @@
--- First words of lines, and where each may stand.
+-- believed: First words of lines, and where each may stand.
 use Rattle.std.specs.Prelude.{ℕ, codes, Bool, true, false, List, Option, Some, None, if◌then◌else◌}
 use Rattle.std.specs.Str.{bytes_eq}
 use Rattle.mama_script.specs.declared.head.Head.{Head}
 use Rattle.mama_script.specs.declared.head.Head.TheVariants.{Queues, Topic, Publisher, Update, Recap, Pause, Client, Sub, Timer, Inbox, Fault, At, Stop, Disarm, Close, Ask, Now}
 use Rattle.mama_script.specs.declared.head.Place.{Place}
 use Rattle.mama_script.specs.declared.head.Place.TheVariants as places
-
--- the word
-abbrev pub head_text : Head → List ℕ
-head_text Queues = codes "queues"
-head_text Topic = codes "topic"
-head_text Publisher = codes "publisher"
-head_text Update = codes "update"
-head_text Recap = codes "recap"
-head_text Pause = codes "pause"
-head_text Client = codes "client"
-head_text Sub = codes "sub"
-head_text Timer = codes "timer"
-head_text Inbox = codes "inbox"
-head_text Fault = codes "fault"
-head_text At = codes "at"
-head_text Stop = codes "stop"
-head_text Disarm = codes "disarm"
-head_text Close = codes "close"
-head_text Ask = codes "ask"
-head_text Now = codes "now"
 
 -- what a word begins
 unfoldable pub head_in : List ℕ → Option Head
@@ -103,9 +83,7 @@ allows places.Planned head = follows_plan head
 
 -- a script may end in a client's section
 abbrev pub may_end : Place → Bool
-may_end places.Start = false
-may_end places.Topics = false
-may_end places.Publisher = false
 may_end places.Client = true
 may_end places.Linked = true
 may_end places.Planned = true
+may_end _ = false

@@ -1,11 +1,16 @@
 pub mod Script
 pub mod Head
+pub mod HeadText
 pub mod Line
 pub mod Form
 pub mod Before
+pub mod Checked
+pub mod Equality
+pub mod EqualityLaws
 pub mod Seen
 pub mod Names
 pub mod Reading
+pub mod Answer
 pub mod Tree
 pub mod Taken
 pub mod Text

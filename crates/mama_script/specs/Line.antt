@@ -1,4 +1,4 @@
--- Lines of a script, and how they are spelled.
+-- believed: Lines of a script, and how they are spelled.
 use Rattle.std.specs.Prelude.{◌≡◌, ℕ, ◌^◌, ◌<◌, ◌≤◌, codes, false, ◌==◌, List, [], ◌∷◌, ◌++◌, length, map}
 use Rattle.mama_link.specs.declared.faults.Fault.{Fault}
 use Rattle.mama_link.specs.declared.faults.Fault.TheVariants.{Lose, Dup, Hold}

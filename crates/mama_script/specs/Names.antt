@@ -1,4 +1,4 @@
--- Which objects a script makes, and which line is the first to name one that it does not make.
+-- believed: Which objects a script makes, and which line is the first to name one that it does not make.
 use Rattle.std.specs.Prelude.{ℕ, suc, ◌+◌, Bool, true, false, nat_lt, List, [], ◌∷◌, ◌++◌, Option, Some, None, slice_get, if◌then◌else◌}
 use Rattle.mama_words.specs.declared.id.IdWord.{IdWord}
 use Rattle.mama_words.specs.declared.order.OrderWord.{OrderWord}
@@ -28,21 +28,11 @@ at_last f (m ∷ n ∷ ms) = m ∷ at_last f (n ∷ ms)
 
 -- what each client makes, with one line more
 abbrev pub made_with : List Made → Line → List Made
-made_with made (lines.Queues n) = made
-made_with made (lines.Topic name) = made
-made_with made (lines.Publisher topic base) = made
-made_with made (lines.Update update) = made
-made_with made lines.Recap = made
-made_with made (lines.Pause rounds) = made
 made_with made lines.Client = made ++ nothing_made ∷ []
 made_with made (lines.Sub topic kind queue cache recaps) = at_last with_sub made
 made_with made (lines.Timer queue interval) = at_last with_timer made
 made_with made (lines.Inbox queue) = at_last with_inbox made
-made_with made (lines.Fault row) = made
-made_with made (lines.At call order) = made
-made_with made (lines.Order order) = made
-made_with made (lines.Now moment) = made
-made_with made lines.NowClock = made
+made_with made _ = made
 
 abbrev pub made_after : List Made → List Line → List Made
 made_after made [] = made
@@ -70,21 +60,9 @@ is_order_named made (orders.Ask inbox topic fids) = is_made (λ m. m.inboxes) ma
 
 -- so is that of a line
 abbrev pub is_named : List Made → Line → Bool
-is_named made (lines.Queues n) = true
-is_named made (lines.Topic name) = true
-is_named made (lines.Publisher topic base) = true
-is_named made (lines.Update update) = true
-is_named made lines.Recap = true
-is_named made (lines.Pause rounds) = true
-is_named made lines.Client = true
-is_named made (lines.Sub topic kind queue cache recaps) = true
-is_named made (lines.Timer queue interval) = true
-is_named made (lines.Inbox queue) = true
-is_named made (lines.Fault row) = true
 is_named made (lines.At call order) = is_order_named made order
 is_named made (lines.Order order) = is_order_named made order
-is_named made (lines.Now moment) = true
-is_named made lines.NowClock = true
+is_named made _ = true
 
 -- the number of the first line, counted from k, that names an object which is not in the script
 abbrev pub unnamed_from : List Made → ℕ → List Line → Option ℕ

@@ -1,4 +1,4 @@
--- How the lines of a text are read: the lines, or the first line that has a fault or passes a limit.
+-- believed: How the lines of a text are read: the lines, or the first line that has a fault or passes a limit.
 use Rattle.std.specs.Prelude.{◌≡◌, ℕ, suc, codes, true, ◌==◌, List, [], ◌∷◌, ◌++◌, length, Option, Some, None, Result, Ok, Err, if◌then◌else◌}
 use Rattle.std.specs.List.{flat_map}
 use Rattle.std.specs.Str.{bytes_eq}
@@ -7,7 +7,7 @@ use Rattle.mama_script.specs.declared.head.Place.{Place}
 use Rattle.mama_script.specs.declared.fault.Flaw.{Flaw}
 use Rattle.mama_script.specs.declared.fault.Flaw.TheVariants.{Fault, Limit}
 use Rattle.mama_script.specs.declared.fault.ScriptFault.{ScriptFault}
-use Rattle.mama_script.specs.declared.fault.ScriptFault.TheVariants.{Bad, OverLimit, OutOfMemory}
+use Rattle.mama_script.specs.declared.fault.ScriptFault.TheVariants.{Bad, OverLimit}
 use Rattle.mama_script.specs.declared.line.Line.{Line}
 use Rattle.mama_script.specs.Head.{allows, may_end}
 use Rattle.mama_script.specs.Line.{head_of, IsLine, ended}
@@ -98,14 +98,3 @@ FitFrom b (l ∷ ls) = Fits b l × FitFrom (after b l) ls
 pub record AreAccepted (ls : List Line) : Type 0 where
   pub fit : FitFrom start ls
   pub named : unnamed_from (made_by ls) 2 ls ≡ None
-
--- an answer that is not Ok is what is wrong with the text, or want of memory, which says nothing
-abbrev pub Fails : {A : Type 0} → ScriptFault → Result A ScriptFault → Type 0
-Fails OutOfMemory read = Unit {0}
-Fails (Bad line fault) read = read ≡ Err (Bad line fault)
-Fails (OverLimit line limit) read = read ≡ Err (OverLimit line limit)
-
--- an answer, seen by view, is what reading gives, unless it is want of memory
-abbrev pub Gives : {X A : Type 0} → (X → A) → Result X ScriptFault → Result A ScriptFault → Type 0
-Gives view (Ok x) read = read ≡ Ok (view x)
-Gives view (Err e) read = Fails e read

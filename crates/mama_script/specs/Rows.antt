@@ -1,4 +1,4 @@
--- Worked rows: small texts and lists of lines, computed.
+-- inner: Worked rows: small texts and lists of lines, computed.
 use Rattle.std.specs.Prelude.{◌≡◌, ℕ, codes, List, [], ◌∷◌, ◌++◌, Some, None, Err, refl}
 use Rattle.mama_link.specs.declared.faults.Fault.TheVariants.{Lose, Dup}
 use Rattle.mama_words.specs.declared.id.IdWord.{IdWord}

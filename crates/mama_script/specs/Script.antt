@@ -1,4 +1,4 @@
--- A script as contracts see it.
+-- believed: A script as contracts see it.
 use Rattle.std.specs.Prelude.{List}
 use Rattle.mama_event.specs.declared.shape.Shape.{Shape}
 use Rattle.mama_msg.specs.declared.text.TextValue.{TextValue}

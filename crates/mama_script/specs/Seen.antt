@@ -1,4 +1,4 @@
--- What a context says, without where it lies in memory.
+-- inner: What a context says, without where it lies in memory.
 use Rattle.mama_script.specs.declared.context.Context.{Context}
 use Rattle.mama_script.specs.Before.{Before}
 

@@ -1,4 +1,4 @@
--- What is taken from the front of a list of lines.
+-- inner: What is taken from the front of a list of lines.
 use Rattle.std.specs.Prelude.{List, [], ◌∷◌}
 use Rattle.mama_script.specs.declared.line.Line.{Line}
 use Rattle.mama_script.specs.declared.tree.Parts.{Parts}

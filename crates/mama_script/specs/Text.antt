@@ -1,4 +1,4 @@
--- The text of each part of a script.
+-- inner: The text of each part of a script.
 use Rattle.std.specs.Prelude.{ℕ, List}
 use Rattle.std.specs.List.{flat_map}
 use Rattle.mama_event.specs.declared.order.PlanRow.{PlanRow}

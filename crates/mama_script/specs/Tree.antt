@@ -1,4 +1,4 @@
--- The lines that a script has, in order: its one spelling is theirs.
+-- believed: The lines that a script has, in order: its one spelling is theirs.
 use Rattle.std.specs.Prelude.{◌≡◌, ℕ, List, [], ◌∷◌, ◌++◌, length, map}
 use Rattle.std.specs.List.{flat_map}
 use Rattle.mama_event.specs.declared.order.PlanRow.{PlanRow}

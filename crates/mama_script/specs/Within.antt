@@ -1,4 +1,4 @@
--- What the users of a script may rely on: what its lines name is declared, and its counts are within the limits.
+-- believed: What the users of a script may rely on: what its lines name is declared, and its counts are within the limits.
 use Rattle.std.specs.Prelude.{◌≡◌, ℕ, ◌+◌, ◌<◌, ◌≤◌, ◌==◌, true, List, [], ◌∷◌, length, map, if◌then◌else◌}
 use Rattle.std.specs.List.{AllByRecursion}
 use Rattle.mama_event.specs.declared.order.Order.{Order}
@@ -25,10 +25,8 @@ IsQueueWithin queues Any = Unit {0}
 
 -- an ask names a topic that is declared
 abbrev pub IsOrderWithin : ℕ → Order → Type 0
-IsOrderWithin topics (orders.Stop id) = Unit {0}
-IsOrderWithin topics (orders.Disarm id) = Unit {0}
-IsOrderWithin topics (orders.Close id) = Unit {0}
 IsOrderWithin topics (orders.Ask id topic fids) = topic < topics
+IsOrderWithin topics _ = Unit {0}
 
 abbrev pub AreOrdersWithin : ℕ → List PlanRow → Type 0
 AreOrdersWithin topics [] = Unit {0}
@@ -48,28 +46,17 @@ IsStepWithin topics queues (steps.Sub topic kind queue cache recaps faults plan)
 IsStepWithin topics queues (steps.Timer queue interval plan) = IsQueueWithin queues queue × (1 ≤ interval) × IsPlanWithin topics plan
 IsStepWithin topics queues (steps.Inbox queue faults plan) = IsQueueWithin queues queue × IsPlanWithin topics plan
 IsStepWithin topics queues (steps.Order order) = IsOrderWithin topics order
-IsStepWithin topics queues (steps.Now moment) = Unit {0}
-IsStepWithin topics queues steps.NowClock = Unit {0}
-IsStepWithin topics queues (steps.Pause rounds) = Unit {0}
+IsStepWithin topics queues _ = Unit {0}
 
 -- how many subscriptions a step makes, and how many timers and inboxes
 abbrev pub subs_of : ClientLine → ℕ
 subs_of (steps.Sub topic kind queue cache recaps faults plan) = 1
-subs_of (steps.Timer queue interval plan) = 0
-subs_of (steps.Inbox queue faults plan) = 0
-subs_of (steps.Order order) = 0
-subs_of (steps.Now moment) = 0
-subs_of steps.NowClock = 0
-subs_of (steps.Pause rounds) = 0
+subs_of _ = 0
 
 abbrev pub objects_of : ClientLine → ℕ
-objects_of (steps.Sub topic kind queue cache recaps faults plan) = 0
 objects_of (steps.Timer queue interval plan) = 1
 objects_of (steps.Inbox queue faults plan) = 1
-objects_of (steps.Order order) = 0
-objects_of (steps.Now moment) = 0
-objects_of steps.NowClock = 0
-objects_of (steps.Pause rounds) = 0
+objects_of _ = 0
 
 abbrev pub subs_in : List ClientLine → ℕ
 subs_in [] = 0
@@ -92,10 +79,7 @@ abbrev pub made_with_step : Made → ClientLine → Made
 made_with_step made (steps.Sub topic kind queue cache recaps faults plan) = with_sub made
 made_with_step made (steps.Timer queue interval plan) = with_timer made
 made_with_step made (steps.Inbox queue faults plan) = with_inbox made
-made_with_step made (steps.Order order) = made
-made_with_step made (steps.Now moment) = made
-made_with_step made steps.NowClock = made
-made_with_step made (steps.Pause rounds) = made
+made_with_step made _ = made
 
 abbrev pub made_with_steps : Made → List ClientLine → Made
 made_with_steps made [] = made
@@ -116,9 +100,7 @@ IsStepNamed made (steps.Sub topic kind queue cache recaps faults plan) = ArePlan
 IsStepNamed made (steps.Timer queue interval plan) = ArePlanned made plan
 IsStepNamed made (steps.Inbox queue faults plan) = ArePlanned made plan
 IsStepNamed made (steps.Order order) = is_order_named made (word_of order) ≡ true
-IsStepNamed made (steps.Now moment) = Unit {0}
-IsStepNamed made steps.NowClock = Unit {0}
-IsStepNamed made (steps.Pause rounds) = Unit {0}
+IsStepNamed made _ = Unit {0}
 
 abbrev pub AreStepsNamed : List Made → List ClientLine → Type 0
 AreStepsNamed made client = AllByRecursion (IsStepNamed made) client
@@ -126,14 +108,12 @@ AreStepsNamed made client = AllByRecursion (IsStepNamed made) client
 -- the record behind a line of a publisher
 abbrev pub held_after : List FieldData → PublisherLine → List FieldData
 held_after held (sends.Update update) = apply held update
-held_after held sends.Recap = held
-held_after held (sends.Pause rounds) = held
+held_after held _ = held
 
 -- an update and the record behind it have at most 64 fields each
 abbrev pub IsSendWithin : List FieldData → PublisherLine → Type 0
 IsSendWithin held (sends.Update update) = (length update ≤ 64) × (length (apply held update) ≤ 64)
-IsSendWithin held sends.Recap = Unit {0}
-IsSendWithin held (sends.Pause rounds) = Unit {0}
+IsSendWithin held _ = Unit {0}
 
 abbrev pub AreSendsWithin : List FieldData → List PublisherLine → Type 0
 AreSendsWithin held [] = Unit {0}

@@ -45,6 +45,87 @@ pub enum ClientLine {
     Pause(u32),
 }
 
+impl PartialEq for ClientLine {
+    ghost use Rattle.std.specs.Prelude.{◌≡◌};
+    ghost use Rattle.std.specs.Cmp.{partial_equiv_from_equiv};
+    ghost use Rattle.mama_script.specs.Equality.{same_client_line};
+    ghost use Rattle.mama_script.specs.EqualityLaws.{same_client_line_equivalence};
+
+    ghost eq = { same_client_line };
+
+    ghost laws = { partial_equiv_from_equiv same_client_line_equivalence };
+
+    fn eq(&self, other: &ClientLine) -> bool
+        ensures { result ≡ same_client_line self.now other.now }
+    {
+        match (self, other) {
+            (
+                ClientLine::Sub {
+                    topic,
+                    kind,
+                    queue,
+                    cache,
+                    recaps,
+                    faults,
+                    plan,
+                },
+                ClientLine::Sub {
+                    topic: other_topic,
+                    kind: other_kind,
+                    queue: other_queue,
+                    cache: other_cache,
+                    recaps: other_recaps,
+                    faults: other_faults,
+                    plan: other_plan,
+                },
+            ) => {
+                topic == other_topic
+                    && kind == other_kind
+                    && queue == other_queue
+                    && cache == other_cache
+                    && recaps == other_recaps
+                    && faults == other_faults
+                    && plan == other_plan
+            }
+            (
+                ClientLine::Timer {
+                    queue,
+                    interval,
+                    plan,
+                },
+                ClientLine::Timer {
+                    queue: other_queue,
+                    interval: other_interval,
+                    plan: other_plan,
+                },
+            ) => queue == other_queue && interval == other_interval && plan == other_plan,
+            (
+                ClientLine::Inbox {
+                    queue,
+                    faults,
+                    plan,
+                },
+                ClientLine::Inbox {
+                    queue: other_queue,
+                    faults: other_faults,
+                    plan: other_plan,
+                },
+            ) => { queue == other_queue && faults == other_faults && plan == other_plan }
+            (ClientLine::Order(a), ClientLine::Order(b)) => a == b,
+            (ClientLine::Now(a), ClientLine::Now(b)) => a == b,
+            (ClientLine::NowClock, ClientLine::NowClock) => true,
+            (ClientLine::Pause(a), ClientLine::Pause(b)) => a == b,
+            _ => false,
+        }
+    }
+}
+
+impl Eq for ClientLine {
+    ghost use Rattle.mama_script.specs.EqualityLaws.{same_client_line_equivalence};
+
+    ghost laws = { same_client_line_equivalence };
+}
+
 /// The lines of a client in order.
 #[derive(Drop)]
 pub struct ClientLines {
@@ -58,6 +139,29 @@ impl Model for ClientLines {
     ghost Value = { List ClientLine };
 
     ghost view = { λ c. c.lines.items };
+}
+
+impl PartialEq for ClientLines {
+    ghost use Rattle.std.specs.Prelude.{◌≡◌};
+    ghost use Rattle.std.specs.Cmp.{partial_equiv_from_equiv};
+    ghost use Rattle.mama_script.specs.Equality.{same_client};
+    ghost use Rattle.mama_script.specs.EqualityLaws.{same_client_equivalence};
+
+    ghost eq = { same_client };
+
+    ghost laws = { partial_equiv_from_equiv same_client_equivalence };
+
+    fn eq(&self, other: &ClientLines) -> bool
+        ensures { result ≡ same_client self.now other.now }
+    {
+        self.as_slice() == other.as_slice()
+    }
+}
+
+impl Eq for ClientLines {
+    ghost use Rattle.mama_script.specs.EqualityLaws.{same_client_equivalence};
+
+    ghost laws = { same_client_equivalence };
 }
 
 impl ClientLines {

@@ -2,6 +2,7 @@
 ghost use Rattle.std.specs.Prelude.{◌≡◌, None, OnOk, IfErr};
 ghost use Rattle.mama_script.specs.Seen.{seen};
 ghost use Rattle.mama_script.specs.Before as before;
+ghost use Rattle.mama_script.specs.Checked.{Refuses, Checks};
 
 use crate::fault::{Flaw, Refused};
 use crate::head::Place;
@@ -55,7 +56,7 @@ pub struct Context {
 
 // A flaw where the test holds.
 fn flaw_if(test: bool, flaw: Flaw) -> Result<(), Flaw>
-    ensures { before.Checks (before.flaw_if test flaw None) result }
+    ensures { Checks (before.flaw_if test flaw None) result }
 {
     if test { Err(flaw) } else { Ok(()) }
 }
@@ -94,7 +95,7 @@ impl Context {
     pub fn admit(&mut self, line: &Line) -> Result<(), Refused>
         ensures ok { OnOk result (before.flaw (seen self.old) line.now ≡ None) }
         ensures after { OnOk result (seen self.new ≡ before.after (seen self.old) line.now) }
-        ensures refused { IfErr result (before.Refuses (before.flaw (seen self.old) line.now)) }
+        ensures refused { IfErr result (Refuses (before.flaw (seen self.old) line.now)) }
     {
         match line {
             Line::Queues(queues) => self.admit_queues(*queues),
@@ -122,7 +123,7 @@ impl Context {
     fn admit_queues(&mut self, queues: u64) -> Result<(), Refused>
         ensures ok { OnOk result (before.queues_flaw queues ≡ None) }
         ensures after { OnOk result (seen self.new ≡ before.after_queues queues (seen self.old)) }
-        ensures refused { IfErr result (before.Refuses (before.queues_flaw queues)) }
+        ensures refused { IfErr result (Refuses (before.queues_flaw queues)) }
     {
         flaw_if(queues > MOST_QUEUES, Flaw::Limit(2))?;
         self.queues = queues;
@@ -133,7 +134,7 @@ impl Context {
     fn admit_topic(&mut self) -> Result<(), Refused>
         ensures ok { OnOk result (before.topics_flaw (seen self.old) ≡ None) }
         ensures after { OnOk result (seen self.new ≡ before.after_topic (seen self.old)) }
-        ensures refused { IfErr result (before.Refuses (before.topics_flaw (seen self.old))) }
+        ensures refused { IfErr result (Refuses (before.topics_flaw (seen self.old))) }
     {
         flaw_if(self.topics >= MOST_TOPICS, Flaw::Limit(3))?;
         self.topics += 1;
@@ -141,13 +142,13 @@ impl Context {
     }
 
     fn check_topic(&self, topic: u64) -> Result<(), Flaw>
-        ensures { before.Checks (before.topic_flaw topic (seen self.now)) result }
+        ensures { Checks (before.topic_flaw topic (seen self.now)) result }
     {
         flaw_if(topic >= self.topics, Flaw::Fault(9))
     }
 
     fn check_publisher(&self, topic: u64, base: &Msg) -> Result<(), Flaw>
-        ensures { before.Checks (before.publisher_flaw topic base.now (seen self.now)) result }
+        ensures { Checks (before.publisher_flaw topic base.now (seen self.now)) result }
     {
         self.check_topic(topic)?;
         flaw_if(self.publishers >= MOST_PUBLISHERS, Flaw::Limit(4))?;
@@ -157,7 +158,7 @@ impl Context {
     fn admit_publisher(&mut self, topic: u64, base: &Msg) -> Result<(), Refused>
         ensures ok { OnOk result (before.publisher_flaw topic base.now (seen self.old) ≡ None) }
         ensures after { OnOk result (seen self.new ≡ before.after_publisher topic base.now (seen self.old)) }
-        ensures refused { IfErr result (before.Refuses (before.publisher_flaw topic base.now (seen self.old))) }
+        ensures refused { IfErr result (Refuses (before.publisher_flaw topic base.now (seen self.old))) }
     {
         self.check_publisher(topic, base)?;
         let held = base.try_clone()?;
@@ -169,7 +170,7 @@ impl Context {
     }
 
     fn check_update(&self, update: &Msg) -> Result<(), Flaw>
-        ensures { before.Checks (before.update_flaw update.now (seen self.now)) result }
+        ensures { Checks (before.update_flaw update.now (seen self.now)) result }
     {
         flaw_if(update.len() > MOST_FIELDS, Flaw::Limit(8))?;
         flaw_if(self.held.len_after(update) > MOST_FIELDS, Flaw::Limit(8))
@@ -178,7 +179,7 @@ impl Context {
     fn admit_update(&mut self, update: &Msg) -> Result<(), Refused>
         ensures ok { OnOk result (before.update_flaw update.now (seen self.old) ≡ None) }
         ensures after { OnOk result (seen self.new ≡ before.after_update update.now (seen self.old)) }
-        ensures refused { IfErr result (before.Refuses (before.update_flaw update.now (seen self.old))) }
+        ensures refused { IfErr result (Refuses (before.update_flaw update.now (seen self.old))) }
     {
         self.check_update(update)?;
         self.held.apply(update)?;
@@ -187,7 +188,7 @@ impl Context {
 
     fn admit_recap(&mut self) -> Result<(), Refused>
         ensures after { OnOk result (seen self.new ≡ before.with_send before.recap_weight (seen self.old)) }
-        ensures refused { IfErr result (before.Refuses None) }
+        ensures refused { IfErr result (Refuses None) }
     {
         self.add_send(RECAP_WEIGHT)
     }
@@ -200,7 +201,7 @@ impl Context {
 
     fn add_send(&mut self, more: u64) -> Result<(), Refused>
         ensures after { OnOk result (seen self.new ≡ before.with_send more (seen self.old)) }
-        ensures refused { IfErr result (before.Refuses None) }
+        ensures refused { IfErr result (Refuses None) }
     {
         let so_far = self.weight_of(self.topic);
         self.weights
@@ -211,7 +212,7 @@ impl Context {
     fn admit_client(&mut self) -> Result<(), Refused>
         ensures ok { OnOk result (before.client_flaw (seen self.old) ≡ None) }
         ensures after { OnOk result (seen self.new ≡ before.after_client (seen self.old)) }
-        ensures refused { IfErr result (before.Refuses (before.client_flaw (seen self.old))) }
+        ensures refused { IfErr result (Refuses (before.client_flaw (seen self.old))) }
     {
         flaw_if(self.clients >= MOST_CLIENTS, Flaw::Limit(5))?;
         self.clients += 1;
@@ -221,7 +222,7 @@ impl Context {
     }
 
     fn check_queue(&self, queue: QueueName) -> Result<(), Flaw>
-        ensures { before.Checks (before.queue_flaw queue (seen self.now)) result }
+        ensures { Checks (before.queue_flaw queue (seen self.now)) result }
     {
         match queue {
             QueueName::Number(queue) => flaw_if(queue >= self.queues, Flaw::Fault(9)),
@@ -230,7 +231,7 @@ impl Context {
     }
 
     fn check_order(&self, order: &OrderWord) -> Result<(), Flaw>
-        ensures { before.Checks (before.order_flaw order.now (seen self.now)) result }
+        ensures { Checks (before.order_flaw order.now (seen self.now)) result }
     {
         match order {
             OrderWord::Stop(_) | OrderWord::Disarm(_) | OrderWord::Close(_) => Ok(()),
@@ -249,7 +250,7 @@ impl Context {
     }
 
     fn check_sub(&self, topic: u64, queue: QueueName) -> Result<(), Flaw>
-        ensures { before.Checks (before.sub_flaw topic queue (seen self.now)) result }
+        ensures { Checks (before.sub_flaw topic queue (seen self.now)) result }
     {
         self.check_topic(topic)?;
         self.check_queue(queue)?;
@@ -268,7 +269,7 @@ impl Context {
     fn admit_sub(&mut self, topic: u64, queue: QueueName) -> Result<(), Refused>
         ensures ok { OnOk result (before.sub_flaw topic queue (seen self.old) ≡ None) }
         ensures after { OnOk result (seen self.new ≡ before.after_sub topic (seen self.old)) }
-        ensures refused { IfErr result (before.Refuses (before.sub_flaw topic queue (seen self.old))) }
+        ensures refused { IfErr result (Refuses (before.sub_flaw topic queue (seen self.old))) }
     {
         self.check_sub(topic, queue)?;
         self.weight = self.weight_with(topic);
@@ -278,13 +279,13 @@ impl Context {
     }
 
     fn check_object(&self) -> Result<(), Flaw>
-        ensures { before.Checks (before.object_flaw (seen self.now)) result }
+        ensures { Checks (before.object_flaw (seen self.now)) result }
     {
         flaw_if(self.objects >= MOST_OBJECTS, Flaw::Limit(7))
     }
 
     fn check_timer(&self, queue: QueueName, interval: u32) -> Result<(), Flaw>
-        ensures { before.Checks (before.timer_flaw queue interval (seen self.now)) result }
+        ensures { Checks (before.timer_flaw queue interval (seen self.now)) result }
     {
         self.check_queue(queue)?;
         flaw_if(interval == 0, Flaw::Fault(12))?;
@@ -294,7 +295,7 @@ impl Context {
     fn admit_timer(&mut self, queue: QueueName, interval: u32) -> Result<(), Refused>
         ensures ok { OnOk result (before.timer_flaw queue interval (seen self.old) ≡ None) }
         ensures after { OnOk result (seen self.new ≡ before.after_timer (seen self.old)) }
-        ensures refused { IfErr result (before.Refuses (before.timer_flaw queue interval (seen self.old))) }
+        ensures refused { IfErr result (Refuses (before.timer_flaw queue interval (seen self.old))) }
     {
         self.check_timer(queue, interval)?;
         self.objects = self.objects.saturating_add(1);
@@ -303,7 +304,7 @@ impl Context {
     }
 
     fn check_inbox(&self, queue: QueueName) -> Result<(), Flaw>
-        ensures { before.Checks (before.inbox_flaw queue (seen self.now)) result }
+        ensures { Checks (before.inbox_flaw queue (seen self.now)) result }
     {
         self.check_queue(queue)?;
         self.check_object()
@@ -312,7 +313,7 @@ impl Context {
     fn admit_inbox(&mut self, queue: QueueName) -> Result<(), Refused>
         ensures ok { OnOk result (before.inbox_flaw queue (seen self.old) ≡ None) }
         ensures after { OnOk result (seen self.new ≡ before.after_inbox (seen self.old)) }
-        ensures refused { IfErr result (before.Refuses (before.inbox_flaw queue (seen self.old))) }
+        ensures refused { IfErr result (Refuses (before.inbox_flaw queue (seen self.old))) }
     {
         self.check_inbox(queue)?;
         self.objects = self.objects.saturating_add(1);
@@ -323,7 +324,7 @@ impl Context {
     fn admit_fault(&mut self, index: u32) -> Result<(), Refused>
         ensures ok { OnOk result (before.fault_flaw index (seen self.old) ≡ None) }
         ensures after { OnOk result (seen self.new ≡ before.after_fault index (seen self.old)) }
-        ensures refused { IfErr result (before.Refuses (before.fault_flaw index (seen self.old))) }
+        ensures refused { IfErr result (Refuses (before.fault_flaw index (seen self.old))) }
     {
         flaw_if(self.indexes.contains(&index), Flaw::Fault(11))?;
         self.indexes.insert(index)?;
@@ -337,7 +338,7 @@ impl Context {
     }
 
     fn check_at(&self, call: u32, order: &OrderWord) -> Result<(), Flaw>
-        ensures { before.Checks (before.at_flaw call order.now (seen self.now)) result }
+        ensures { Checks (before.at_flaw call order.now (seen self.now)) result }
     {
         self.check_order(order)?;
         flaw_if(self.planned(call) >= MOST_ORDERS, Flaw::Fault(11))
@@ -346,7 +347,7 @@ impl Context {
     fn admit_at(&mut self, call: u32, order: &OrderWord) -> Result<(), Refused>
         ensures ok { OnOk result (before.at_flaw call order.now (seen self.old) ≡ None) }
         ensures after { OnOk result (seen self.new ≡ before.after_at call (seen self.old)) }
-        ensures refused { IfErr result (before.Refuses (before.at_flaw call order.now (seen self.old))) }
+        ensures refused { IfErr result (Refuses (before.at_flaw call order.now (seen self.old))) }
     {
         self.check_at(call, order)?;
         let planned = self.planned(call);
@@ -366,7 +367,7 @@ impl Context {
 
     fn admit_step(&mut self) -> Result<(), Refused>
         ensures after { OnOk result (seen self.new ≡ before.after_step (seen self.old)) }
-        ensures refused { IfErr result (before.Refuses None) }
+        ensures refused { IfErr result (Refuses None) }
     {
         self.place = self.beside();
         Ok(())
@@ -375,7 +376,7 @@ impl Context {
     fn admit_order(&mut self, order: &OrderWord) -> Result<(), Refused>
         ensures ok { OnOk result (before.order_flaw order.now (seen self.old) ≡ None) }
         ensures after { OnOk result (seen self.new ≡ before.after_step (seen self.old)) }
-        ensures refused { IfErr result (before.Refuses (before.order_flaw order.now (seen self.old))) }
+        ensures refused { IfErr result (Refuses (before.order_flaw order.now (seen self.old))) }
     {
         self.check_order(order)?;
         self.admit_step()

@@ -1,6 +1,6 @@
 //! Lines by their own form.
 ghost use Rattle.std.specs.Prelude.{◌≡◌, ◌<◌, ◌^◌, map, Some};
-ghost use Rattle.mama_words.specs.Reading.{Gives};
+ghost use Rattle.mama_words.specs.Answer.{Gives};
 ghost use Rattle.mama_words.specs.Number.{between_in};
 ghost use Rattle.mama_script.specs.Head.{head_in};
 ghost use Rattle.mama_script.specs.Form as forms;

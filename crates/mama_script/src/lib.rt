@@ -24,13 +24,14 @@ mod plan;
 mod printing;
 mod publisher;
 mod script;
-#[cfg(test)]
-mod tests;
 mod tree;
 
 pub use client::{ClientLine, ClientLines, QueueWord};
 pub use fault::{Flaw, ScriptFault};
-pub use laws::first_fault_is_told;
+pub use laws::{
+    first_fault_is_told, lines_that_are_read_are_accepted, scripts_are_compared_exactly,
+    spelled_scripts_are_read,
+};
 pub use mama_memory::OutOfMemory;
 pub use parsing::parse;
 pub use plan::Plan;

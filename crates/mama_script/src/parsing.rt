@@ -4,6 +4,7 @@ ghost use Rattle.mama_words.specs.Parting.{pieces};
 ghost use Rattle.mama_script.specs.Seen.{seen};
 ghost use Rattle.mama_script.specs.Before as before;
 ghost use Rattle.mama_script.specs.Reading as reading;
+ghost use Rattle.mama_script.specs.Answer.{Gives};
 ghost use Rattle.mama_script.specs.Script.{ScriptData};
 ghost use Rattle.mama_script.specs.Tree as tree;
 ghost use Rattle.mama_script.specs.Taken.{script_of_parts, parts_lines};
@@ -26,10 +27,10 @@ pub fn parse(alloc: Global, text: &[u8]) -> Result<Script, ScriptFault>
     ensures found { IfOk result (λ s. tree.IsScript s × (text.now ≡ tree.script_text s)) }
 
     // What is spelled so is read, unless no memory is found.
-    ensures only { (s : ScriptData) → tree.IsScript s → text.now ≡ tree.script_text s → reading.Gives (λ x. x) result (Ok s) }
+    ensures only { (s : ScriptData) → tree.IsScript s → text.now ≡ tree.script_text s → Gives (λ x. x) result (Ok s) }
 
     // Which line has which fault, or passes which limit.
-    ensures exact { reading.Gives tree.lines_of result (reading.script_in text.now) }
+    ensures exact { Gives tree.lines_of result (reading.script_in text.now) }
 {
     let parts = read_parts(alloc, text)?;
     Ok(Script::new(parts))
@@ -37,7 +38,7 @@ pub fn parse(alloc: Global, text: &[u8]) -> Result<Script, ScriptFault>
 
 // The parts of the script that a text spells.
 fn read_parts(alloc: Global, text: &[u8]) -> Result<Parts, ScriptFault>
-    ensures exact { reading.Gives parts_lines result (reading.script_in text.now) }
+    ensures exact { Gives parts_lines result (reading.script_in text.now) }
     ensures script { IfOk result (λ parts. tree.IsScript (script_of_parts parts)) }
 {
     let lines = read_script(alloc, text)?;
@@ -47,7 +48,7 @@ fn read_parts(alloc: Global, text: &[u8]) -> Result<Parts, ScriptFault>
 
 // The lines behind the first.
 fn read_script(alloc: Global, text: &[u8]) -> Result<Vec<Line>, ScriptFault>
-    ensures { reading.Gives (λ v. v.items) result (reading.script_in text.now) }
+    ensures { Gives (λ v. v.items) result (reading.script_in text.now) }
 {
     let lines = read_lines(alloc, text)?;
     if let Some(line) = first_unnamed(alloc, &lines)? {
@@ -58,7 +59,7 @@ fn read_script(alloc: Global, text: &[u8]) -> Result<Vec<Line>, ScriptFault>
 
 /// The lines behind the first, each in its form and fitting those before it.
 fn read_lines(alloc: Global, text: &[u8]) -> Result<Vec<Line>, ScriptFault>
-    ensures exact { reading.Gives (λ v. v.items) result (reading.lines_in (pieces 10 text.now)) }
+    ensures exact { Gives (λ v. v.items) result (reading.lines_in (pieces 10 text.now)) }
     ensures few { IfOk result (λ v. length v.items + 2 < 2 ^ 64) }
 {
     match cut_at(b'\n', text) {
@@ -75,7 +76,7 @@ fn read_lines(alloc: Global, text: &[u8]) -> Result<Vec<Line>, ScriptFault>
 
 fn read_rest(alloc: Global, text: &[u8]) -> Result<Vec<Line>, ScriptFault>
     requires { length text.now + 2 < 2 ^ 64 }
-    ensures exact { reading.Gives (λ v. v.items) result (reading.read_from before.start 2 (pieces 10 text.now)) }
+    ensures exact { Gives (λ v. v.items) result (reading.read_from before.start 2 (pieces 10 text.now)) }
     ensures few { IfOk result (λ v. length v.items ≤ length text.now) }
 {
     let mut lines = Vec::new(alloc);
@@ -115,7 +116,7 @@ fn read_line(
     number: u64,
     text: &[u8],
 ) -> Result<Line, ScriptFault>
-    ensures exact { reading.Gives (λ l. l) result (reading.line_in (seen context.old) number text.now) }
+    ensures exact { Gives (λ l. l) result (reading.line_in (seen context.old) number text.now) }
     ensures after { IfOk result (λ l. seen context.new ≡ before.after (seen context.old) l) }
 {
     match read_form(alloc, context.place(), text) {
@@ -129,7 +130,7 @@ fn read_line(
 }
 
 fn admit_line(context: &mut Context, number: u64, line: Line) -> Result<Line, ScriptFault>
-    ensures exact { reading.Gives (λ l. l) result (reading.unless_flawed number line (before.flaw (seen context.old) line)) }
+    ensures exact { Gives (λ l. l) result (reading.unless_flawed number line (before.flaw (seen context.old) line)) }
     ensures after { IfOk result (λ l. seen context.new ≡ before.after (seen context.old) l) }
 {
     match context.admit(&line) {

@@ -16,6 +16,29 @@ impl Model for Plan {
     ghost view = { λ p. p.rows.items };
 }
 
+impl PartialEq for Plan {
+    ghost use Rattle.std.specs.Prelude.{◌≡◌};
+    ghost use Rattle.std.specs.Cmp.{partial_equiv_from_equiv};
+    ghost use Rattle.mama_script.specs.Equality.{same_plan};
+    ghost use Rattle.mama_script.specs.EqualityLaws.{same_plan_equivalence};
+
+    ghost eq = { same_plan };
+
+    ghost laws = { partial_equiv_from_equiv same_plan_equivalence };
+
+    fn eq(&self, other: &Plan) -> bool
+        ensures { result ≡ same_plan self.now other.now }
+    {
+        self.rows() == other.rows()
+    }
+}
+
+impl Eq for Plan {
+    ghost use Rattle.mama_script.specs.EqualityLaws.{same_plan_equivalence};
+
+    ghost laws = { same_plan_equivalence };
+}
+
 impl Plan {
     ghost use Rattle.std.specs.Prelude.{◌≡◌};
 

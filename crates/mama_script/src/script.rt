@@ -1,9 +1,21 @@
+ghost use Rattle.std.specs.Prelude.{◌≡◌};
+ghost use Rattle.mama_script.specs.Equality.{same_shape};
+
 use crate::client::ClientLines;
 use crate::publisher::PublisherPart;
 use crate::tree::Parts;
 use mama_event::Shape;
 use mama_msg::TextValue;
 use std::marker::Model;
+
+// Whether two shapes count the same.
+fn same_shape(a: &Shape, b: &Shape) -> bool
+    ensures { result ≡ same_shape a.now b.now }
+{
+    a.clients == b.clients
+        && a.publisher_topics.as_slice() == b.publisher_topics.as_slice()
+        && a.bounds == b.bounds
+}
 
 /// A script: how many actors there are, and what each does. It always is the value of a text that is accepted.
 #[derive(Drop)]
@@ -26,8 +38,32 @@ impl Model for Script {
     ghost invariant = { λ s. IsScript (record { shape = s.shape; topics = s.topics.items; publishers = s.publishers.items; clients = s.clients.items }) };
 }
 
+impl PartialEq for Script {
+    ghost use Rattle.std.specs.Cmp.{partial_equiv_from_equiv};
+    ghost use Rattle.mama_script.specs.Equality.{same_script};
+    ghost use Rattle.mama_script.specs.EqualityLaws.{same_script_equivalence};
+
+    ghost eq = { same_script };
+
+    ghost laws = { partial_equiv_from_equiv same_script_equivalence };
+
+    fn eq(&self, other: &Script) -> bool
+        ensures { result ≡ same_script self.now other.now }
+    {
+        same_shape(&self.shape, &other.shape)
+            && self.topics == other.topics
+            && self.publishers == other.publishers
+            && self.clients == other.clients
+    }
+}
+
+impl Eq for Script {
+    ghost use Rattle.mama_script.specs.EqualityLaws.{same_script_equivalence};
+
+    ghost laws = { same_script_equivalence };
+}
+
 impl Script {
-    ghost use Rattle.std.specs.Prelude.{◌≡◌};
     ghost use Rattle.mama_script.specs.Taken.{script_of_parts};
     ghost use Rattle.mama_script.specs.Tree.{IsScript};
     ghost use Rattle.mama_script.specs.Within.{IsWithin};

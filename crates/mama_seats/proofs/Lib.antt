@@ -1,4 +1,3 @@
-pub mod ListLemmas
 pub mod StandLemmas
 pub mod ReadingLemmas
 pub mod MomentRows

@@ -1,7 +1,9 @@
 -- How a publisher's seat makes a step.
-use Rattle.std.proofs.Common.{◌≡◌, ℕ, zero, suc, ◌+◌, ◌<◌, true, false, List, [], ◌∷◌, ◌++◌, length, drop, refl, sym, ◌∙◌, ap, append_assoc, arith, Some, subst, get_or, ◌≤◌}
+use Rattle.std.proofs.Common.{◌≡◌, ℕ, zero, suc, ◌+◌, ◌-◌, ◌<◌, true, false, List, [], ◌∷◌, ◌++◌, length, drop, refl, sym, ◌∙◌, ap, append-nil, append_assoc, arith, Some, subst, get_or, ◌≤◌}
 use Rattle.std.specs.Prelude.{replicate, slice_get}
 use Rattle.std.specs.List.{flat_map}
+use Rattle.std.proofs.lemmas.List.{drop_all}
+use Rattle.mama_event.specs.declared.to_publisher.PublisherNote.{PublisherNote}
 use Rattle.mama_journal.specs.Journal.{count_of, puts_after}
 use Rattle.mama_msg.specs.Field.{FieldData}
 use Rattle.mama_event.specs.Publisher.{PublisherScript, SendLine, is_send, publisher_puts_at, message_of}
@@ -17,10 +19,9 @@ use Rattle.mama_publisher.specs.Laws.{StandsAt, SendingUpdates, SendingRecaps, T
 use Rattle.mama_event.specs.ToPublisher.{note_of}
 use Rattle.mama_event.specs.declared.to_publisher.ToPublisher.{ToPublisher}
 use Rattle.mama_publisher.specs.Standing.{Standing, advanced}
-use Rattle.mama_rounds.specs.Round.{sends_in, publisher_line_steps}
+use Rattle.mama_rules_rounds.specs.Round.{sends_in, publisher_line_steps}
 use Rattle.mama_seats.specs.Sender.{Sender, first_step, later_steps, steps_after, IsSenderStep, IsSeated, script_of}
 use Rattle.mama_event.specs.declared.market.MarketMsg.{MarketMsg}
-use Rattle.mama_seats.proofs.ListLemmas.{append_nil}
 use Rattle.mama_seats.proofs.StandLemmas.{next_line}
 
 -- the head of what is left after a drop is the element at that place
@@ -82,7 +83,7 @@ pub sender_over : (s : Sender) → s.over ≡ true → IsSenderStep s s []
 sender_over s over = record {
   script = refl;
   lane = refl;
-  journal = sym (ap (λ o. s.journal ++ first_step (steps_after o s.pause s.lines)) over ∙ append_nil s.journal);
+  journal = sym (ap (λ o. s.journal ++ first_step (steps_after o s.pause s.lines)) over ∙ append-nil s.journal);
   steps = ap (λ o. steps_after o s.pause s.lines) over ∙ sym (ap (λ o. later_steps (steps_after o s.pause s.lines)) over);
   puts_are = sym (ap (λ o. puts_after (publisher_puts_at s.script) s.journal (first_step (steps_after o s.pause s.lines))) over);
 }
@@ -92,7 +93,7 @@ pub sender_pauses : (s : Sender) (k : ℕ) → s.over ≡ false → s.pause ≡ 
 sender_pauses s k over pause = record {
   script = refl;
   lane = refl;
-  journal = rw (over, pause) (sym (append_nil s.journal));
+  journal = rw (over, pause) (sym (append-nil s.journal));
   steps = rw (over, pause) refl;
   puts_are = rw (over, pause) refl;
 }
@@ -102,7 +103,7 @@ pub sender_begins_pause : (s : Sender) (k : ℕ) (rest : List PublisherLine) →
 sender_begins_pause s k rest over pause lines = record {
   script = refl;
   lane = refl;
-  journal = rw (over, pause, lines) (sym (append_nil s.journal));
+  journal = rw (over, pause, lines) (sym (append-nil s.journal));
   steps = rw (over, pause, lines) (sym (append_assoc (replicate k []) (flat_map publisher_line_steps rest) ((entry.Done ∷ []) ∷ [])));
   puts_are = rw (over, pause, lines) refl;
 }
@@ -211,3 +212,34 @@ sender_pause_moves s old lines at m n r after puts is over pause own within read
     (subst (λ (q : List BridgeNote). IsSenderStep s (record s { journal = after; pause = m; lines = drop (at + 1) lines }) q) (sym none)
     (subst (λ (j : List PublisherEntry). IsSenderStep s (record s { journal = j; pause = m; lines = drop (at + 1) lines }) []) (sym keeps)
     (sender_begins_pause s m (drop (at + 1) lines) over no_pause left)))
+
+-- the word that all lines were sent
+pub sender_ends_at : (s old : Sender) (lines : List PublisherLine) (at : ℕ) (after : List PublisherEntry) → s ≡ old → s.over ≡ false → s.pause ≡ 0 → s.lines ≡ drop at lines → length lines ≤ at
+    → after ≡ s.journal ++ entry.Done ∷ [] → IsSenderStep old (record s { journal = after; over = true }) (put.SendsDone ∷ [])
+sender_ends_at s old lines at after is over pause own past more =
+    subst (λ (o : Sender). IsSenderStep o (record s { journal = after; over = true }) (put.SendsDone ∷ [])) is
+    (subst (λ (j : List PublisherEntry). IsSenderStep s (record s { journal = j; over = true }) (put.SendsDone ∷ [])) (sym more)
+    (sender_ends s over pause (own ∙ drop_all at lines past)))
+
+-- a pause goes on
+pub sender_pauses_on : (s old : Sender) → s ≡ old → s.over ≡ false → 0 < s.pause → IsSenderStep old (record s { pause = s.pause - 1 }) []
+sender_pauses_on s old is over pause =
+    subst (λ (o : Sender). IsSenderStep o (record s { pause = s.pause - 1 }) []) is (sender_pauses s (s.pause - 1) over (let e : s.pause ≡ suc (s.pause - 1) = omega arith in e))
+
+-- a seat after a pause
+pub pause_seats : (script : PublisherScript) (journal after : List PublisherEntry) (p : Standing) (lines : List PublisherLine) (at n : ℕ) (r : PublisherLine)
+    → IsSeated script journal p (drop at lines) → at < length lines → r ≡ get_or lines at r → r ≡ line.Pause n → after ≡ journal
+    → IsSeated script after p (drop (at + 1) lines)
+pause_seats script journal after p lines at n r seated within read same keeps =
+    subst (λ (j : List PublisherEntry). IsSeated script j p (drop (at + 1) lines)) (sym keeps)
+    (seated_past script journal p n (drop (at + 1) lines) (subst (IsSeated script journal p) (next_line lines at r (line.Pause n) within read same) seated))
+
+-- the same step with other events on the lane
+pub step_with_lane : (old new : Sender) (puts : List BridgeNote) (lane : List PublisherNote) → IsSenderStep old new puts → IsSenderStep (record old { lane = lane }) (record new { lane = lane }) puts
+step_with_lane old new puts lane step = record {
+  script = step.script;
+  lane = refl;
+  journal = step.journal;
+  steps = step.steps;
+  puts_are = step.puts_are;
+}

@@ -1,24 +1,23 @@
 -- How a client's seat makes a step.
-use Rattle.std.proofs.Common.{◌≡◌, ℕ, suc, ◌+◌, ◌<◌, ◌≤◌, Bool, true, false, List, [], ◌∷◌, ◌++◌, length, drop, refl, sym, ◌∙◌, ap, append_assoc, arith, subst, add-one, get_or}
-use Rattle.std.proofs.lemmas.List.{length-append}
+use Rattle.std.proofs.Common.{◌≡◌, ℕ, suc, ◌+◌, ◌-◌, ◌<◌, ◌≤◌, Bool, true, false, List, [], ◌∷◌, ◌++◌, length, drop, refl, sym, ◌∙◌, ap, append-nil, append_assoc, arith, subst, add-one, get_or}
+use Rattle.std.proofs.lemmas.List.{length-append, drop_all}
 use Rattle.std.proofs.Math.Seq.{drop-append_seam, drop-cons}
 use Rattle.mama_script.specs.declared.client.ClientLine.{ClientLine}
 use Rattle.mama_script.specs.declared.client.ClientLine.TheVariants as line
 use Rattle.mama_event.specs.declared.to_bridge.BridgeNote.TheVariants as b
 use Rattle.mama_event.specs.declared.to_timers.TimersNote.TheVariants as t
-use Rattle.mama_queue_rules.specs.Queue.{QueuePut, to_bridge, to_timers}
-use Rattle.mama_rounds.specs.Client.{steps_from}
-use Rattle.mama_seats.specs.declared.names.Names.{Names}
-use Rattle.mama_seats.specs.Names.{DoesLine}
+use Rattle.mama_rules_queue.specs.Queue.{QueuePut, to_bridge, to_timers}
+use Rattle.mama_rules_rounds.specs.Client.{steps_from, reads_clock}
+use Rattle.mama_plans.specs.declared.names.Names.{Names}
+use Rattle.mama_plans.specs.Names.{DoesLine}
 use Rattle.mama_seats.specs.Sender.{first_step, later_steps}
-use Rattle.mama_seats.specs.Stand.{Stand, standing_in, left_after, BeginsWith, IsStep}
-use Rattle.mama_seats.proofs.ListLemmas.{append_nil}
+use Rattle.mama_seats.specs.Stand.{Stand, standing_in, left_after, reads_next, BeginsWith, IsStep}
 
 apart : {b : Bool} → b ≡ false → b ≡ true → ⊥
 apart untrue holds = cc
 
 itself : (xs : List ℕ) → BeginsWith xs xs
-itself xs = ([], append_nil xs)
+itself xs = ([], append-nil xs)
 
 -- no step is left
 pub over_step : (s : Stand) → s.over ≡ true → IsStep s s []
@@ -104,23 +103,70 @@ pub next_line : {A : Type 0} → (xs : List A) (n : ℕ) (r x : A) → n < lengt
 next_line xs n r x within is same =
     drop-cons xs n r within ∙ ap (λ y. y ∷ drop (suc n) xs) (sym is ∙ same) ∙ ap (λ k. x ∷ drop k xs) (sym (add-one n))
 
--- the same of a seat that stands at a place in its lines: a pause begins
-pub pause_moves : (s old : Stand) (whole : List ClientLine) (at m n : ℕ) (r : ClientLine) (puts : List QueuePut) → s ≡ old → s.over ≡ false → s.pause ≤ 0
-    → s.lines ≡ drop at whole → at < length whole → r ≡ get_or whole at r → r ≡ line.Pause n → suc m ≡ n → puts ≡ []
-    → IsStep old (record s { pause = m; lines = drop (at + 1) whole }) puts
-pause_moves s old whole at m n r puts is over pause own within read same counted none =
-    let no_pause : s.pause ≡ 0 = omega arith in
+-- THE SAME OF A SEAT THAT STANDS AT A PLACE IN ITS LINES
+
+-- the last words
+pub words_end : (s old : Stand) (whole : List ClientLine) (at : ℕ) → s ≡ old → s.over ≡ false → s.pause ≡ 0 → s.lines ≡ drop at whole → length whole ≤ at
+    → IsStep old (record s { over = true }) (to_timers t.ClientDone ∷ to_bridge b.ClientDone ∷ [])
+words_end s old whole at is over pause own past =
+    subst (λ (o : Stand). IsStep o (record s { over = true }) (to_timers t.ClientDone ∷ to_bridge b.ClientDone ∷ [])) is
+    (end_step s over pause (own ∙ drop_all at whole past))
+
+-- a pause begins
+pub pause_moves : (s old : Stand) (whole : List ClientLine) (at m n : ℕ) (r : ClientLine) → s ≡ old → s.over ≡ false → s.pause ≡ 0
+    → s.lines ≡ drop at whole → at < length whole → r ≡ get_or whole at r → r ≡ line.Pause n → suc m ≡ n
+    → IsStep old (record s { pause = m; lines = drop (at + 1) whole }) []
+pause_moves s old whole at m n r is over pause own within read same counted =
     let lines : s.lines ≡ line.Pause (suc m) ∷ drop (at + 1) whole = own ∙ next_line whole at r (line.Pause (suc m)) within read (same ∙ ap line.Pause (sym counted)) in
-    subst (λ (o : Stand). IsStep o (record s { pause = m; lines = drop (at + 1) whole }) puts) is
-    (subst (λ (p : List QueuePut). IsStep s (record s { pause = m; lines = drop (at + 1) whole }) p) (sym none)
-    (pause_begins s m (drop (at + 1) whole) over no_pause lines))
+    subst (λ (o : Stand). IsStep o (record s { pause = m; lines = drop (at + 1) whole }) []) is
+    (pause_begins s m (drop (at + 1) whole) over pause lines)
+
+-- a pause goes on
+pub pause_moves_on : (s old : Stand) → s ≡ old → s.over ≡ false → 0 < s.pause → IsStep old (record s { pause = s.pause - 1 }) []
+pause_moves_on s old is over pause =
+    subst (λ (o : Stand). IsStep o (record s { pause = s.pause - 1 }) []) is (pause_step s (s.pause - 1) over (let e : s.pause ≡ suc (s.pause - 1) = omega arith in e))
 
 -- a line is done
-pub line_moves : (s old : Stand) (whole : List ClientLine) (at : ℕ) (r l : ClientLine) (names : Names) (put : QueuePut) (puts : List QueuePut) → s ≡ old → s.over ≡ false → s.pause ≤ 0
-    → s.lines ≡ drop at whole → at < length whole → r ≡ get_or whole at r → r ≡ l → DoesLine s.queues s.number s.names names l put → puts ≡ put ∷ []
-    → IsStep old (record s { names = names; lines = drop (at + 1) whole }) puts
-line_moves s old whole at r l names put puts is over pause own within read same does puts_are =
-    let no_pause : s.pause ≡ 0 = omega arith in
-    subst (λ (o : Stand). IsStep o (record s { names = names; lines = drop (at + 1) whole }) puts) is
-    (subst (λ (p : List QueuePut). IsStep s (record s { names = names; lines = drop (at + 1) whole }) p) (sym puts_are)
-    (line_step s l (drop (at + 1) whole) names put over no_pause (own ∙ next_line whole at r l within read same) does))
+pub line_moves : (s old : Stand) (whole : List ClientLine) (at : ℕ) (r : ClientLine) (names : Names) (put : QueuePut) → s ≡ old → s.over ≡ false → s.pause ≡ 0
+    → s.lines ≡ drop at whole → at < length whole → r ≡ get_or whole at r → DoesLine s.queues s.number s.names names r put
+    → IsStep old (record s { names = names; lines = drop (at + 1) whole }) (put ∷ [])
+line_moves s old whole at r names put is over pause own within read does =
+    subst (λ (o : Stand). IsStep o (record s { names = names; lines = drop (at + 1) whole }) (put ∷ [])) is
+    (line_step s r (drop (at + 1) whole) names put over pause (own ∙ next_line whole at r r within read refl) does)
+
+-- the clock is read
+pub clock_moves : (s old : Stand) (whole : List ClientLine) (at m : ℕ) (r : ClientLine) (read : List ℕ) → s ≡ old → s.over ≡ false → s.pause ≡ 0
+    → s.lines ≡ drop at whole → at < length whole → r ≡ get_or whole at r → r ≡ line.NowClock → read ≡ s.read ++ m ∷ []
+    → IsStep old (record s { lines = drop (at + 1) whole; read = read }) (to_timers (t.Now m) ∷ [])
+clock_moves s old whole at m r read is over pause own within told same grown =
+    subst (λ (o : Stand). IsStep o (record s { lines = drop (at + 1) whole; read = read }) (to_timers (t.Now m) ∷ [])) is
+    (subst (λ (l : List ℕ). IsStep s (record s { lines = drop (at + 1) whole; read = l }) (to_timers (t.Now m) ∷ [])) (sym grown)
+    (clock_step s m (drop (at + 1) whole) over pause (own ∙ next_line whole at r line.NowClock within told same)))
+
+-- WHETHER THE NEXT STEP READS THE CLOCK
+
+pub reads_over : (s old : Stand) → s ≡ old → s.over ≡ true → false ≡ reads_next old
+reads_over s old is over = subst (λ (o : Stand). false ≡ reads_next o) is (rw over refl)
+
+reads_paused_by : (s : Stand) (k : ℕ) → s.over ≡ false → s.pause ≡ suc k → false ≡ reads_next s
+reads_paused_by s k over pause = rw (over, pause) refl
+
+pub reads_paused : (s old : Stand) → s ≡ old → s.over ≡ false → 0 < s.pause → false ≡ reads_next old
+reads_paused s old is over pause =
+    subst (λ (o : Stand). false ≡ reads_next o) is (reads_paused_by s (s.pause - 1) over (let e : s.pause ≡ suc (s.pause - 1) = omega arith in e))
+
+reads_by : (s : Stand) (l : ClientLine) (rest : List ClientLine) → s.over ≡ false → s.pause ≡ 0 → s.lines ≡ l ∷ rest → reads_clock l ≡ reads_next s
+reads_by s l rest over pause lines = rw (over, pause, lines) refl
+
+reads_past : (s : Stand) → s.over ≡ false → s.pause ≡ 0 → s.lines ≡ [] → false ≡ reads_next s
+reads_past s over pause lines = rw (over, pause, lines) refl
+
+pub reads_at_end : (s old : Stand) (whole : List ClientLine) (at : ℕ) → s ≡ old → s.over ≡ false → s.pause ≤ 0 → s.lines ≡ drop at whole → length whole ≤ at → false ≡ reads_next old
+reads_at_end s old whole at is over pause own past =
+    subst (λ (o : Stand). false ≡ reads_next o) is (reads_past s over (let e : s.pause ≡ 0 = omega arith in e) (own ∙ drop_all at whole past))
+
+pub reads_at_line : (s old : Stand) (whole : List ClientLine) (at : ℕ) (r : ClientLine) → s ≡ old → s.over ≡ false → s.pause ≤ 0 → s.lines ≡ drop at whole → at < length whole → r ≡ get_or whole at r
+    → reads_clock r ≡ reads_next old
+reads_at_line s old whole at r is over pause own within read =
+    subst (λ (o : Stand). reads_clock r ≡ reads_next o) is
+    (reads_by s r (drop (at + 1) whole) over (let e : s.pause ≡ 0 = omega arith in e) (own ∙ next_line whole at r r within read refl))

@@ -1,5 +1,8 @@
-pub mod Names
 pub mod Sender
 pub mod Moments
 pub mod Stand
-pub mod Planning
+pub mod Said
+pub mod Server
+pub mod Listening
+pub mod Lane
+pub mod Waiting

@@ -1,10 +1,10 @@
--- What a clock answers, and in which order the clients of a script read it.
+-- believed: What a clock answers, and in which order the clients of a script read it.
 use Rattle.std.specs.Prelude.{◌≡◌, ℕ, zero, suc, ◌≤◌, List, [], ◌∷◌, ◌++◌, length, replicate, slice_index, slice_index_or, Option, Some, IfSome}
 use Rattle.std.specs.List.{All, flat_map}
 use Rattle.mama_edge.specs.Told.{after_first}
 use Rattle.mama_script.specs.declared.client.ClientLine.{ClientLine}
 use Rattle.mama_script.specs.declared.client.ClientLine.TheVariants as line
-use Rattle.mama_rounds.specs.Client.{first_moment, later_moments}
+use Rattle.mama_rules_rounds.specs.Client.{first_moment, later_moments}
 
 -- what a clock answers in so many calls, where these moments are left to it
 abbrev pub answers : ℕ → List ℕ → List ℕ

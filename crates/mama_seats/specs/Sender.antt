@@ -1,4 +1,4 @@
--- A publisher's seat: the publisher with its part of the script, its journal and its lane.
+-- believed: A publisher's seat: the publisher with its part of the script, its journal and its lane.
 use Rattle.std.specs.Prelude.{◌≡◌, ℕ, Bool, true, false, List, [], ◌∷◌, ◌++◌, drop, replicate}
 use Rattle.std.specs.List.{flat_map}
 use Rattle.mama_journal.specs.Journal.{count_of, puts_after}
@@ -9,9 +9,10 @@ use Rattle.mama_event.specs.declared.to_bridge.BridgeNote.{BridgeNote}
 use Rattle.mama_event.specs.Publisher.{PublisherScript, is_send, publisher_puts_at}
 use Rattle.mama_msg.specs.Field.{FieldData}
 use Rattle.mama_script.specs.declared.publisher.PublisherLine.{PublisherLine}
+use Rattle.mama_script.specs.declared.publisher.PublisherPart.{PublisherPart}
 use Rattle.mama_publisher.specs.Laws.{StandsAt}
 use Rattle.mama_publisher.specs.Standing.{Standing}
-use Rattle.mama_rounds.specs.Round.{sends_in, publisher_steps}
+use Rattle.mama_rules_rounds.specs.Round.{sends_in, publisher_steps}
 
 -- its script, its journal, what waits on its lane, whether it has sent all it has to send, how many steps it still
 -- pauses, and the lines that are left
@@ -66,3 +67,26 @@ pub record IsSenderStep (old new : Sender) (puts : List BridgeNote) : Type 0 whe
 pub record IsSeated (script : PublisherScript) (journal : List PublisherEntry) (p : Standing) (left : List PublisherLine) : Type 0 where
   pub stands : StandsAt script journal p
   pub unsent : drop (count_of is_send journal) script.lines ≡ flat_map sends_in left
+
+-- the publisher, its journal, the place of its next line in its section, how many steps it still pauses, and whether it
+-- has sent all it has to send
+pub record Progress : Type 0 where
+  pub publisher : Standing
+  pub journal : List PublisherEntry
+  pub line : ℕ
+  pub pause : ℕ
+  pub over : Bool
+
+-- a publisher that begins with this record and goes through these lines, with nothing on its lane
+abbrev pub sender_in : List FieldData → List PublisherLine → Progress → Sender
+sender_in base lines s = record { script = script_of s.publisher.number base lines; journal = s.journal; lane = []; over = s.over; pause = s.pause; lines = drop s.line lines }
+
+abbrev pub IsSeatedIn : List FieldData → List PublisherLine → Progress → Type 0
+IsSeatedIn base lines s = IsSeated (script_of s.publisher.number base lines) s.journal s.publisher (drop s.line lines)
+
+-- the same of a section of a script
+abbrev pub sender_of : PublisherPart → Progress → Sender
+sender_of part s = sender_in part.base part.lines s
+
+abbrev pub IsSeatedAt : PublisherPart → Progress → Type 0
+IsSeatedAt part s = IsSeatedIn part.base part.lines s

@@ -1,10 +1,10 @@
--- A client's seat: where the client stands in its lines, and the moments that it has read.
-use Rattle.std.specs.Prelude.{◌≡◌, ℕ, ◌+◌, Bool, true, false, List, [], ◌++◌, length, drop, replicate, Option}
+-- believed: A client's seat: where the client stands in its lines, and the moments that it has read.
+use Rattle.std.specs.Prelude.{◌≡◌, ℕ, zero, suc, ◌+◌, Bool, true, false, List, [], ◌∷◌, ◌++◌, length, drop, replicate, Option}
 use Rattle.mama_script.specs.declared.client.ClientLine.{ClientLine}
-use Rattle.mama_queue_rules.specs.Queue.{QueuePut}
-use Rattle.mama_rounds.specs.Client.{Standing, steps_from, clock_lines}
-use Rattle.mama_seats.specs.declared.names.Names.{Names}
-use Rattle.mama_seats.specs.Names.{standing_of}
+use Rattle.mama_rules_queue.specs.Queue.{QueuePut}
+use Rattle.mama_rules_rounds.specs.Client.{Standing, steps_from, reads_clock, clock_lines}
+use Rattle.mama_plans.specs.declared.names.Names.{Names}
+use Rattle.mama_plans.specs.Names.{standing_of}
 use Rattle.mama_seats.specs.Moments.{Answered, client_reads}
 use Rattle.mama_seats.specs.Sender.{first_step, later_steps}
 
@@ -18,6 +18,30 @@ pub record Stand : Type 0 where
   pub names : Names
   pub lines : List ClientLine
   pub read : List ℕ
+
+-- the same of a client whose lines are elsewhere: the place of its next line in place of the lines that are left
+pub record Walk : Type 0 where
+  pub number : ℕ
+  pub queues : ℕ
+  pub over : Bool
+  pub pause : ℕ
+  pub names : Names
+  pub line : ℕ
+  pub read : List ℕ
+
+-- a client that walks along these lines
+abbrev pub stand_of : List ClientLine → Walk → Stand
+stand_of lines w = record { number = w.number; queues = w.queues; over = w.over; pause = w.pause; names = w.names; lines = drop w.line lines; read = w.read }
+
+-- the next step is a line that reads the clock
+abbrev pub reads_at : Bool → ℕ → List ClientLine → Bool
+reads_at true pause lines = false
+reads_at false (suc pause) lines = false
+reads_at false zero [] = false
+reads_at false zero (l ∷ ls) = reads_clock l
+
+abbrev pub reads_next : Stand → Bool
+reads_next s = reads_at s.over s.pause s.lines
 
 -- where it stands, if these are all the moments that its clock will have told in the end
 abbrev pub standing_in : List ℕ → Stand → Standing

@@ -1,106 +1,55 @@
-ghost use Rattle.std.specs.Prelude.{◌≡◌, ◌+◌, ◌-◌, ◌^◌, ◌<◌, List, [], ◌∷◌, ◌++◌, map, false, ◌||◌, nat_le, None, Some, if◌then◌else◌, IfOk, IfErr, OnOk, OnErr, vec_len};
-ghost use Rattle.std.specs.Vec.{vec_capacity};
-ghost use Rattle.mama_event.specs.declared.publisher_entry.PublisherEntry.{PublisherEntry};
+ghost use Rattle.std.specs.Prelude.{◌≡◌, ◌+◌, ◌-◌, ◌^◌, ◌<◌, ◌≤◌, length, [], ◌∷◌, ◌++◌, map, false, ◌||◌, nat_le, None, Some, if◌then◌else◌, IfOk, IfErr, OnOk, OnErr};
 ghost use Rattle.mama_event.specs.ToBridge.{note_of};
 ghost use Rattle.mama_event.specs.ToPublisher.{note_of as publisher_note_of};
-ghost use Rattle.mama_queue_seat.specs.Put.{own_tag};
-ghost use Rattle.mama_rounds.specs.World.{is_empty};
+ghost use Rattle.mama_plans.specs.Put.{own_tag};
+ghost use Rattle.mama_rules_rounds.specs.World.{is_empty};
 ghost use Rattle.mama_seats.specs.Sender.{script_of, taken, taken_puts, IsSenderStep};
 
-use mama_event::{MsgKind, ObjectId, PublisherEntry, PublisherNote, Stream, ToBridge, ToPublisher};
-use mama_link::Outbox;
-use mama_memory::{Duplicate, OutOfMemory};
-use mama_msg::Msg;
-use mama_publisher::{
-    Publisher, a_new_publisher_has_its_base, sending_a_recap, sending_an_update, taking_an_event,
-    telling_the_end_of_sends,
-};
-use mama_script::{PublisherLine, PublisherPart};
+use crate::publisher_state::PublisherState;
+use mama_event::{ObjectId, PublisherEntry, ToBridge, ToPublisher};
+use mama_memory::{OutOfMemory, Outbox};
+use mama_script::PublisherPart;
 use std::alloc::Global;
 use std::collections::VecDeque;
 use std::marker::Model;
 
-/// A publisher with its section of the script, its journal, and what waits on its lane.
+/// A publisher beside its section of the script, with what waits on its lane.
 #[derive(Drop)]
 pub struct PublisherSeat<'a> {
     alloc: Global,
-    base: &'a Msg,
-    lines: &'a [PublisherLine],
-    publisher: Publisher,
-    journal: Vec<PublisherEntry>,
+    part: &'a PublisherPart,
+    state: PublisherState,
     lane: VecDeque<ToPublisher>,
-    line: usize,
-    pause: u32,
-    over: bool,
 }
 
 impl<'a> Model for PublisherSeat<'a> {
-    ghost use Rattle.std.specs.Prelude.{map, drop};
+    ghost use Rattle.std.specs.Prelude.{map};
     ghost use Rattle.mama_event.specs.ToPublisher.{note_of};
-    ghost use Rattle.mama_seats.specs.Sender.{Sender, script_of, IsSeated};
+    ghost use Rattle.mama_seats.specs.Sender.{Sender, sender_of, IsSeatedAt};
 
     ghost Value = { Sender };
 
-    ghost view = { λ s. record { script = script_of s.publisher.number s.base.now s.lines.now; journal = s.journal.items; lane = map note_of s.lane.items; over = s.over; pause = s.pause; lines = drop s.line s.lines.now } };
+    ghost view = { λ s. record (sender_of s.part.now s.state) { lane = map note_of s.lane.items } };
 
-    ghost invariant = { λ s. IsSeated (script_of s.publisher.number s.base.now s.lines.now) s.journal.items s.publisher (drop s.line s.lines.now) };
-}
-
-/// Writes into a journal with room that a line was sent.
-fn note_send(journal: &mut Vec<PublisherEntry>)
-    requires { vec_len journal.old < vec_capacity journal.old }
-    ensures { journal.new.items ≡ journal.old.items ++ PublisherEntry.Send ∷ [] }
-{
-    // The proof of a push asks that the function names each type that an entry can have in it.
-    let _note: Option<PublisherNote> = None;
-    journal.push_reserved(PublisherEntry::Send);
-}
-
-/// Writes into a journal with room that all lines were sent.
-fn note_done(journal: &mut Vec<PublisherEntry>)
-    requires { vec_len journal.old < vec_capacity journal.old }
-    ensures { journal.new.items ≡ journal.old.items ++ PublisherEntry.Done ∷ [] }
-{
-    let _note: Option<PublisherNote> = None;
-    journal.push_reserved(PublisherEntry::Done);
-}
-
-/// Writes into a journal with room that an event was taken.
-fn note_taken(journal: &mut Vec<PublisherEntry>, note: PublisherNote)
-    requires { vec_len journal.old < vec_capacity journal.old }
-    ensures { journal.new.items ≡ journal.old.items ++ PublisherEntry.Took note ∷ [] }
-{
-    journal.push_reserved(PublisherEntry::Took(note));
+    ghost invariant = { λ s. IsSeatedAt s.part.now s.state };
 }
 
 impl<'a> PublisherSeat<'a> {
-    /// The publisher of this number and section, which has done nothing yet. The error is want of memory, or a base
-    /// of more than 64 fields, which no accepted script has.
+    /// The publisher of this number and section, which has done nothing yet, as [`PublisherState::new`] makes it.
     pub fn new(
         alloc: Global,
         number: u32,
         part: &'a PublisherPart,
     ) -> Result<PublisherSeat<'a>, OutOfMemory>
+        requires number { number + 1 < 2 ^ 32 }
+        requires base { length part.now.base ≤ 64 }
         ensures { IfOk result (λ seat. seat ≡ record { script = script_of number part.now.base part.now.lines; journal = []; lane = []; over = false; pause = 0; lines = part.now.lines }) }
     {
-        if number == u32::MAX {
-            return Err(OutOfMemory);
-        }
-        let publisher = match Publisher::new(alloc, number, part.base.try_clone()?) {
-            Ok(publisher) => publisher,
-            Err(_) => return Err(OutOfMemory),
-        };
-        a_new_publisher_has_its_base();
         Ok(PublisherSeat {
             alloc,
-            base: &part.base,
-            lines: part.lines.as_slice(),
-            publisher,
-            journal: Vec::new(alloc),
+            part,
+            state: PublisherState::new(alloc, number, part)?,
             lane: VecDeque::new(alloc),
-            line: 0,
-            pause: 0,
-            over: false,
         })
     }
 
@@ -115,35 +64,41 @@ impl<'a> PublisherSeat<'a> {
     pub fn is_over(&self) -> bool
         ensures { result ≡ self.now.over }
     {
-        self.over
+        self.state.is_over()
     }
 
     /// How many steps it still pauses; none where it is over.
     pub fn pause(&self) -> Option<u32>
         ensures { result ≡ if self.now.over then None else Some self.now.pause }
     {
-        if self.over { None } else { Some(self.pause) }
+        self.state.pause()
     }
 
     /// Whether a pause covers as many steps, or it has none left to make.
     pub fn is_idle(&self, steps: u32) -> bool
         ensures { result ≡ (self.now.over || nat_le steps self.now.pause) }
     {
-        self.over || steps <= self.pause
+        self.state.is_idle(steps)
     }
 
     /// Passes over as many steps of a pause.
     pub fn rest(&mut self, steps: u32)
         ensures { self.new ≡ record self.old { pause = self.old.pause - steps } }
     {
-        self.pause = self.pause.saturating_sub(steps);
+        self.state.rest(steps);
     }
 
     /// The journal.
     pub fn into_journal(self) -> Vec<PublisherEntry>
         ensures { result.items ≡ self.entry.journal }
     {
-        self.journal
+        let PublisherSeat {
+            alloc: _,
+            part: _,
+            state,
+            lane: _,
+        } = self;
+        state.into_journal()
     }
 
     /// Puts an event at the end of the lane. Where no memory is found the event is given back, and all is as before.
@@ -169,69 +124,18 @@ impl<'a> PublisherSeat<'a> {
         let Some(event) = self.lane.front().copied() else {
             return Ok(out);
         };
-        self.journal.reserve(1)?;
-        let note = event.note()?;
-        if self.publisher.take(event, &mut out).is_err() {
-            return Err(OutOfMemory);
-        }
-        taking_an_event();
-        note_taken(&mut self.journal, note);
+        self.state.take(event, &mut out)?;
         let _taken = self.lane.pop_front();
         Ok(out)
     }
 
-    /// Makes the next step, and gives what it puts: nothing during a pause and after the last step. The error is want
-    /// of memory, or a record or a number past its limit, which no accepted script reaches; then all is as before.
+    /// Makes the next step, and gives what it puts, as [`PublisherState::step`] does.
     pub fn step(&mut self) -> Result<Outbox<ToBridge<ObjectId>>, OutOfMemory>
         ensures step { IfOk result (λ out. IsSenderStep self.old self.new (map (note_of own_tag) out.items)) }
         ensures err { OnErr result (self.new ≡ self.old) }
     {
         let mut out = Outbox::new(self.alloc);
-        if self.over {
-            return Ok(out);
-        }
-        if self.pause > 0 {
-            self.pause -= 1;
-            return Ok(out);
-        }
-        out.reserve(1)?;
-        self.journal.reserve(1)?;
-        if self.line >= self.lines.len() {
-            telling_the_end_of_sends();
-            note_done(&mut self.journal);
-            self.over = true;
-            out.push_reserved(ToBridge::SendsDone);
-            return Ok(out);
-        }
-        match &self.lines[self.line] {
-            PublisherLine::Update(body) => {
-                let msg = match self.publisher.send(body) {
-                    Ok(msg) => msg,
-                    Err(_) => return Err(OutOfMemory),
-                };
-                sending_an_update();
-                note_send(&mut self.journal);
-                self.line += 1;
-                out.push_reserved(ToBridge::Publish { msg });
-                Ok(out)
-            }
-            PublisherLine::Recap => {
-                let msg = self.publisher.image(MsgKind::Recap)?;
-                sending_a_recap();
-                note_send(&mut self.journal);
-                self.line += 1;
-                out.push_reserved(ToBridge::Publish { msg });
-                Ok(out)
-            }
-            PublisherLine::Pause(steps) => {
-                let steps = *steps;
-                if steps == 0 {
-                    return Err(OutOfMemory);
-                }
-                self.pause = steps - 1;
-                self.line += 1;
-                Ok(out)
-            }
-        }
+        self.state.step(self.part, &mut out)?;
+        Ok(out)
     }
 }

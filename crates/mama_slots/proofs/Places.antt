@@ -5,7 +5,8 @@ use Rattle.std.specs.declared.ops.Bound.TheVariants.{Included}
 use Rattle.std.specs.BTreeSet.{BTreeSet, IsKeyRangeOf, contains}
 use Rattle.std.proofs.lemmas.Bool.{and_parts, eqb-true, both_ways, lt-ltb, false_from_ne_true}
 use Rattle.std.proofs.lemmas.Bool.Decides.{nat_tests}
-use Rattle.mama_slots.specs.Slots.{place_cmp, SlotData, IsBelowTops, is_freed, top_of, in_use}
+use Rattle.mama_slots.specs.Slots.{place_cmp, SlotData, is_freed, top_of, in_use}
+use Rattle.mama_slots.specs.Tops.{IsBelowTops}
 use Rattle.mama_slots.proofs.Orders.{place_ties}
 
 pub le_queue : (a b c d : ℕ) → is_gt (place_cmp (a, b) (c, d)) ≡ false → a ≤ c

@@ -1,4 +1,4 @@
--- Which slots of each queue are in use.
+-- believed: Which slots of each queue are in use.
 use Rattle.std.specs.Prelude.{◌≡◌, ℕ, ◌+◌, ◌<◌, ◌^◌, Bool, true, false, not, ◌&&◌, nat_lt, List, unwrap_or, is_some}
 use Rattle.std.specs.List.{list_any}
 use Rattle.std.specs.Map.{lookup}
@@ -29,10 +29,6 @@ in_use slots queue slot = nat_lt slot (top_of slots queue) && not (is_freed slot
 -- it is written down how many slots of a queue were ever in use
 abbrev pub has_queue : SlotData → ℕ → Bool
 has_queue slots queue = is_some (lookup (is_at (nat_cmp queue)) slots.tops)
-
--- a slot that is free again was in use
-pub record IsBelowTops (slots : SlotData) : Type 0 where
-  pub each : (queue slot : ℕ) → is_freed slots queue slot ≡ true → slot < top_of slots queue
 
 -- the slot of a queue to be put in use next: the least that is free, which may be written down
 pub record IsNext (slots : SlotData) (queue slot : ℕ) : Type 0 where

@@ -11,6 +11,3 @@ mod slots;
 
 pub use mama_memory::OutOfMemory;
 pub use slots::Slots;
-
-#[cfg(test)]
-mod tests;

@@ -17,7 +17,8 @@ pub struct Slots {
 }
 
 impl Model for Slots {
-    ghost use Rattle.mama_slots.specs.Slots.{SlotData, IsBelowTops};
+    ghost use Rattle.mama_slots.specs.Slots.{SlotData};
+    ghost use Rattle.mama_slots.specs.Tops.{IsBelowTops};
 
     ghost Value = { SlotData };
 

@@ -12,7 +12,7 @@ use Rattle.mama_event.specs.declared.shape.Shape.{Shape}
 use Rattle.mama_event.specs.declared.to_queue.Make.TheVariants as make
 use Rattle.mama_event.specs.declared.to_queue.QueueNote.{QueueNote}
 use Rattle.mama_event.specs.declared.to_queue.QueueNote.TheVariants as q
-use Rattle.mama_rules.specs.Timers.{TimersEvent, arms, disarms, now, clock, terms_in, arms_timer, disarms_timer, has_ending, is_armed, is_live, due_step, due_along, newly_armed, created_in, place_of}
+use Rattle.mama_rules_services.specs.Timers.{TimersEvent, arms, disarms, now, clock, terms_in, arms_timer, disarms_timer, has_ending, is_armed, is_live, due_step, due_along, newly_armed, created_in, place_of}
 use Rattle.mama_timer.specs.declared.table.Row.{Row}
 use Rattle.mama_timer.specs.Rows.{laid_down}
 use Rattle.mama_slots.specs.Slots.{SlotData, in_use}

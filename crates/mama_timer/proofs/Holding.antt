@@ -8,7 +8,7 @@ use Rattle.mama_event.specs.Object.{same_timer}
 use Rattle.mama_event.specs.declared.ids.TimerId.{TimerId}
 use Rattle.mama_event.specs.declared.shape.Shape.{Shape}
 use Rattle.mama_event.specs.declared.to_queue.QueueNote.{QueueNote}
-use Rattle.mama_rules.specs.Timers.{TimersEvent, arms_timer, is_live, live_timers, comes_first, place_of, slot_on, free_slot}
+use Rattle.mama_rules_services.specs.Timers.{TimersEvent, arms_timer, is_live, live_timers, comes_first, place_of, slot_on, free_slot}
 use Rattle.mama_timer.specs.Stands.{stands_at, is_held}
 use Rattle.mama_timer.proofs.Lists.{list_any-push, list_any-agree, list_any-flat_map, list_any-filter}
 use Rattle.mama_timer.proofs.Orders.{same_timer-is, same_timer-itself}

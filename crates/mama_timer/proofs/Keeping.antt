@@ -21,8 +21,8 @@ use Rattle.mama_event.specs.declared.ids.TimerId.{TimerId}
 use Rattle.mama_event.specs.declared.shape.Shape.{Shape}
 use Rattle.mama_event.specs.declared.to_timers.TimersNote.{TimersNote}
 use Rattle.mama_event.specs.declared.to_queue.QueueNote.{QueueNote}
-use Rattle.mama_rules.specs.Ports.{timers_putter}
-use Rattle.mama_rules.specs.Timers.{TimersEvent, arms, disarms, now, client_done, bye, fin, no_event, put_by, heard, ends_client, ends_queue, is_fin, has_ending, arms_timer, is_armed, is_live, free_slot, clock, firing, fires_first, due, in_order, comes_first, live_timers, to_place, place_of, timers_reaction, timers_puts, timers_puts_at}
+use Rattle.mama_rules_services.specs.Ports.{timers_putter}
+use Rattle.mama_rules_services.specs.Timers.{TimersEvent, arms, disarms, now, client_done, bye, fin, no_event, put_by, heard, ends_client, ends_queue, is_fin, has_ending, arms_timer, is_armed, is_live, free_slot, clock, firing, fires_first, due, in_order, comes_first, live_timers, to_place, place_of, timers_reaction, timers_puts, timers_puts_at}
 use Rattle.mama_timer.specs.declared.table.Row.{Row}
 use Rattle.mama_timer.specs.Rows.{row_of, is_listed, laid_down}
 use Rattle.mama_slots.specs.Slots.{SlotData, in_use}

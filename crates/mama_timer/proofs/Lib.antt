@@ -1,7 +1,6 @@
 pub mod Changes
 pub mod Holding
 pub mod Keeping
-pub mod Lawfulness
 pub mod Lists
 pub mod Live
 pub mod Orders

@@ -7,7 +7,7 @@ use Rattle.mama_journal.specs.Journal.{turns, all_below}
 use Rattle.mama_event.specs.Ports.{clients_of}
 use Rattle.mama_event.specs.declared.ids.TimerId.{TimerId}
 use Rattle.mama_event.specs.declared.shape.Shape.{Shape}
-use Rattle.mama_rules.specs.Timers.{TimersEvent, arms, disarms, now, client_done, bye, fin, no_event, clock, moment_in, last_moment, terms_in, arms_timer, disarms_timer, ends_client, is_fin, has_ending, is_armed, is_live, due_step, due_along}
+use Rattle.mama_rules_services.specs.Timers.{TimersEvent, arms, disarms, now, client_done, bye, fin, no_event, clock, moment_in, last_moment, terms_in, arms_timer, disarms_timer, ends_client, is_fin, has_ending, is_armed, is_live, due_step, due_along}
 use Rattle.mama_timer.proofs.Lists.{list_any-push, all_below-agree, all_below-weaker}
 
 pub clock-push : (es : List TimersEvent) (e : TimersEvent) → clock (es ++ e ∷ []) ≡ max (clock es) (moment_in e)

@@ -7,7 +7,7 @@ use Rattle.std.proofs.lemmas.Bool.Decides.{nat_tests}
 use Rattle.std.proofs.lemmas.Map.Keys.{sorted_head, sorted_tail}
 use Rattle.mama_event.specs.declared.ids.TimerId.{TimerId}
 use Rattle.mama_event.specs.Object.{same_timer}
-use Rattle.mama_rules.specs.Timers.{comes_first, put_in, in_order}
+use Rattle.mama_rules_services.specs.Timers.{comes_first, put_in, in_order}
 use Rattle.mama_timer.specs.Order.{timer_cmp}
 use Rattle.mama_timer.proofs.Orders.{same_timer-is, same_timer-itself, same_timer-flips}
 use Rattle.mama_timer.proofs.Lists.{list_any-push, list_any-filter}

@@ -8,7 +8,7 @@ use Rattle.mama_event.specs.declared.ids.TimerId.{TimerId}
 use Rattle.mama_event.specs.declared.ids.ObjectId.{ObjectId}
 use Rattle.mama_event.specs.declared.shape.Shape.{Shape}
 use Rattle.mama_event.specs.declared.to_queue.QueueNote.{QueueNote}
-use Rattle.mama_rules.specs.Timers.{TimersEvent, arms, disarms, client_done, bye, fin, no_event, clock, terms_in, arms_timer, disarms_timer, has_ending, is_armed, is_live, due_step, newly_armed, created_in, place_of}
+use Rattle.mama_rules_services.specs.Timers.{TimersEvent, arms, disarms, client_done, bye, fin, no_event, clock, terms_in, arms_timer, disarms_timer, has_ending, is_armed, is_live, due_step, newly_armed, created_in, place_of}
 use Rattle.mama_timer.specs.declared.table.Row.{Row}
 use Rattle.mama_slots.specs.Slots.{SlotData}
 use Rattle.mama_timer.specs.Stands.{IsStill, IsRow, Stands}

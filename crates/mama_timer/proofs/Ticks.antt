@@ -14,7 +14,7 @@ use Rattle.mama_event.specs.declared.ids.TimerId.{TimerId}
 use Rattle.mama_event.specs.declared.shape.Shape.{Shape}
 use Rattle.mama_event.specs.declared.to_queue.QueueNote.{QueueNote}
 use Rattle.mama_event.specs.declared.to_queue.QueueNote.TheVariants as q
-use Rattle.mama_rules.specs.Timers.{TimersEvent, has_ending, is_armed, is_live, due, due_moment, comes_first, live_timers, fires_first, firing, place_of, to_place}
+use Rattle.mama_rules_services.specs.Timers.{TimersEvent, has_ending, is_armed, is_live, due, due_moment, comes_first, live_timers, fires_first, firing, place_of, to_place}
 use Rattle.mama_timer.specs.declared.table.Row.{Row}
 use Rattle.mama_timer.specs.declared.firing.Firing.{Firing}
 use Rattle.mama_timer.specs.Order.{timer_cmp, due_cmp}

@@ -21,8 +21,8 @@ use Rattle.mama_event.specs.declared.to_timers.TimersNote.{TimersNote}
 use Rattle.mama_event.specs.declared.to_timers.TimersNote.TheVariants as t
 use Rattle.mama_event.specs.declared.to_queue.QueueNote.{QueueNote}
 use Rattle.mama_event.specs.declared.to_queue.QueueNote.TheVariants as q
-use Rattle.mama_rules.specs.Ports.{timers_putter, ByClient, ByQueue, ByBridge, ByNobody}
-use Rattle.mama_rules.specs.Timers.{TimersEvent, arms, disarms, now, client_done, bye, fin, no_event, put_by, from_client, from_queue, from_bridge, heard, ends_client, ends_queue, arms_timer, is_armed, answer, ending_comes, clock, firing, has_ending, is_live, live_timers, comes_first, place_of, to_place, gone, timers_reaction, timers_puts, timers_puts_at}
+use Rattle.mama_rules_services.specs.Ports.{timers_putter, ByClient, ByQueue, ByBridge, ByNobody}
+use Rattle.mama_rules_services.specs.Timers.{TimersEvent, arms, disarms, now, client_done, bye, fin, no_event, put_by, from_client, from_queue, from_bridge, heard, ends_client, ends_queue, arms_timer, is_armed, answer, ending_comes, clock, firing, has_ending, is_live, live_timers, comes_first, place_of, to_place, gone, timers_reaction, timers_puts, timers_puts_at}
 use Rattle.mama_timer.specs.declared.table.Row.{Row}
 use Rattle.mama_timer.specs.declared.firing.Firing.{Firing}
 use Rattle.mama_timer.specs.declared.ending.Leaving.{Leaving}
@@ -47,7 +47,8 @@ use Rattle.std.specs.Result.{IfOk}
 use Rattle.std.proofs.Common.{Result, Ok, Err, ◌↔◌}
 use Rattle.mama_event.specs.declared.shape.Took.{Took}
 use Rattle.mama_event.specs.declared.shape.Took.TheVariants.{Running, Ended}
-use Rattle.mama_timer.specs.Out.{puts_create, is_create, brought, create_of, create_if, created_puts, gone_puts, out_note, listener_in, listeners, tick_out, gone_out, fin_out, gone_note}
+use Rattle.mama_timer.specs.Out.{puts_create, is_create, brought, out_note, listener_in, listeners}
+use Rattle.mama_timer.specs.Putting.{create_of, create_if, created_puts, gone_puts, tick_out, gone_out, fin_out, gone_note}
 use Rattle.mama_timer.specs.Service.{Service, every_bye, is_last_bye}
 use Rattle.mama_timer.specs.Kept.{Kept}
 use Rattle.mama_timer.proofs.Orders.{timer_ties, same_timer-is, same_timer-flips}

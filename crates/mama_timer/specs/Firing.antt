@@ -1,4 +1,4 @@
--- The timers that a moment lets tick, as the code finds them.
+-- inner: The timers that a moment lets tick, as the code finds them.
 use Rattle.std.specs.Prelude.{ℕ, ◌+◌, Bool, false, ◌&&◌, ◌==◌, nat_le, List, [], ◌∷◌, Option, None, Some, if◌then◌else◌}
 use Rattle.std.specs.Option.{option_map}
 use Rattle.mama_event.specs.declared.ids.TimerId.{TimerId}

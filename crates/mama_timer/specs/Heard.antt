@@ -1,5 +1,5 @@
--- What an event means, as the code keeps it.
-use Rattle.mama_rules.specs.Timers.{TimersEvent, arms, disarms, now, client_done, bye, fin, no_event}
+-- inner: What an event means, as the code keeps it.
+use Rattle.mama_rules_services.specs.Timers.{TimersEvent, arms, disarms, now, client_done, bye, fin, no_event}
 use Rattle.mama_timer.specs.declared.heard.Heard.{Heard}
 use Rattle.mama_timer.specs.declared.heard.Heard.TheVariants as heard
 

@@ -1,9 +1,9 @@
--- When what the code keeps is what the service's journal says: its timers, and who said the last word.
+-- inner: When what the code keeps is what the service's journal says: its timers, and who said the last word.
 use Rattle.std.specs.Prelude.{ℕ, Bool, List}
 use Rattle.mama_event.specs.declared.ids.TimerId.{TimerId}
 use Rattle.mama_event.specs.declared.shape.Shape.{Shape}
 use Rattle.mama_event.specs.declared.to_timers.TimersNote.{TimersNote}
-use Rattle.mama_rules.specs.Timers.{heard, timers_puts}
+use Rattle.mama_rules_services.specs.Timers.{heard, timers_puts}
 use Rattle.mama_timer.specs.declared.table.Row.{Row}
 use Rattle.mama_timer.specs.Rows.{row_of, is_listed}
 use Rattle.mama_slots.specs.Slots.{SlotData}

@@ -1,4 +1,4 @@
--- The places that timers leave, as the code finds them.
+-- inner: The places that timers leave, as the code finds them.
 use Rattle.std.specs.Prelude.{Option, None, Some, if◌then◌else◌}
 use Rattle.mama_event.specs.declared.ids.TimerId.{TimerId}
 use Rattle.mama_timer.specs.declared.table.Row.{Row}

@@ -4,7 +4,7 @@ pub mod Kept
 pub mod Leaving
 pub mod Order
 pub mod Out
+pub mod Putting
 pub mod Rows
 pub mod Service
 pub mod Stands
-pub mod Streams

@@ -1,4 +1,4 @@
--- The orders of timers' ids and of due moments.
+-- inner: The orders of timers' ids and of due moments.
 use Rattle.std.specs.Prelude.{ℕ}
 use Rattle.std.specs.Ordering.{nat_cmp, ordering_then}
 use Rattle.std.specs.declared.cmp.Ordering.{Ordering}

@@ -1,4 +1,4 @@
--- The timers that were armed, as the code keeps them.
+-- inner: The timers that were armed, as the code keeps them.
 use Rattle.std.specs.Prelude.{ℕ, Bool, false, List, Option}
 use Rattle.std.specs.List.{list_any}
 use Rattle.std.specs.Map.{lookup}

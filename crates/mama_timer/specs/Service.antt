@@ -1,12 +1,12 @@
--- What contracts see of the timer service: its shape, and its journal.
+-- believed: What contracts see of the timer service: its shape, and its journal.
 use Rattle.std.specs.Prelude.{ℕ, Bool, List, [], ◌∷◌, ◌++◌}
 use Rattle.std.specs.List.{list_any}
 use Rattle.mama_journal.specs.Journal.{turns, all_below}
 use Rattle.mama_event.specs.Ports.{queues_of}
 use Rattle.mama_event.specs.declared.shape.Shape.{Shape}
 use Rattle.mama_event.specs.declared.to_timers.TimersNote.{TimersNote}
-use Rattle.mama_rules.specs.Ports.{timers_putter}
-use Rattle.mama_rules.specs.Timers.{TimersEvent, put_by, heard, ends_queue}
+use Rattle.mama_rules_services.specs.Ports.{timers_putter}
+use Rattle.mama_rules_services.specs.Timers.{TimersEvent, put_by, heard, ends_queue}
 
 pub record Service : Type 0 where
   pub shape : Shape

@@ -1,4 +1,4 @@
--- When what the code keeps is what the service's journal says.
+-- inner: When what the code keeps is what the service's journal says.
 use Rattle.std.specs.Prelude.{◌≡◌, ℕ, Bool, true, false, ◌&&◌, ◌==◌, List, map, [], Option, None, Some}
 use Rattle.std.specs.List.{list_any}
 use Rattle.mama_journal.specs.Journal.{puts, numbers_below}
@@ -6,7 +6,7 @@ use Rattle.mama_event.specs.Ports.{clients_of, queues_of}
 use Rattle.mama_event.specs.declared.ids.TimerId.{TimerId}
 use Rattle.mama_event.specs.declared.shape.Shape.{Shape}
 use Rattle.mama_event.specs.declared.to_queue.QueueNote.{QueueNote}
-use Rattle.mama_rules.specs.Timers.{TimersEvent, clock, arms_timer, ends_client, ends_queue, is_fin, has_ending, is_armed, is_live, due_step, due_along, newly_armed, moment_in, disarms_timer, place_of}
+use Rattle.mama_rules_services.specs.Timers.{TimersEvent, clock, arms_timer, ends_client, ends_queue, is_fin, has_ending, is_armed, is_live, due_step, due_along, newly_armed, moment_in, disarms_timer, place_of}
 use Rattle.mama_timer.specs.declared.table.Row.{Row}
 use Rattle.mama_slots.specs.Slots.{SlotData, in_use}
 

@@ -1,6 +1,6 @@
 ghost use Rattle.std.specs.Prelude.{◌≡◌};
-ghost use Rattle.mama_rules.specs.Timers.{put_by, from_client, from_queue, from_bridge};
-ghost use Rattle.mama_rules.specs.Ports.{timers_putter};
+ghost use Rattle.mama_rules_services.specs.Timers.{put_by, from_client, from_queue, from_bridge};
+ghost use Rattle.mama_rules_services.specs.Ports.{timers_putter};
 ghost use Rattle.mama_timer.specs.Heard.{event_of};
 
 use mama_event::{ObjectId, Shape, TimerId, TimersNote};

@@ -1,12 +1,11 @@
 ghost use Rattle.std.specs.Prelude.{◌≡◌, ℕ, ◌+◌, ◌<◌, ◌≤◌, ◌++◌, [], ◌∷◌, length, map, option_to_list, IsOk, OnOk};
 ghost use Rattle.mama_journal.specs.Journal.{numbers_below};
-ghost use Rattle.mama_timer.specs.Out.{create_of, create_if, tick_out, gone_out, fin_out};
+ghost use Rattle.mama_timer.specs.Putting.{create_of, create_if, tick_out, gone_out, fin_out};
 
 use crate::ending::Leaving;
 use crate::firing::Firing;
 use mama_event::{Make, ObjectId, Tagged, ToQueue, ToTimers};
-use mama_link::Outbox;
-use mama_memory::OutOfMemory;
+use mama_memory::{OutOfMemory, Outbox};
 
 /// An event to a queue.
 #[derive(Drop)]
@@ -138,8 +137,5 @@ pub(crate) fn reserve_ending<L>(
     ensures items { out.new.items ≡ out.old.items }
     ensures ok { OnOk result (length leaving.now + queues ≤ out.new.spare) }
 {
-    match leaving.len().checked_add(queues as usize) {
-        Some(count) => out.reserve(count),
-        None => Err(OutOfMemory),
-    }
+    out.reserve(leaving.len() + queues as usize)
 }

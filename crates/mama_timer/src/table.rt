@@ -1,15 +1,16 @@
 ghost use Rattle.std.specs.Prelude.{◌≡◌, ℕ, ◌+◌, ◌^◌, ◌<◌, if◌then◌else◌, ◌&&◌, not, ◌++◌, [], ◌∷◌, length, map, true, false, Some, None, is_some, IfSome, IfOk, IfErr, IsTrue, ◌↔◌, OnOk, OnErr};
 ghost use Rattle.mama_event.specs.Ports.{clients_of, queues_of};
-ghost use Rattle.mama_rules.specs.Ports.{timers_putter};
+ghost use Rattle.mama_rules_services.specs.Ports.{timers_putter};
 ghost use Rattle.std.specs.List.{list_any, flat_map};
-ghost use Rattle.mama_rules.specs.Timers.{put_by, heard, has_ending, arms_timer, is_armed, clock, live_timers, gone, place_of, timers_puts, timers_puts_at};
+ghost use Rattle.mama_rules_services.specs.Timers.{put_by, heard, has_ending, arms_timer, is_armed, clock, live_timers, gone, place_of, timers_puts, timers_puts_at};
 ghost use Rattle.mama_journal.specs.Journal.{turns};
 ghost use Rattle.mama_timer.specs.Stands.{IsStill, IsNoWord};
 ghost use Rattle.std.specs.Option.{option_map};
 ghost use Rattle.mama_event.specs.declared.ids.TimerId.{TimerId as Id};
 ghost use Rattle.mama_event.specs.Object.{same_timer};
 ghost use Rattle.mama_timer.specs.Rows.{row_of, is_listed, laid_down};
-ghost use Rattle.mama_timer.specs.Out.{created_puts, gone_puts, gone_note, out_note, listeners, puts_create, brought};
+ghost use Rattle.mama_timer.specs.Out.{out_note, listeners, puts_create, brought};
+ghost use Rattle.mama_timer.specs.Putting.{created_puts, gone_puts, gone_note};
 ghost use Rattle.mama_timer.specs.Heard.{event_of, IsPlain};
 ghost use Rattle.mama_event.specs.ToTimers.{note_of};
 ghost use Rattle.mama_timer.specs.Service.{taken, is_last_bye};
@@ -20,8 +21,7 @@ use crate::heard::{Arming, Heard, hear};
 use crate::out::{TimerOut, put_ending, put_if_created, put_if_gone, put_ticks, reserve_ending};
 use crate::roll::Roll;
 use mama_event::{Shape, Stream, Tagged, TimerId, TimersNote, ToTimers, Took, Topics};
-use mama_link::Outbox;
-use mama_memory::OutOfMemory;
+use mama_memory::{OutOfMemory, Outbox};
 use mama_slots::Slots;
 use std::alloc::Global;
 use std::collections::{BTreeMap, BTreeSet};
@@ -581,7 +581,9 @@ impl Table {
             Heard::ClientDone { client } => self.client_done(port, note, client, out),
             Heard::Fin => self.fin(port, note, out),
             Heard::Nothing => self.take_nothing(port, note, out),
-            _ => Err(OutOfMemory),
+            // The condition leaves these two out.
+            Heard::Arms { .. } => Ok(()),
+            Heard::Bye { .. } => Ok(()),
         }
     }
 

@@ -1,14 +1,13 @@
 ghost use Rattle.std.specs.Prelude.{◌≡◌, ◌++◌, [], map, IfOk, IfErr, IsTrue, ◌↔◌, OnOk, OnErr, if◌then◌else◌};
 ghost use Rattle.mama_event.specs.ToTimers.{note_of};
-ghost use Rattle.mama_rules.specs.Timers.{timers_puts_at};
+ghost use Rattle.mama_rules_services.specs.Timers.{timers_puts_at};
 ghost use Rattle.mama_timer.specs.Service.{taken, is_last_bye};
 ghost use Rattle.mama_timer.specs.Out.{out_note, listeners, puts_create, brought};
 
 use crate::out::TimerOut;
 use crate::table::Table;
 use mama_event::{Shape, Tagged, TimersNote, ToTimers, Took};
-use mama_link::Outbox;
-use mama_memory::OutOfMemory;
+use mama_memory::{OutOfMemory, Outbox};
 use std::alloc::Global;
 use std::marker::{Model, PhantomData};
 
@@ -51,7 +50,7 @@ impl<L> Timers<L> {
 
 impl<L: Tagged> Timers<L> {
     /// Takes the next event, and puts what follows from it at the end of `out`. Where no memory is found the event is
-    /// given back, and nothing has changed. Numbers that cannot grow further, as the slots of a queue, count as that.
+    /// given back, and nothing has changed. The 2^32nd live timer of one queue finds no slot, which counts as that.
     pub fn take(
         &mut self,
         port: u32,

@@ -3,7 +3,8 @@ use Rattle.std.proofs.Common.{◌≡◌, ℕ, suc, ◌+◌, ◌-◌, ◌<◌, �
 use Rattle.std.proofs.lemmas.Bool.{ne_eqb}
 use Rattle.std.proofs.lemmas.List.{append-nil, drop_more, take_more, take_rest, drop_all, length-drop}
 use Rattle.mama_words.specs.declared.parting.Place.{Place}
-use Rattle.mama_words.specs.Parting.{onto_cut, cut_at, cut_word, is_gap, next_place, place_after, words_from, onto_first, pieces}
+use Rattle.mama_words.specs.Parting.{onto_cut, cut_at, is_gap, next_place, place_after, words_from, onto_first, pieces}
+use Rattle.mama_words.specs.CutWord.{cut_word}
 use Rattle.mama_words.specs.declared.parting.Place.TheVariants.{Outside}
 
 pub onto_cut-onto_cut : (a b : List ℕ) (cut : Option (List ℕ × List ℕ)) → onto_cut a (onto_cut b cut) ≡ onto_cut (a ++ b) cut

@@ -3,7 +3,8 @@ use Rattle.std.proofs.Common.{◌≡◌, ℕ, min, List, [], ◌∷◌, ◌++◌
 use Rattle.std.proofs.lemmas.List.{append-nil}
 use Rattle.mama_msg.specs.Field.{FieldData}
 use Rattle.mama_words.specs.Reading.{◌>>=◌, both}
-use Rattle.mama_words.specs.Field.{field_in, fields_in, lower}
+use Rattle.mama_words.specs.Field.{field_in, fields_in}
+use Rattle.mama_words.specs.Lower.{lower}
 
 -- the fields so far and the lowest fault so far, with what reading the rest gives
 abbrev pub joined : List FieldData → Option ℕ → Result (List FieldData) ℕ → Result (List FieldData) ℕ

@@ -12,9 +12,11 @@ use Rattle.mama_words.specs.declared.value_type.ValueType.{ValueType}
 use Rattle.mama_words.specs.declared.value_type.ValueType.TheVariants as types
 use Rattle.mama_words.specs.declared.order.OrderKind.{OrderKind}
 use Rattle.mama_words.specs.declared.order.OrderKind.TheVariants as kinds
-use Rattle.mama_words.specs.Kind.{sub_kind_text, sub_kind_in, msg_kind_text, msg_kind_in, quality_text, quality_in}
+use Rattle.mama_words.specs.Kind.{sub_kind_text, sub_kind_in, msg_kind_text, quality_text}
+use Rattle.mama_words.specs.KindIn.{msg_kind_in, quality_in}
 use Rattle.mama_words.specs.Value.{type_text, type_in}
-use Rattle.mama_words.specs.Order.{order_kind_in, order_kind_text}
+use Rattle.mama_words.specs.Order.{order_kind_in}
+use Rattle.mama_words.specs.OrderKindText.{order_kind_text}
 use Rattle.mama_words.proofs.Choices.{some_is, chosen, same_text}
 
 -- one word of a list of words: the word is this one, or the rest decides

@@ -13,7 +13,8 @@ use Rattle.mama_words.specs.declared.order.OrderWord.TheVariants.{Stop, Disarm, 
 use Rattle.mama_words.specs.Reading.{◌>>=◌, or_fault}
 use Rattle.mama_words.specs.Number.{number_in, between_in, if_between}
 use Rattle.mama_words.specs.Id.{id_text, id_in}
-use Rattle.mama_words.specs.Order.{order_words, IsId, are_small, IsOrder, order_kind_in, order_kind_text, cons_fid, fids_in, asked_or_fault, asked_in, ask_in, order_of, order_in}
+use Rattle.mama_words.specs.Order.{order_words, IsId, are_small, IsOrder, order_kind_in, cons_fid, fids_in, asked_or_fault, asked_in, ask_in, order_of, order_in}
+use Rattle.mama_words.specs.OrderKindText.{order_kind_text}
 use Rattle.mama_words.proofs.Choices.{some_is, ok_is, chosen_other, guard_ok, guard_step, bind_ok, step_ok, and_then_some}
 use Rattle.mama_words.proofs.Numbers.{number_in_again, number_in_found}
 use Rattle.mama_words.proofs.IdLaws.{id_again, id_found}

@@ -8,7 +8,8 @@ use Rattle.std.proofs.lemmas.List.Folds.{list_all-append}
 use Rattle.mama_words.specs.declared.parting.Place.{Place}
 use Rattle.mama_words.specs.declared.parting.Place.TheVariants.{Outside, Inside, Escaped}
 use Rattle.mama_words.specs.Parting.{onto_first, is_plain, is_gap, is_outside, next_place, place_after, words_from, words, is_empty_word, is_parted, parted_in}
-use Rattle.mama_words.specs.Sentence.{spaced, sentence, has_gap, IsPiece, IsWord, AreWords}
+use Rattle.mama_words.specs.Sentence.{spaced, sentence}
+use Rattle.mama_words.specs.WordForm.{has_gap, IsPiece, IsWord, AreWords}
 use Rattle.mama_words.proofs.Choices.{chosen_some}
 
 abbrev onto_all : List ℕ → List (List ℕ) → List (List ℕ)

@@ -30,7 +30,8 @@ use Rattle.mama_words.specs.declared.order.OrderWord.TheVariants.{Stop, Disarm, 
 use Rattle.mama_words.specs.declared.parting.Place.{Place}
 use Rattle.mama_words.specs.declared.parting.Place.TheVariants.{Outside, Inside, Escaped}
 use Rattle.mama_words.specs.Parting.{is_plain, is_gap, next_place, place_after, is_empty_word}
-use Rattle.mama_words.specs.Sentence.{spaced, sentence, has_gap, IsPiece, IsWord, AreWords}
+use Rattle.mama_words.specs.Sentence.{spaced, sentence}
+use Rattle.mama_words.specs.WordForm.{has_gap, IsPiece, IsWord, AreWords}
 use Rattle.mama_words.specs.Number.{is_within}
 use Rattle.mama_words.specs.Kind.{sub_kind_text, msg_kind_text, quality_text}
 use Rattle.mama_words.specs.Id.{numbers_text, id_text}

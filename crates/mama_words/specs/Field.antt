@@ -1,5 +1,5 @@
--- Fields, messages, and how they are spelled.
-use Rattle.std.specs.Prelude.{◌≡◌, ℕ, min, ◌^◌, ◌<◌, ◌==◌, Bool, true, ◌&&◌, not, nat_le, List, [], ◌∷◌, ◌++◌, length, map, Option, Some, None, Result, Ok, Err, if◌then◌else◌}
+-- believed: Fields, messages, and how they are spelled.
+use Rattle.std.specs.Prelude.{◌≡◌, ℕ, ◌^◌, ◌<◌, ◌==◌, Bool, true, ◌&&◌, not, nat_le, List, [], ◌∷◌, ◌++◌, length, Option, Some, None, Result, Ok, Err, if◌then◌else◌}
 use Rattle.std.specs.List.{list_all, flat_map, AllByRecursion}
 use Rattle.mama_msg.specs.Name.{is_name_byte, IsNameText}
 use Rattle.mama_msg.specs.Field.{FieldData, key_of, IsKeyed}
@@ -69,8 +69,3 @@ fields_text fs = flat_map spaced_field fs
 pub record IsMessage (fs : List FieldData) : Type 0 where
   pub fields : AllByRecursion IsField fs
   pub distinct : are_distinct fs ≡ true
-
--- the lower of a fault that was met, if there was one, and another
-abbrev pub lower : Option ℕ → ℕ → ℕ
-lower None fault = fault
-lower (Some other) fault = min other fault

@@ -1,4 +1,4 @@
--- Kinds and qualities, and the words for them.
+-- believed: Kinds and qualities, and the words for them.
 use Rattle.std.specs.Prelude.{ℕ, codes, List, Option, Some, None, if◌then◌else◌}
 use Rattle.std.specs.Str.{bytes_eq}
 use Rattle.mama_event.specs.declared.market.SubKind.{SubKind}
@@ -24,17 +24,6 @@ msg_kind_text Initial = codes "initial"
 msg_kind_text Update = codes "update"
 msg_kind_text Recap = codes "recap"
 
-abbrev pub msg_kind_in : List ℕ → Option MsgKind
-msg_kind_in word =
-    if bytes_eq word (codes "initial") then Some Initial
-    else (if bytes_eq word (codes "update") then Some Update
-    else (if bytes_eq word (codes "recap") then Some Recap else None))
-
 abbrev pub quality_text : Quality → List ℕ
 quality_text Good = codes "ok"
 quality_text Stale = codes "stale"
-
-abbrev pub quality_in : List ℕ → Option Quality
-quality_in word =
-    if bytes_eq word (codes "ok") then Some Good
-    else (if bytes_eq word (codes "stale") then Some Stale else None)

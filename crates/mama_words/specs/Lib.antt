@@ -1,10 +1,16 @@
 pub mod Reading
+pub mod Answer
 pub mod Parting
+pub mod CutWord
 pub mod Sentence
+pub mod WordForm
 pub mod Number
 pub mod Quote
 pub mod Kind
+pub mod KindIn
 pub mod Id
 pub mod Value
 pub mod Field
+pub mod Lower
 pub mod Order
+pub mod OrderKindText

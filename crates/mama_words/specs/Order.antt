@@ -1,5 +1,5 @@
--- Orders, and how they are spelled.
-use Rattle.std.specs.Prelude.{◌≡◌, ℕ, ◌^◌, ◌<◌, ◌≤◌, Bool, true, ◌&&◌, nat_lt, nat_le, codes, List, [], ◌∷◌, ◌++◌, length, map, Option, Some, None, Result, Ok, Err, option_map, option_and_then, if◌then◌else◌}
+-- believed: Orders, and how they are spelled.
+use Rattle.std.specs.Prelude.{◌≡◌, ℕ, ◌^◌, ◌<◌, Bool, true, ◌&&◌, nat_lt, codes, List, [], ◌∷◌, ◌++◌, length, map, Option, Some, None, Result, Ok, Err, option_and_then, if◌then◌else◌}
 use Rattle.std.specs.List.{flat_map}
 use Rattle.std.specs.Str.{bytes_eq}
 use Rattle.mama_event.specs.FidList.{is_fid_list}
@@ -39,12 +39,6 @@ IsOrder (Stop id) = IsId id
 IsOrder (Disarm id) = IsId id
 IsOrder (Close id) = IsId id
 IsOrder (Ask id topic fids) = IsId id × (topic < 2 ^ 64) × (is_fid_list fids ≡ true) × (are_small fids ≡ true)
-
-abbrev pub order_kind_text : OrderKind → List ℕ
-order_kind_text kinds.Stop = codes "stop"
-order_kind_text kinds.Disarm = codes "disarm"
-order_kind_text kinds.Close = codes "close"
-order_kind_text kinds.Ask = codes "ask"
 
 -- the kind of order that begins with this word
 unfoldable pub order_kind_in : List ℕ → Option OrderKind

@@ -1,5 +1,5 @@
--- A text is parted into lines, and a line into words.
-use Rattle.std.specs.Prelude.{◌≡◌, ℕ, Bool, true, false, ◌&&◌, not, ◌==◌, nat_le, List, [], ◌∷◌, ◌++◌, length, Option, Some, None, if◌then◌else◌}
+-- believed: A text is parted into lines, and a line into words.
+use Rattle.std.specs.Prelude.{ℕ, Bool, true, false, ◌&&◌, not, ◌==◌, nat_le, List, [], ◌∷◌, ◌++◌, length, Option, Some, None, if◌then◌else◌}
 use Rattle.std.specs.List.{list_all, list_any}
 use Rattle.mama_words.specs.declared.parting.Place.{Place}
 use Rattle.mama_words.specs.declared.parting.Place.TheVariants.{Outside, Inside, Escaped}
@@ -36,17 +36,11 @@ place_after place (b ∷ bs) = place_after (next_place place b) bs
 
 abbrev pub is_outside : Place → Bool
 is_outside Outside = true
-is_outside Inside = false
-is_outside Escaped = false
+is_outside _ = false
 
 -- a space that parts words
 abbrev pub is_gap : Place → ℕ → Bool
 is_gap place b = is_outside place && b == 32
-
--- the first word from a place on, and what stands after the space behind it
-abbrev pub cut_word : Place → List ℕ → Option (List ℕ × List ℕ)
-cut_word place [] = None
-cut_word place (b ∷ bs) = if is_gap place b then Some ([], bs) else onto_cut (b ∷ []) (cut_word (next_place place b) bs)
 
 -- the words from a place on
 abbrev pub words_from : Place → List ℕ → List (List ℕ)

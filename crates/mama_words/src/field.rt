@@ -1,6 +1,8 @@
 ghost use Rattle.std.specs.Prelude.{◌≡◌, ◌++◌, map, OnOk, OnErr};
-ghost use Rattle.mama_words.specs.Reading.{Gives, or_fault};
+ghost use Rattle.mama_words.specs.Reading.{or_fault};
+ghost use Rattle.mama_words.specs.Answer.{Gives};
 ghost use Rattle.mama_words.specs.Field as fields;
+ghost use Rattle.mama_words.specs.Lower.{lower};
 
 use crate::error::ReadError;
 use crate::number::read_below;
@@ -37,7 +39,7 @@ pub fn read_field(alloc: Global, word: &[u8]) -> Result<Field, ReadError>
 
 // The lower of a fault that was met, if there was one, and another.
 fn lower(least: Option<u8>, fault: u8) -> u8
-    ensures { result ≡ fields.lower least fault }
+    ensures { result ≡ lower least fault }
 {
     match least {
         None => fault,

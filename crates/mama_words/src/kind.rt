@@ -1,5 +1,6 @@
 ghost use Rattle.std.specs.Prelude.{◌≡◌, ◌++◌, OnOk, OnErr};
 ghost use Rattle.mama_words.specs.Kind as kinds;
+ghost use Rattle.mama_words.specs.KindIn.{msg_kind_in, quality_in};
 
 use mama_event::{MsgKind, Quality, SubKind};
 use mama_memory::OutOfMemory;
@@ -34,7 +35,7 @@ pub fn print_sub_kind(kind: SubKind, out: &mut Vec<u8>) -> Result<(), OutOfMemor
 
 /// The kind of message that a word names.
 pub fn read_msg_kind(word: &[u8]) -> Option<MsgKind>
-    ensures { result ≡ kinds.msg_kind_in word.now }
+    ensures { result ≡ msg_kind_in word.now }
 {
     if word == b"initial".as_slice() {
         Some(MsgKind::Initial)
@@ -62,7 +63,7 @@ pub fn print_msg_kind(kind: MsgKind, out: &mut Vec<u8>) -> Result<(), OutOfMemor
 
 /// The quality that a word names.
 pub fn read_quality(word: &[u8]) -> Option<Quality>
-    ensures { result ≡ kinds.quality_in word.now }
+    ensures { result ≡ quality_in word.now }
 {
     if word == b"ok".as_slice() {
         Some(Quality::Ok)

@@ -22,8 +22,6 @@ mod number;
 mod order;
 mod parting;
 mod quote;
-#[cfg(test)]
-mod tests;
 mod value;
 mod value_type;
 

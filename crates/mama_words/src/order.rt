@@ -1,6 +1,7 @@
 ghost use Rattle.std.specs.Prelude.{◌≡◌, ◌++◌, ◌≤◌, length, take, map, OnOk, OnErr};
 ghost use Rattle.std.specs.Option.{option_map};
-ghost use Rattle.mama_words.specs.Reading.{Gives, or_fault};
+ghost use Rattle.mama_words.specs.Reading.{or_fault};
+ghost use Rattle.mama_words.specs.Answer.{Gives};
 
 use crate::error::ReadError;
 use crate::id::{

@@ -1,8 +1,10 @@
 ghost use Rattle.std.specs.Prelude.{◌≡◌, ◌&&◌, map, not, IfOk};
 ghost use Rattle.std.specs.Option.{option_map};
 ghost use Rattle.std.specs.List.{list_all, list_any};
-ghost use Rattle.mama_words.specs.Reading.{Gives, or_fault};
+ghost use Rattle.mama_words.specs.Reading.{or_fault};
+ghost use Rattle.mama_words.specs.Answer.{Gives};
 ghost use Rattle.mama_words.specs.Parting as parts;
+ghost use Rattle.mama_words.specs.CutWord.{cut_word};
 
 use crate::error::ReadError;
 use mama_memory::OutOfMemory;
@@ -77,7 +79,7 @@ pub fn cut_at(byte: u8, text: &[u8]) -> Option<(&[u8], &[u8])>
 
 // The first word of a line, and what stands after the space behind it. `None` where all of it is one word.
 fn cut_word(line: &[u8]) -> Option<(&[u8], &[u8])>
-    ensures { option_map (λ x. (x.0.now, x.1.now)) result ≡ parts.cut_word Place.Outside line.now }
+    ensures { option_map (λ x. (x.0.now, x.1.now)) result ≡ cut_word Place.Outside line.now }
 {
     let mut place = Place::Outside;
     for (i, b) in line.iter().enumerate() {

@@ -1,6 +1,7 @@
 ghost use Rattle.std.specs.Prelude.{◌≡◌, ◌^◌, ◌++◌, length, Some, IfOk, OnOk, OnErr};
 ghost use Rattle.std.specs.Option.{option_map, option_and_then};
-ghost use Rattle.mama_words.specs.Reading.{Gives, or_fault};
+ghost use Rattle.mama_words.specs.Reading.{or_fault};
+ghost use Rattle.mama_words.specs.Answer.{Gives};
 ghost use Rattle.mama_words.specs.Parting as parts;
 ghost use Rattle.mama_words.specs.Number as numbers;
 ghost use Rattle.mama_words.specs.Value as values;

@@ -3,7 +3,7 @@ use Rattle.std.proofs.Common.{ap, sym, ◌∙◌, [], ◌∷◌, map, Some, subs
 use Rattle.std.proofs.lemmas.Result.{on_ok_weaker, on_err_weaker}
 use Rattle.std.specs.declared.option.Option.{Option}
 use Rattle.mama_event.specs.declared.ids.InboxId.{InboxId}
-use Rattle.mama_bridge_rules.specs.Table.{inbox_passed}
+use Rattle.mama_laws_bridge.specs.Table.{inbox_passed}
 use Rattle.mama_bridge.specs.Links.{InboxView, inbox_seen, inbox_emit_outs, EntryAnswers}
 use Rattle.mama_bridge.specs.declared.inboxes.InboxLink.{InboxLink}
 use Rattle.mama_bridge.proofs.InboxLemmas.{one_answers, none_answers}

@@ -1,4 +1,4 @@
-use Rattle.mama_bridge_rules.specs.Table.{of_sub, sub_passed}
+use Rattle.mama_laws_bridge.specs.Table.{of_sub, sub_passed}
 use Rattle.mama_bridge.specs.Links.{emit_outs, SubsPass}
 use Rattle.mama_bridge.proofs.ByTopic.{none_on, none_done}
 use Rattle.mama_bridge.proofs.live.image_on.Goals as goal

@@ -1,4 +1,4 @@
-use Rattle.mama_bridge_rules.specs.Table.{sub_passed}
+use Rattle.mama_laws_bridge.specs.Table.{sub_passed}
 use Rattle.mama_bridge.specs.Links.{emit_outs, row_is_on, SubsPass}
 use Rattle.mama_bridge.proofs.ByTopic.{none_on, none_done}
 use Rattle.mama_bridge.proofs.live.publish_on.Goals as goal

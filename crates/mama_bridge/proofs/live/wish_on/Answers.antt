@@ -1,4 +1,4 @@
-use Rattle.mama_bridge_rules.specs.Table.{of_sub}
+use Rattle.mama_laws_bridge.specs.Table.{of_sub}
 use Rattle.mama_bridge.specs.Links.{wish_outs, wished_once, SubWishes}
 use Rattle.mama_bridge.proofs.ByTopic.{none_on, none_done}
 use Rattle.mama_bridge.proofs.live.wish_on.Goals as goal

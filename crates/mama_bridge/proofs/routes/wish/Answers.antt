@@ -4,7 +4,7 @@ use Rattle.std.proofs.lemmas.Result.{on_ok_weaker, on_err_weaker}
 use Rattle.mama_event.specs.Object.{same_sub}
 use Rattle.std.specs.Prelude.{nat_lt}
 use Rattle.std.proofs.Common.{cond}
-use Rattle.mama_bridge_rules.specs.Table.{sub_wished}
+use Rattle.mama_laws_bridge.specs.Table.{sub_wished}
 use Rattle.mama_bridge.specs.declared.subs.SubLink.{SubLink}
 use Rattle.mama_bridge.specs.Links.{sub_seen, wish_outs}
 use Rattle.mama_bridge.proofs.Found.{sub_done, sub_not_done}

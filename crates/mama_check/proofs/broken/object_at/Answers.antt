@@ -1,6 +1,6 @@
 use Rattle.std.specs.Prelude.{Some}
 use Rattle.std.proofs.Common.{ap, ◌∙◌}
-use Rattle.mama_queue_seat.specs.declared.plans.PlannedObject.{PlannedObject}
+use Rattle.mama_plans.specs.declared.plans.PlannedObject.{PlannedObject}
 use Rattle.mama_check.proofs.ImageWalk.{object_there}
 use Rattle.mama_check.proofs.broken.object_at.Goals as goal
 

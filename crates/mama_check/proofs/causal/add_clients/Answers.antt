@@ -1,7 +1,7 @@
 use Rattle.std.proofs.Common.{◌≡◌, ℕ, suc, ◌+◌, ◌<◌, add-one, List, [], length, map, get_or, subst, ap, ◌∙◌}
 use Rattle.std.specs.Prelude.{Option, None, replicate, slice_index_or}
 use Rattle.std.specs.Global.{Vec}
-use Rattle.mama_order.specs.declared.order.Need.{Need}
+use Rattle.mama_check_order.specs.declared.order.Need.{Need}
 use Rattle.mama_script.specs.declared.client.ClientLine.{ClientLine}
 use Rattle.mama_check.specs.Causal.{client_needs}
 use Rattle.mama_check.proofs.LineLemmas.{any_default}

@@ -1,34 +1,7 @@
-use Rattle.std.proofs.Common.{◌≡◌, ◌<◌, ℕ, List, [], ◌∷◌, length, map, refl, ap, sym, subst, ◌∙◌}
-use Rattle.std.specs.Prelude.{slice_index_or}
-use Rattle.std.specs.Global.{Vec}
-use Rattle.mama_journal.specs.Lane.{by_port}
-use Rattle.mama_event.specs.declared.to_queue.QueueNote.{QueueNote}
-use Rattle.mama_puts.specs.Puts.{timers_put_to, bridge_put_to_queue}
-use Rattle.mama_puts.specs.Bridge.{queues_in}
-use Rattle.mama_check.proofs.LineLemmas.{items_at}
-use Rattle.mama_check.proofs.Lanes.{queue_lane}
+use Rattle.std.proofs.Common.{◌≡◌, Bool, true, sym, subst}
+use Rattle.std.specs.Prelude.{◌↔◌}
+use Rattle.mama_check.specs.Rules.{KeepsQueueEdges}
 use Rattle.mama_check.proofs.edges.is_queue_whole.Goals as goal
 
 pub returns : goal.returns
-returns c =
-    let q = c.args.queue in
-    let script = c.args.script.now in
-    let run = c.args.run.now in
-    let ticks : List (List (ℕ × QueueNote)) = map (λ (v : Vec (ℕ × QueueNote)). v.items) c.args.timers.now in
-    let in_bridge : q < length (queues_in c.args.bridge.now) = subst (λ (n : ℕ). q < n) (sym c.requires.bridge.queues.as_many) c.requires.queue in
-    let in_timers : q < length ticks = subst (λ (n : ℕ). q < n) (sym c.requires.timers.as_many) c.requires.queue in
-    let in_run : q < length run.queues = subst (λ (n : ℕ). q < n) (sym c.requires.journals) c.requires.queue in
-    let from_bridge : c.as_slice.result.now ≡ bridge_put_to_queue script.shape run.bridge q =
-    c.as_slice.ensures.value
-    ∙ items_at c.args.bridge.now.to_queues.items (queues_in c.args.bridge.now) q c.index-from_bridge.result.now refl in_bridge c.index-from_bridge.ensures
-    ∙ c.requires.bridge.queues.each q c.requires.queue in
-    let from_timers : c.as_slice-2.result.now ≡ timers_put_to script.shape run.timers q =
-    c.as_slice-2.ensures.value
-    ∙ items_at c.args.timers.now ticks q c.index-timers-queue.result refl in_timers c.index-timers-queue.is
-    ∙ c.requires.timers.each q c.requires.queue in
-    let journal : c.deref.result.now ≡ slice_index_or run.queues q [] =
-    c.deref.ensures.value ∙ items_at c.queues-journals.result.now run.queues q c.index-journals-queue.result c.queues-journals.ensures in_run c.index-journals-queue.is in
-    let lane = queue_lane script run q c.as_slice.result.now c.as_slice-2.result.now (c.as_slice.result.now ∷ c.as_slice-2.result.now ∷ []) from_bridge from_timers refl in (
-      λ yes port. ap (λ (j : List (ℕ × QueueNote)). by_port port j) (sym journal) ∙ c.in_ok-needs.ensures.whole.0 (sym c.is_some.ensures ∙ yes) port ∙ lane port,
-      λ keeps. c.is_some.ensures ∙ c.in_ok-needs.ensures.whole.1 (λ port. ap (λ (j : List (ℕ × QueueNote)). by_port port j) journal ∙ keeps port ∙ sym (lane port)),
-    )
+returns c = subst (λ (b : Bool). (b ≡ true) ↔ KeepsQueueEdges c.args.script.now c.args.run.now c.args.queue) (sym c.is_some.ensures) c.in_ok-needs.ensures.whole

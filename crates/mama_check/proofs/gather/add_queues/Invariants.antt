@@ -1,5 +1,5 @@
 use Rattle.std.proofs.Common.{◌≡◌, ◌++◌, map, take}
-use Rattle.mama_queue_check.specs.Served.{bridge_puts}
+use Rattle.mama_check_queue.specs.Served.{bridge_puts}
 use Rattle.mama_check.proofs.gather.add_queues.Given as goal
 
 -- what was put by so many is added

@@ -1,5 +1,5 @@
 use Rattle.std.proofs.Common.{◌≡◌, ◌++◌, map, take}
-use Rattle.mama_queue_check.specs.Served.{timers_puts}
+use Rattle.mama_check_queue.specs.Served.{timers_puts}
 use Rattle.mama_check.proofs.gather.add_timing_queues.Given as goal
 
 -- what was put by so many is added

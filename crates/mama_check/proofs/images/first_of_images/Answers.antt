@@ -1,6 +1,6 @@
 use Rattle.std.proofs.Common.{◌∙◌}
 use Rattle.mama_record.specs.RunView as view
-use Rattle.mama_queue_check.proofs.Options.{some_is, none_is}
+use Rattle.mama_check_queue.proofs.Options.{some_is, none_is}
 use Rattle.mama_check.proofs.ImageWalk.{at_start, at_next, first_here, at_end}
 use Rattle.mama_check.proofs.images.first_of_images.Goals as goal
 

@@ -1,6 +1,6 @@
 use Rattle.std.proofs.Common.{drop}
 use Rattle.mama_record.specs.RunView as view
-use Rattle.mama_queue_seat.specs.Plans.{planned_objects}
+use Rattle.mama_plans.specs.Plans.{planned_objects}
 use Rattle.mama_check.proofs.ImageWalk.{IsAt}
 use Rattle.mama_check.proofs.images.first_of_images.Given as goal
 

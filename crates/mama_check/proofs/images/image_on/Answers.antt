@@ -1,7 +1,7 @@
 use Rattle.std.proofs.Common.{List, ◌≡◌, IfOk, subst}
 use Rattle.mama_record.specs.RunData.{LastImage}
-use Rattle.mama_queue_seat.specs.Image.{found_image}
-use Rattle.mama_queue_check.proofs.RecordLemmas.{image_here}
+use Rattle.mama_plans.specs.Image.{found_image}
+use Rattle.mama_check_queue.proofs.RecordLemmas.{image_here}
 use Rattle.mama_check.proofs.images.image_on.Goals as goal
 
 pub returns-then-queue-served : goal.returns-then-queue-served

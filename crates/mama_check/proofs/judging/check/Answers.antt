@@ -1,4 +1,4 @@
-use Rattle.mama_legal.specs.Laws.{IsOrderly}
+use Rattle.mama_laws_legal.specs.Laws.{IsOrderly}
 use Rattle.mama_check.specs.Verdict.{KeepAllLines, KeepEdges, KeepObjects}
 use Rattle.mama_check.proofs.CheckLemmas.{found_at, found_none, judged_broken, judged_legal, true_of_legal}
 use Rattle.mama_check.proofs.judging.check.Goals as goal

@@ -1,7 +1,7 @@
 use Rattle.std.proofs.Common.{◌≡◌, ◌<◌, ℕ, List, [], length, get_or, ap, sym, subst, ◌∙◌, below_more, true≢false}
 use Rattle.std.specs.Prelude.{slice_index_or}
 use Rattle.mama_script.specs.declared.client.ClientLine.{ClientLine}
-use Rattle.mama_rounds.specs.Client.{clock_lines}
+use Rattle.mama_rules_rounds.specs.Client.{clock_lines}
 use Rattle.mama_check.proofs.LineLemmas.{any_default, items_at}
 use Rattle.mama_check.proofs.lines.first_of_moments.Goals as goal
 

@@ -1,6 +1,6 @@
 use Rattle.std.proofs.Common.{List, ◌≡◌, IfOk, subst}
 use Rattle.mama_event.specs.declared.callback.CallNote.{CallNote}
-use Rattle.mama_queue_check.proofs.RecordLemmas.{calls_here}
+use Rattle.mama_check_queue.proofs.RecordLemmas.{calls_here}
 use Rattle.mama_check.proofs.objects.calls_on.Goals as goal
 
 pub returns-then-queue-served : goal.returns-then-queue-served

@@ -11,4 +11,4 @@ pub returns-in-Ok-clause-kept : goal.returns-in-Ok-clause-kept
 returns-in-Ok-clause-kept g c = kept_created c.args.object c.args.make _ c.args.seats.now c.create.new.self _ _ c.in-Ok.ensures.ok c.requires
 
 pub returns-in-Ok-clause-answer : goal.returns-in-Ok-clause-answer
-returns-in-Ok-clause-answer g c = answers_created (told g.L.Tagged.tagged g.L.Listener.calls g.L.Listener.heard g.L.Listener.plan) c.args.slot c.args.object c.args.make (g.L.Tagged.tagged c.args.listener) c.args.seats.now c.create.new.self c.requires
+returns-in-Ok-clause-answer g c = answers_created (told g.L.Tagged.tagged g.L.Listener.calls g.L.Listener.heard g.L.Listener.given g.L.Listener.plan) c.args.slot c.args.object c.args.make (g.L.Tagged.tagged c.args.listener) c.args.seats.now c.create.new.self c.requires

@@ -11,4 +11,4 @@ pub returns-in-Ok-clause-kept : goal.returns-in-Ok-clause-kept
 returns-in-Ok-clause-kept g c = kept_with c.args.seats.now c.end.new.self (kept_ended c.args.object _ c.args.seats.now c.end.new.self _ _ c.in-Ok.ensures.ok)
 
 pub returns-in-Ok-clause-answer : goal.returns-in-Ok-clause-answer
-returns-in-Ok-clause-answer g c = answers_ended (told g.L.Tagged.tagged g.L.Listener.calls g.L.Listener.heard g.L.Listener.plan) c.args.slot c.args.object c.in-Ok.listener c.args.seats.now c.end.new.self _ _ c.in-Ok.ensures.ok c.requires
+returns-in-Ok-clause-answer g c = answers_ended (told g.L.Tagged.tagged g.L.Listener.calls g.L.Listener.heard g.L.Listener.given g.L.Listener.plan) c.args.slot c.args.object c.in-Ok.listener c.args.seats.now c.end.new.self _ _ c.in-Ok.ensures.ok c.requires

@@ -16,4 +16,4 @@ pub returns-in-Ok-clause-kept : goal.returns-in-Ok-clause-kept
 returns-in-Ok-clause-kept g c = kept_with c.args.seats.now c.tell.new.self c.in-Ok.ensures.kept
 
 pub returns-in-Ok-clause-answer : goal.returns-in-Ok-clause-answer
-returns-in-Ok-clause-answer g c = answers_replied (told g.L.Tagged.tagged g.L.Listener.calls g.L.Listener.heard g.L.Listener.plan) c.args.slot c.args.inbox c.args.body c.args.seats.now c.tell.new.self c.requires.here c.requires.unmuted
+returns-in-Ok-clause-answer g c = answers_replied (told g.L.Tagged.tagged g.L.Listener.calls g.L.Listener.heard g.L.Listener.given g.L.Listener.plan) c.args.slot c.args.inbox c.args.body c.args.seats.now c.tell.new.self c.requires.here c.requires.unmuted

@@ -19,4 +19,4 @@ pub returns-then-is_ok-clause-kept : goal.returns-then-is_ok-clause-kept
 returns-then-is_ok-clause-kept g c = kept_with c.args.seats.now c.tell-told.new.self (on_ok c.tell-told.result (sym c.is_ok.ensures.value ∙ c.if-is_ok.true) c.tell-told.ensures.kept)
 
 pub returns-then-is_ok-clause-answer : goal.returns-then-is_ok-clause-answer
-returns-then-is_ok-clause-answer g c = answers_ticked (told g.L.Tagged.tagged g.L.Listener.calls g.L.Listener.heard g.L.Listener.plan) c.args.slot c.args.timer c.args.moment c.args.seats.now c.tell-told.new.self c.requires.here c.requires.unmuted
+returns-then-is_ok-clause-answer g c = answers_ticked (told g.L.Tagged.tagged g.L.Listener.calls g.L.Listener.heard g.L.Listener.given g.L.Listener.plan) c.args.slot c.args.timer c.args.moment c.args.seats.now c.tell-told.new.self c.requires.here c.requires.unmuted

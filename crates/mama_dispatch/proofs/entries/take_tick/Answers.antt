@@ -15,4 +15,4 @@ pub returns-then-is_muted-clause-kept : goal.returns-then-is_muted-clause-kept
 returns-then-is_muted-clause-kept g c = kept_with c.args.seats.now c.args.seats.now (kept_same c.args.seats.now)
 
 pub returns-then-is_muted-clause-answer : goal.returns-then-is_muted-clause-answer
-returns-then-is_muted-clause-answer g c = mutes_ticked (told g.L.Tagged.tagged g.L.Listener.calls g.L.Listener.heard g.L.Listener.plan) c.args.slot c.args.timer c.args.moment c.args.seats.now c.requires (sym c.is_muted.ensures ∙ c.if-is_muted.true)
+returns-then-is_muted-clause-answer g c = mutes_ticked (told g.L.Tagged.tagged g.L.Listener.calls g.L.Listener.heard g.L.Listener.given g.L.Listener.plan) c.args.slot c.args.timer c.args.moment c.args.seats.now c.requires (sym c.is_muted.ensures ∙ c.if-is_muted.true)

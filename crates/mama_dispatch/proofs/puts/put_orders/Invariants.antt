@@ -1,5 +1,5 @@
 use Rattle.std.proofs.Common.{◌≡◌, ◌+◌, ◌++◌, map, take}
-use Rattle.mama_queue_rules.specs.Queue.{order_put}
+use Rattle.mama_rules_queue.specs.Queue.{order_put}
 use Rattle.mama_dispatch.specs.Turns.{put_note}
 use Rattle.mama_dispatch.proofs.puts.put_orders.Given as goal
 

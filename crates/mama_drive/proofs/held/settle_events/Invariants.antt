@@ -1,7 +1,8 @@
 use Rattle.std.proofs.Common.{◌≡◌, map, length}
 use Rattle.mama_event.specs.ToBridge.{note_of}
-use Rattle.mama_queue_seat.specs.Put.{own_tag}
-use Rattle.mama_drive.specs.Held.{waits, lay_event, lay_all}
+use Rattle.mama_plans.specs.Put.{own_tag}
+use Rattle.mama_seats.specs.Waiting.{waits}
+use Rattle.mama_drive.specs.Held.{lay_event, lay_all}
 use Rattle.mama_drive.proofs.held.settle_events.Given as goal
 
 abbrev pub invariant-loop-event : goal.invariant-loop-event

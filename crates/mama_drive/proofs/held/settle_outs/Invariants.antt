@@ -1,6 +1,7 @@
 use Rattle.std.proofs.Common.{◌≡◌, length}
-use Rattle.mama_queue_seat.specs.Put.{notes_of}
-use Rattle.mama_drive.specs.Held.{waits, lay_out, lay_all}
+use Rattle.mama_plans.specs.Put.{notes_of}
+use Rattle.mama_seats.specs.Waiting.{waits}
+use Rattle.mama_drive.specs.Held.{lay_out, lay_all}
 use Rattle.mama_drive.proofs.held.settle_outs.Given as goal
 
 abbrev pub invariant-loop-out : goal.invariant-loop-out

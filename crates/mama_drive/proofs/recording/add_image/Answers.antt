@@ -1,7 +1,7 @@
 use Rattle.std.proofs.Common.{◌∙◌, ap, sym, ◌++◌, ◌∷◌, []}
 use Rattle.std.proofs.lemmas.List.{map-append}
 use Rattle.mama_record.specs.RunView.{image_in, images_of}
-use Rattle.mama_queue_seat.specs.Image.{found_image}
+use Rattle.mama_plans.specs.Image.{found_image}
 use Rattle.mama_drive.proofs.LaneLemmas.{append_nil}
 use Rattle.mama_drive.proofs.RecordingLemmas.{image_here}
 use Rattle.mama_drive.proofs.recording.add_image.Goals as goal

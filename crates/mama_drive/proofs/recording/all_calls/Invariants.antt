@@ -1,6 +1,6 @@
 use Rattle.std.proofs.Common.{◌≡◌, map, take}
 use Rattle.mama_record.specs.RunView.{calls_of}
-use Rattle.mama_queue_seat.specs.Plans.{planned_objects}
+use Rattle.mama_plans.specs.Plans.{planned_objects}
 use Rattle.mama_drive.specs.Scene.{journal_in}
 use Rattle.mama_drive.specs.Record.{calls_by}
 use Rattle.mama_drive.proofs.recording.all_calls.Given as goal

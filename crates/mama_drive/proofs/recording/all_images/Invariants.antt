@@ -1,7 +1,7 @@
 use Rattle.std.proofs.Common.{◌≡◌, map, take}
 use Rattle.std.specs.List.{flat_map}
 use Rattle.mama_record.specs.RunView.{images_of}
-use Rattle.mama_queue_seat.specs.Plans.{planned_objects}
+use Rattle.mama_plans.specs.Plans.{planned_objects}
 use Rattle.mama_drive.specs.Scene.{journal_in}
 use Rattle.mama_drive.specs.Record.{images_by}
 use Rattle.mama_drive.proofs.recording.all_images.Given as goal

@@ -1,26 +1,54 @@
-use Rattle.mama_event.specs.EqualityLaws.{same_sub-Decides, same_timer-Decides, same_inbox-Decides, same_object-Decides, same_kind-Decides, same_quality-Decides, same_sub_kind-Decides, same_make-Decides, same_market_msg-Decides, same_order-Decides, same_orders-Decides, same_plan_row-Decides, same_callback-Decides, same_call_note-Decides, same_sub_terms-Decides, same_inbox_terms-Decides, same_publisher_note-Decides, same_publisher_entry-Decides, same_queue_note-Decides, same_bridge_note-Decides}
+use Rattle.std.proofs.lemmas.Slice.Eq.{bytes_eq-Decides}
+use Rattle.mama_event.specs.EqualityLaws as equality
 use Rattle.mama_event.proofs.laws.plain_data_is_compared_exactly.Goals as goal
 
-pub returns : goal.returns
-returns c = record {
-  sub = same_sub-Decides;
-  timer = same_timer-Decides;
-  inbox = same_inbox-Decides;
-  object = same_object-Decides;
-  kind = same_kind-Decides;
-  quality = same_quality-Decides;
-  sub_kind = same_sub_kind-Decides;
-  make = same_make-Decides;
-  market_msg = same_market_msg-Decides;
-  order = same_order-Decides;
-  orders = same_orders-Decides;
-  plan_row = same_plan_row-Decides;
-  callback = same_callback-Decides;
-  call_note = same_call_note-Decides;
-  sub_terms = same_sub_terms-Decides;
-  inbox_terms = same_inbox_terms-Decides;
-  publisher_note = same_publisher_note-Decides;
-  publisher_entry = same_publisher_entry-Decides;
-  queue_note = same_queue_note-Decides;
-  bridge_note = same_bridge_note-Decides;
-}
+pub returns-clause-sub : goal.returns-clause-sub
+returns-clause-sub c = equality.same_sub-Decides
+
+pub returns-clause-timer : goal.returns-clause-timer
+returns-clause-timer c = equality.same_timer-Decides
+
+pub returns-clause-inbox : goal.returns-clause-inbox
+returns-clause-inbox c = equality.same_inbox-Decides
+
+pub returns-clause-market_msg : goal.returns-clause-market_msg
+returns-clause-market_msg c = equality.same_market_msg-Decides
+
+pub returns-clause-order : goal.returns-clause-order
+returns-clause-order c = equality.same_order-Decides
+
+pub returns-clause-orders : goal.returns-clause-orders
+returns-clause-orders c = equality.same_orders-Decides
+
+pub returns-clause-plan_row : goal.returns-clause-plan_row
+returns-clause-plan_row c = equality.same_plan_row-Decides
+
+pub returns-clause-callback : goal.returns-clause-callback
+returns-clause-callback c = equality.same_callback-Decides
+
+pub returns-clause-call_note : goal.returns-clause-call_note
+returns-clause-call_note c = equality.same_call_note-Decides
+
+pub returns-clause-publisher_note : goal.returns-clause-publisher_note
+returns-clause-publisher_note c = equality.same_publisher_note-Decides
+
+pub returns-clause-publisher_entry : goal.returns-clause-publisher_entry
+returns-clause-publisher_entry c = equality.same_publisher_entry-Decides
+
+pub returns-clause-queue_note : goal.returns-clause-queue_note
+returns-clause-queue_note c = equality.same_queue_note-Decides
+
+pub returns-clause-sub_terms : goal.returns-clause-sub_terms
+returns-clause-sub_terms c = equality.same_sub_terms-Decides
+
+pub returns-clause-inbox_terms : goal.returns-clause-inbox_terms
+returns-clause-inbox_terms c = equality.same_inbox_terms-Decides
+
+pub returns-clause-bridge_note : goal.returns-clause-bridge_note
+returns-clause-bridge_note c = equality.same_bridge_note-Decides
+
+pub returns-clause-fids : goal.returns-clause-fids
+returns-clause-fids c = bytes_eq-Decides
+
+pub returns-clause-topics : goal.returns-clause-topics
+returns-clause-topics c = bytes_eq-Decides

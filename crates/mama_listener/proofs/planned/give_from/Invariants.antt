@@ -1,6 +1,6 @@
 use Rattle.std.proofs.Common.{◌≡◌, ◌+◌, ◌-◌, ◌≤◌, length, take}
 use Rattle.mama_event.specs.Listener.{planned}
-use Rattle.mama_listener.specs.Plan.{IsPassed}
+use Rattle.mama_listener.specs.Passed.{IsPassed}
 use Rattle.mama_listener.proofs.planned.give_from.Given as goal
 
 abbrev pub invariant-loop-i : goal.invariant-loop-i

@@ -2,7 +2,7 @@ use Rattle.std.proofs.Common.{ℕ, List, Result, sym, ap, subst, ◌∙◌}
 use Rattle.std.specs.Str.{bytes_eq}
 use Rattle.mama_script.specs.declared.fault.ScriptFault.{ScriptFault}
 use Rattle.mama_script.specs.declared.line.Line.{Line}
-use Rattle.mama_script.specs.Reading.{Gives}
+use Rattle.mama_script.specs.Answer.{Gives}
 use Rattle.mama_script.proofs.Loop.{lines_behind, lines_other, lines_uncut}
 use Rattle.mama_script.proofs.parsing.read_lines.Goals as goal
 

@@ -1,5 +1,5 @@
 use Rattle.std.proofs.Common.{◌≡◌, ◌+◌, ◌++◌, map, take}
-use Rattle.mama_timer.specs.Out.{gone_out}
+use Rattle.mama_timer.specs.Putting.{gone_out}
 use Rattle.mama_timer.proofs.out.put_all_gone.Given as goal
 
 abbrev pub invariant-loop-one : goal.invariant-loop-one

@@ -1,6 +1,6 @@
 use Rattle.std.proofs.Common.{◌≡◌, ◌+◌, ◌++◌, map}
 use Rattle.mama_journal.specs.Journal.{numbers_below}
-use Rattle.mama_timer.specs.Out.{fin_out}
+use Rattle.mama_timer.specs.Putting.{fin_out}
 use Rattle.mama_timer.proofs.out.put_fins.Given as goal
 
 abbrev pub invariant-loop-queue : goal.invariant-loop-queue

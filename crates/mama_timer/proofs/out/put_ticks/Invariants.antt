@@ -1,5 +1,5 @@
 use Rattle.std.proofs.Common.{◌≡◌, ◌+◌, ◌++◌, map, take}
-use Rattle.mama_timer.specs.Out.{tick_out}
+use Rattle.mama_timer.specs.Putting.{tick_out}
 use Rattle.mama_timer.proofs.out.put_ticks.Given as goal
 
 abbrev pub invariant-loop-firing : goal.invariant-loop-firing

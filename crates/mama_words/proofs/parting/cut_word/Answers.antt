@@ -1,6 +1,6 @@
 use Rattle.std.proofs.Common.{sym, ◌∙◌}
 use Rattle.mama_words.specs.declared.parting.Place.TheVariants.{Outside}
-use Rattle.mama_words.specs.Parting.{cut_word}
+use Rattle.mama_words.specs.CutWord.{cut_word}
 use Rattle.mama_words.proofs.Cuts.{onto_cut-nil, cut_word_found, cut_word_more, cut_word_none}
 use Rattle.mama_words.proofs.parting.cut_word.Goals as goal
 

@@ -1,5 +1,5 @@
 use Rattle.std.proofs.Common.{◌≡◌, Bool, false, [], ◌∷◌, ◌++◌, refl, rules, subst, sym}
-use Rattle.mama_bridge_rules.specs.Table.{kept}
+use Rattle.mama_laws_bridge.specs.Table.{kept}
 use Rattle.mama_bridge.specs.Live.{IsLive, Awaits, place_of}
 use Rattle.mama_bridge.proofs.ByTopic.{live_gains}
 use Rattle.mama_bridge.proofs.desk.Desk.add_sub.Goals as goal

@@ -3,8 +3,8 @@ use Rattle.std.specs.List.{list_any}
 use Rattle.std.proofs.Common.{◌≡◌, ◌∙◌, ◌==◌, ap, not, [], ◌&&◌, ◌++◌, cond}
 use Rattle.mama_event.specs.declared.to_publisher.ToPublisher.TheVariants as asked
 use Rattle.mama_event.specs.declared.to_publisher.PublisherNote.TheVariants as p
-use Rattle.mama_rules.specs.Bridge.{to_first}
-use Rattle.mama_bridge_rules.specs.Table.{of_inbox, all_set, settling_now}
+use Rattle.mama_rules_services.specs.Bridge.{to_first}
+use Rattle.mama_laws_bridge.specs.Table.{of_inbox, all_set, settling_now}
 use Rattle.mama_bridge.specs.Links.{first_outs}
 use Rattle.mama_bridge.proofs.Adding.{adds_said}
 use Rattle.mama_bridge.proofs.InboxLemmas.{open_same}

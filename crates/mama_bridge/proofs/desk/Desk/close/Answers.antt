@@ -1,7 +1,7 @@
 use Rattle.std.specs.List.{flat_map}
 use Rattle.std.proofs.Common.{List, ◌∙◌, ap, map, filter, sym, subst}
 use Rattle.mama_event.specs.declared.ids.InboxId.{InboxId}
-use Rattle.mama_bridge_rules.specs.Table.{of_inbox, inbox_ends}
+use Rattle.mama_laws_bridge.specs.Table.{of_inbox, inbox_ends}
 use Rattle.mama_bridge.specs.Ids.{is_inbox_among}
 use Rattle.mama_slots.specs.Slots.{SlotData}
 use Rattle.mama_bridge.specs.Held.{AreHeld}

@@ -1,6 +1,6 @@
 use Rattle.std.specs.List.{flat_map}
 use Rattle.std.proofs.Common.{◌≡◌, Bool, cond, [], ◌++◌, map, sym, subst}
-use Rattle.mama_bridge_rules.specs.Table.{kept}
+use Rattle.mama_laws_bridge.specs.Table.{kept}
 use Rattle.mama_bridge.specs.Links.{inbox_seen, inbox_view, end_outs, inbox_end_outs, fin_outs}
 use Rattle.mama_bridge.specs.Placed.{present}
 use Rattle.mama_bridge.specs.Held.{KeepsHeld}

@@ -1,7 +1,7 @@
 use Rattle.std.specs.List.{flat_map}
 use Rattle.std.proofs.Common.{filter}
 use Rattle.std.proofs.lemmas.Result.{on_ok_weaker, on_err_weaker}
-use Rattle.mama_bridge_rules.specs.Table.{sub_passed, of_sub, sub_emits}
+use Rattle.mama_laws_bridge.specs.Table.{sub_passed, of_sub, sub_emits}
 use Rattle.mama_bridge.specs.Links.{emit_outs}
 use Rattle.mama_bridge.proofs.ByTopic.{pass_keeps_places}
 use Rattle.mama_bridge.proofs.HeldLemmas.{held_changed}

@@ -6,8 +6,8 @@ use Rattle.mama_event.specs.declared.ids.ObjectId.TheVariants.{Sub}
 use Rattle.mama_event.specs.declared.market.MsgKind.TheVariants.{Initial}
 use Rattle.mama_event.specs.declared.to_publisher.ToPublisher.TheVariants as asked
 use Rattle.mama_event.specs.declared.to_queue.Make.TheVariants as make
-use Rattle.mama_rules.specs.Bridge.{wants_image}
-use Rattle.mama_bridge_rules.specs.Table.{has_joined, slot_for, sub_slots, inbox_slots, ended_now, new_sub}
+use Rattle.mama_rules_services.specs.Bridge.{wants_image}
+use Rattle.mama_laws_bridge.specs.Table.{has_joined, slot_for, sub_slots, inbox_slots, ended_now, new_sub}
 use Rattle.mama_slots.specs.Slots.{SlotData, in_use, IsNext}
 use Rattle.mama_bridge.specs.Ids.{is_sub_among, is_inbox_among}
 use Rattle.mama_bridge.specs.Links.{SubView, sub_seen, sub_view, inbox_seen, first_outs, image_outs}

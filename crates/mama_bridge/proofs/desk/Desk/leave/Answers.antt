@@ -1,6 +1,6 @@
 use Rattle.std.specs.List.{flat_map}
 use Rattle.std.proofs.Common.{filter, sym, subst}
-use Rattle.mama_bridge_rules.specs.Table.{of_sub, sub_ends}
+use Rattle.mama_laws_bridge.specs.Table.{of_sub, sub_ends}
 use Rattle.mama_slots.specs.Slots.{SlotData}
 use Rattle.mama_bridge.specs.Held.{AreHeld}
 use Rattle.mama_bridge.specs.Links.{end_outs}

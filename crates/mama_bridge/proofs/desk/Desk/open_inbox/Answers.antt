@@ -2,7 +2,7 @@ use Rattle.std.proofs.Common.{ℕ, ◌++◌, ◌≡◌, ◌∙◌, sym, ap, fals
 use Rattle.mama_link.specs.Link.{standing_after}
 use Rattle.mama_event.specs.declared.ids.ObjectId.TheVariants.{Inbox}
 use Rattle.mama_event.specs.declared.to_queue.Make.TheVariants as make
-use Rattle.mama_bridge_rules.specs.Table.{has_opened, slot_for, sub_slots, inbox_slots, ended_now, new_inbox}
+use Rattle.mama_laws_bridge.specs.Table.{has_opened, slot_for, sub_slots, inbox_slots, ended_now, new_inbox}
 use Rattle.mama_bridge.specs.Ids.{is_inbox_among}
 use Rattle.mama_bridge.specs.Links.{InboxView, inbox_view, inbox_seen}
 use Rattle.mama_bridge.specs.Opened.{Opened, new_inbox_view}

@@ -1,7 +1,7 @@
 use Rattle.std.specs.List.{flat_map}
 use Rattle.std.proofs.Common.{ℕ, filter, subst}
 use Rattle.std.proofs.lemmas.Result.{on_ok_weaker, on_err_weaker}
-use Rattle.mama_bridge_rules.specs.Table.{is_on_topic_of, sub_emits, sub_passed}
+use Rattle.mama_laws_bridge.specs.Table.{is_on_topic_of, sub_emits, sub_passed}
 use Rattle.mama_bridge.specs.Links.{emit_outs, row_is_on}
 use Rattle.mama_bridge.specs.Live.{LiveDoes}
 use Rattle.mama_bridge.proofs.ByTopic.{pass_keeps_places}

@@ -2,7 +2,7 @@ use Rattle.std.specs.List.{flat_map}
 use Rattle.std.proofs.Common.{List, ap, ◌∙◌, filter}
 use Rattle.std.proofs.lemmas.Result.{on_ok_weaker, on_err_weaker}
 use Rattle.mama_event.specs.declared.ids.InboxId.{InboxId}
-use Rattle.mama_bridge_rules.specs.Table.{of_inbox, inbox_emits}
+use Rattle.mama_laws_bridge.specs.Table.{of_inbox, inbox_emits}
 use Rattle.mama_bridge.specs.Ids.{is_inbox_among}
 use Rattle.mama_bridge.specs.Links.{inbox_emit_outs}
 use Rattle.mama_bridge.proofs.HeldLemmas.{held_passed}

@@ -3,7 +3,7 @@ use Rattle.std.proofs.Common.{sym, subst, []}
 use Rattle.std.proofs.lemmas.Result.{on_ok_weaker}
 use Rattle.mama_event.specs.ToBridge.{note_of}
 use Rattle.mama_event.specs.declared.to_bridge.ToBridge.{ToBridge}
-use Rattle.mama_rules.specs.Bridge.{from_client}
+use Rattle.mama_rules_services.specs.Bridge.{from_client}
 use Rattle.mama_bridge.specs.Desk.{Hears}
 use Rattle.mama_bridge.proofs.desk.Desk.told_by_client.Goals as goal
 

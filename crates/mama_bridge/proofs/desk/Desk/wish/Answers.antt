@@ -2,7 +2,7 @@ use Rattle.std.specs.Prelude.{nat_lt, nat_le}
 use Rattle.std.specs.List.{flat_map}
 use Rattle.std.proofs.Common.{◌≡◌, ◌∙◌, List, subst, sym, ap, filter, not, length, true, false, [], ◌&&◌, append-nil}
 use Rattle.std.proofs.lemmas.Result.{on_ok_weaker, on_err_weaker}
-use Rattle.mama_bridge_rules.specs.Table.{SubRow, of_sub, sub_wishes, all_set, settling_now}
+use Rattle.mama_laws_bridge.specs.Table.{SubRow, of_sub, sub_wishes, all_set, settling_now}
 use Rattle.mama_bridge.specs.Links.{wish_outs, wished_once}
 use Rattle.mama_bridge.specs.Held.{AreHeld}
 use Rattle.mama_bridge.specs.Live.{IsLive}

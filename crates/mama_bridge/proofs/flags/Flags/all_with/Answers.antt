@@ -1,5 +1,5 @@
 use Rattle.std.proofs.Common.{◌<◌, length, subst, List, Bool, ◌∙◌, sym, ap, true, set}
-use Rattle.mama_bridge_rules.specs.Table.{all_set}
+use Rattle.mama_laws_bridge.specs.Table.{all_set}
 use Rattle.mama_bridge.proofs.FlagLemmas.{one_unset_read}
 use Rattle.mama_bridge.proofs.flags.Flags.all_with.Goals as goal
 

@@ -5,7 +5,7 @@ use Rattle.std.proofs.lemmas.List.{map-append}
 use Rattle.std.specs.declared.option.Option.{Option}
 use Rattle.mama_event.specs.Object.{same_inbox}
 use Rattle.mama_event.specs.declared.ids.InboxId.{InboxId}
-use Rattle.mama_bridge_rules.specs.Table.{kept}
+use Rattle.mama_laws_bridge.specs.Table.{kept}
 use Rattle.mama_bridge.specs.Ids.{is_inbox_among}
 use Rattle.mama_bridge.specs.Links.{InboxView, inbox_seen}
 use Rattle.mama_bridge.specs.Opened.{Opened, LinksIndexed, new_inbox_view}

@@ -1,6 +1,6 @@
 use Rattle.std.proofs.Common.{ap, ◌∙◌, subst, map, set}
 use Rattle.std.proofs.lemmas.Result.{on_ok_weaker, on_err_weaker}
-use Rattle.mama_bridge_rules.specs.Table.{inbox_passed}
+use Rattle.mama_laws_bridge.specs.Table.{inbox_passed}
 use Rattle.mama_bridge.specs.Links.{InboxPass, inbox_seen, inbox_emit_outs}
 use Rattle.mama_bridge.specs.Opened.{Opened}
 use Rattle.mama_bridge.specs.Placed.{present}

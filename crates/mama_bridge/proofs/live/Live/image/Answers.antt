@@ -1,6 +1,6 @@
 use Rattle.std.proofs.Common.{refl, filter}
 use Rattle.std.proofs.lemmas.Result.{on_ok_weaker, on_err_weaker}
-use Rattle.mama_bridge_rules.specs.Table.{of_sub, sub_passed}
+use Rattle.mama_laws_bridge.specs.Table.{of_sub, sub_passed}
 use Rattle.mama_bridge.specs.Links.{emit_outs}
 use Rattle.mama_bridge.proofs.ByTopic.{stays_on, live_does, live_idle, found_on, found_none}
 use Rattle.mama_bridge.proofs.live.Live.image.Goals as goal

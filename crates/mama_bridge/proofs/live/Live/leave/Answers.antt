@@ -1,6 +1,6 @@
 use Rattle.std.specs.Prelude.{option_to_list}
 use Rattle.std.proofs.Common.{filter, sym, ap, ◌∙◌}
-use Rattle.mama_bridge_rules.specs.Table.{of_sub}
+use Rattle.mama_laws_bridge.specs.Table.{of_sub}
 use Rattle.mama_bridge.proofs.ByTopic.{found_on, found_none, live_leaves, live_stays}
 use Rattle.mama_bridge.proofs.HeldLemmas.{place_freed, no_place}
 use Rattle.mama_bridge.proofs.live.Live.leave.Goals as goal

@@ -1,6 +1,6 @@
 use Rattle.std.proofs.Common.{refl}
 use Rattle.std.proofs.lemmas.Result.{on_ok_weaker, on_err_weaker}
-use Rattle.mama_bridge_rules.specs.Table.{sub_passed}
+use Rattle.mama_laws_bridge.specs.Table.{sub_passed}
 use Rattle.mama_bridge.specs.Links.{emit_outs, row_is_on}
 use Rattle.mama_bridge.proofs.ByTopic.{each_filter, stays_on, live_does}
 use Rattle.mama_bridge.proofs.live.Live.publish.Goals as goal

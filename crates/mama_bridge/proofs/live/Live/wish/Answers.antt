@@ -1,6 +1,6 @@
 use Rattle.std.proofs.Common.{refl, filter}
 use Rattle.std.proofs.lemmas.Result.{on_ok_weaker, on_err_weaker}
-use Rattle.mama_bridge_rules.specs.Table.{of_sub}
+use Rattle.mama_laws_bridge.specs.Table.{of_sub}
 use Rattle.mama_bridge.specs.Links.{wish_outs, wished_once}
 use Rattle.mama_bridge.proofs.ByTopic.{stays_on, live_does, live_idle, found_on, found_none, wish_keeps_places}
 use Rattle.mama_bridge.proofs.live.Live.wish.Goals as goal

@@ -1,5 +1,5 @@
 use Rattle.std.proofs.Common.{ap, sym, ◌∙◌}
-use Rattle.mama_bridge_rules.specs.Table.{without}
+use Rattle.mama_laws_bridge.specs.Table.{without}
 use Rattle.mama_bridge.specs.Placed.{Placed, is_place_of, present}
 use Rattle.mama_bridge.proofs.TheOne.{none_without}
 use Rattle.mama_bridge.proofs.places.Places.leave.Goals as goal

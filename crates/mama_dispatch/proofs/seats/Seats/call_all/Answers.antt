@@ -2,7 +2,7 @@ use Rattle.std.specs.Prelude.{length, drop}
 use Rattle.std.proofs.Common.{ℕ, ◌+◌, ◌<◌, List, [], ◌∷◌, ◌++◌, take, refl, ap, sym, ◌∙◌, arith}
 use Rattle.std.proofs.lemmas.List.{take_all}
 use Rattle.mama_event.specs.declared.callback.Callback.{Callback}
-use Rattle.mama_queue_rules.specs.Queue.{made}
+use Rattle.mama_rules_queue.specs.Queue.{made}
 use Rattle.mama_dispatch.proofs.CallLemmas.{nothing_made, calls_joined, next_of, drop_drop, calls_same}
 use Rattle.mama_dispatch.proofs.KeepLemmas.{kept_same, kept_then}
 use Rattle.mama_dispatch.proofs.seats.Seats.call_all.Goals as goal

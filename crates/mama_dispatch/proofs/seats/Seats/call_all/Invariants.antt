@@ -2,7 +2,7 @@ use Rattle.std.specs.List.{list_all}
 use Rattle.std.proofs.Common.{◌≡◌, ℕ, ◌*◌, ◌≤◌, true, List, map, length, take, drop, is_some}
 use Rattle.mama_event.specs.declared.ids.ObjectId.{ObjectId}
 use Rattle.mama_event.specs.declared.order.Order.{Order}
-use Rattle.mama_queue_rules.specs.Queue.{Deed}
+use Rattle.mama_rules_queue.specs.Queue.{Deed}
 use Rattle.mama_dispatch.specs.Journals.{Born}
 use Rattle.mama_dispatch.specs.Seats.{listener_in, room_in, Fits}
 use Rattle.mama_dispatch.specs.Seating.{is_live, is_plain, Seated, CallsMade}

@@ -1,7 +1,7 @@
 use Rattle.std.specs.Prelude.{map, Option}
 use Rattle.std.proofs.Common.{List, ◌++◌, refl, ap, ◌∙◌, arith}
 use Rattle.mama_event.specs.Listener.{ListenerData}
-use Rattle.mama_queue_rules.specs.Queue.{QueuePut, order_put}
+use Rattle.mama_rules_queue.specs.Queue.{QueuePut, order_put}
 use Rattle.mama_dispatch.specs.Seats.{listener_in, room_in, at, called_with, muted_by_all}
 use Rattle.mama_dispatch.proofs.PlaceLemmas.{heard_is, heard_same}
 use Rattle.mama_dispatch.proofs.CallLemmas.{room_after}

@@ -5,4 +5,4 @@ use Rattle.mama_dispatch.proofs.RowLemmas.{rows_few}
 use Rattle.mama_dispatch.proofs.seats.Seats.few.Goals as goal
 
 pub returns : goal.returns
-returns g c = subst AreFew c.self.view_is (rows_few (told g.L.Tagged.tagged g.L.Listener.calls g.L.Listener.heard g.L.Listener.plan) c.self.inside.rows.items)
+returns g c = subst AreFew c.self.view_is (rows_few (told g.L.Tagged.tagged g.L.Listener.calls g.L.Listener.heard g.L.Listener.given g.L.Listener.plan) c.self.inside.rows.items)

@@ -13,7 +13,7 @@ use Rattle.mama_dispatch.proofs.seats.Seats.image.Goals as goal
 pub returns-in-Some : goal.returns-in-Some
 returns-in-Some g c =
     subst (λ (x : ContextData). IfOk c.image_of.result (λ found. found ≡ image_in x))
-    (sym (ap (λ (s : Option SeatData). option_map_or (λ (x : SeatData). x.context) s (new_context Basic 0)) (row_there (row_data (told g.L.Tagged.tagged g.L.Listener.calls g.L.Listener.heard g.L.Listener.plan)) c.self.inside.rows.items c.in-Some.place c.index.result.now c.args.object.now c.args.self.now c.self.view_is c.in-Some.ensures.some c.index.ensures)))
+    (sym (ap (λ (s : Option SeatData). option_map_or (λ (x : SeatData). x.context) s (new_context Basic 0)) (row_there (row_data (told g.L.Tagged.tagged g.L.Listener.calls g.L.Listener.heard g.L.Listener.given g.L.Listener.plan)) c.self.inside.rows.items c.in-Some.place c.index.result.now c.args.object.now c.args.self.now c.self.view_is c.in-Some.ensures.some c.index.ensures)))
     c.image_of.ensures
 
 pub returns-in-None : goal.returns-in-None

@@ -11,8 +11,8 @@ use Rattle.mama_dispatch.proofs.seats.Seats.is_here.Goals as goal
 pub returns-in-Some : goal.returns-in-Some
 returns-in-Some g c =
     c.is_some.ensures
-    ∙ sym (ap (λ (s : Option SeatData). is_some (option_and_then (λ (x : SeatData). x.listener) s)) (row_there (row_data (told g.L.Tagged.tagged g.L.Listener.calls g.L.Listener.heard g.L.Listener.plan)) c.self.inside.rows.items c.in-Some.place c.index.result.now c.args.object.now c.args.self.now c.self.view_is c.in-Some.ensures.some c.index.ensures)
-    ∙ some_map (told g.L.Tagged.tagged g.L.Listener.calls g.L.Listener.heard g.L.Listener.plan) c.index.result.now.listener)
+    ∙ sym (ap (λ (s : Option SeatData). is_some (option_and_then (λ (x : SeatData). x.listener) s)) (row_there (row_data (told g.L.Tagged.tagged g.L.Listener.calls g.L.Listener.heard g.L.Listener.given g.L.Listener.plan)) c.self.inside.rows.items c.in-Some.place c.index.result.now c.args.object.now c.args.self.now c.self.view_is c.in-Some.ensures.some c.index.ensures)
+    ∙ some_map (told g.L.Tagged.tagged g.L.Listener.calls g.L.Listener.heard g.L.Listener.given g.L.Listener.plan) c.index.result.now.listener)
 
 pub returns-in-None : goal.returns-in-None
 returns-in-None g c = sym (ap (λ (s : Option SeatData). is_some (option_and_then (λ (x : SeatData). x.listener) s)) (none_seated c.args.object.now c.args.self.now c.in-None.ensures.none))

@@ -10,7 +10,7 @@ use Rattle.mama_dispatch.proofs.seats.Seats.is_muted.Goals as goal
 pub returns-in-Some : goal.returns-in-Some
 returns-in-Some g c =
     sym (ap (λ (s : Option SeatData). option_map_or (λ (x : SeatData). x.muted) s false)
-    (row_there (row_data (told g.L.Tagged.tagged g.L.Listener.calls g.L.Listener.heard g.L.Listener.plan)) c.self.inside.rows.items c.in-Some.place c.index.result.now c.args.object.now c.args.self.now c.self.view_is c.in-Some.ensures.some c.index.ensures))
+    (row_there (row_data (told g.L.Tagged.tagged g.L.Listener.calls g.L.Listener.heard g.L.Listener.given g.L.Listener.plan)) c.self.inside.rows.items c.in-Some.place c.index.result.now c.args.object.now c.args.self.now c.self.view_is c.in-Some.ensures.some c.index.ensures))
 
 pub returns-in-None : goal.returns-in-None
 returns-in-None g c = sym (ap (λ (s : Option SeatData). option_map_or (λ (x : SeatData). x.muted) s false) (none_seated c.args.object.now c.args.self.now c.in-None.ensures.none))

@@ -14,5 +14,5 @@ use Rattle.mama_dispatch.proofs.seats.Seats.most_calls.Goals as goal
 pub returns-in-Some : goal.returns-in-Some
 returns-in-Some g c = subst (λ (x : ContextData). IfSome c.most_calls.result (λ most. (msg : MarketMsg) → length (callbacks_of x msg) ≤ most))
     (sym (ap (λ (s : Option SeatData). option_map_or (λ (x : SeatData). x.context) s (new_context Basic 0))
-    (row_there (row_data (told g.L.Tagged.tagged g.L.Listener.calls g.L.Listener.heard g.L.Listener.plan)) c.self.inside.rows.items c.in-Some.place c.index.result.now c.args.object.now c.args.self.now c.self.view_is c.in-Some.ensures.some c.index.ensures)))
+    (row_there (row_data (told g.L.Tagged.tagged g.L.Listener.calls g.L.Listener.heard g.L.Listener.given g.L.Listener.plan)) c.self.inside.rows.items c.in-Some.place c.index.result.now c.args.object.now c.args.self.now c.self.view_is c.in-Some.ensures.some c.index.ensures)))
     c.most_calls.ensures

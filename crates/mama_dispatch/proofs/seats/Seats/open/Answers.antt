@@ -17,7 +17,7 @@ add_place-requires g c =
 
 pub invariant_of-self-2 : goal.invariant_of-self-2
 invariant_of-self-2 g c =
-    let view = row_data (told g.L.Tagged.tagged g.L.Listener.calls g.L.Listener.heard g.L.Listener.plan) in
+    let view = row_data (told g.L.Tagged.tagged g.L.Listener.calls g.L.Listener.heard g.L.Listener.given g.L.Listener.plan) in
     let rows = c.self.inside.rows.items in
     let row = c.new_row.result in
     let went = c.is_err-else-is_err.ensures.negation ∙ ap not c.if-is_err-2.false in

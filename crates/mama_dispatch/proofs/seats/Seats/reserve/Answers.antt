@@ -11,16 +11,16 @@ use Rattle.mama_dispatch.proofs.PlaceLemmas.{changed, none_seated}
 use Rattle.mama_dispatch.proofs.seats.Seats.reserve.Goals as goal
 
 pub invariant_of-self : goal.invariant_of-self
-invariant_of-self g c = (changed (row_data (told g.L.Tagged.tagged g.L.Listener.calls g.L.Listener.heard g.L.Listener.plan)) c.self.inside.rows.items c.self.inside.places.keys c.in-Some.place c.index_mut.result.now c.reserve_at.new.row c.args.object.now (with_room (vec_capacity c.reserve_at.new.row.calls - vec_len c.reserve_at.new.row.calls)) c.args.self.now (λ x. refl) c.self.view_is c.self.invariant c.in-Some.ensures.some c.index_mut.ensures.value c.reserve_at.ensures.row).kept
+invariant_of-self g c = (changed (row_data (told g.L.Tagged.tagged g.L.Listener.calls g.L.Listener.heard g.L.Listener.given g.L.Listener.plan)) c.self.inside.rows.items c.self.inside.places.keys c.in-Some.place c.index_mut.result.now c.reserve_at.new.row c.args.object.now (with_room (vec_capacity c.reserve_at.new.row.calls - vec_len c.reserve_at.new.row.calls)) c.args.self.now (λ x. refl) c.self.view_is c.self.invariant c.in-Some.ensures.some c.index_mut.ensures.value c.reserve_at.ensures.row).kept
 
 pub returns-in-Some-clause-seats : goal.returns-in-Some-clause-seats
 returns-in-Some-clause-seats g c =
-    let change = changed (row_data (told g.L.Tagged.tagged g.L.Listener.calls g.L.Listener.heard g.L.Listener.plan)) c.self.inside.rows.items c.self.inside.places.keys c.in-Some.place c.index_mut.result.now c.reserve_at.new.row c.args.object.now (with_room (vec_capacity c.reserve_at.new.row.calls - vec_len c.reserve_at.new.row.calls)) c.args.self.now (λ x. refl) c.self.view_is c.self.invariant c.in-Some.ensures.some c.index_mut.ensures.value c.reserve_at.ensures.row in
+    let change = changed (row_data (told g.L.Tagged.tagged g.L.Listener.calls g.L.Listener.heard g.L.Listener.given g.L.Listener.plan)) c.self.inside.rows.items c.self.inside.places.keys c.in-Some.place c.index_mut.result.now c.reserve_at.new.row c.args.object.now (with_room (vec_capacity c.reserve_at.new.row.calls - vec_len c.reserve_at.new.row.calls)) c.args.self.now (λ x. refl) c.self.view_is c.self.invariant c.in-Some.ensures.some c.index_mut.ensures.value c.reserve_at.ensures.row in
     change.seats ∙ ap (λ (n : ℕ). map (at c.args.object.now (with_room n)) c.args.self.now) (sym (ap (λ (s : Option SeatData). option_map_or (λ (x : SeatData). x.room) s 0) change.is))
 
 pub returns-in-Some-clause-ok : goal.returns-in-Some-clause-ok
 returns-in-Some-clause-ok g c =
-    let change = changed (row_data (told g.L.Tagged.tagged g.L.Listener.calls g.L.Listener.heard g.L.Listener.plan)) c.self.inside.rows.items c.self.inside.places.keys c.in-Some.place c.index_mut.result.now c.reserve_at.new.row c.args.object.now (with_room (vec_capacity c.reserve_at.new.row.calls - vec_len c.reserve_at.new.row.calls)) c.args.self.now (λ x. refl) c.self.view_is c.self.invariant c.in-Some.ensures.some c.index_mut.ensures.value c.reserve_at.ensures.row in
+    let change = changed (row_data (told g.L.Tagged.tagged g.L.Listener.calls g.L.Listener.heard g.L.Listener.given g.L.Listener.plan)) c.self.inside.rows.items c.self.inside.places.keys c.in-Some.place c.index_mut.result.now c.reserve_at.new.row c.args.object.now (with_room (vec_capacity c.reserve_at.new.row.calls - vec_len c.reserve_at.new.row.calls)) c.args.self.now (λ x. refl) c.self.view_is c.self.invariant c.in-Some.ensures.some c.index_mut.ensures.value c.reserve_at.ensures.row in
     let is = ap (λ (s : Option SeatData). option_map_or (λ (x : SeatData). x.room) s 0) change.is in
     on_ok_weaker c.reserve_at.result (λ enough. subst (λ (n : ℕ). c.args.more ≤ n) (sym is) enough) c.reserve_at.ensures.ok
 

@@ -12,12 +12,12 @@ use Rattle.mama_dispatch.proofs.PlaceLemmas.{changed, row_there}
 use Rattle.mama_dispatch.proofs.seats.Seats.step.Goals as goal
 
 pub invariant_of-self : goal.invariant_of-self
-invariant_of-self g c = (changed (row_data (told g.L.Tagged.tagged g.L.Listener.calls g.L.Listener.heard g.L.Listener.plan)) c.self.inside.rows.items c.self.inside.places.keys c.in-Some.place c.index_mut.result.now c.step_at.new.row c.args.object.now (with_context c.step_at.new.row.context) c.args.self.now (λ x. refl) c.self.view_is c.self.invariant c.in-Some.ensures.some c.index_mut.ensures.value c.step_at.ensures.others).kept
+invariant_of-self g c = (changed (row_data (told g.L.Tagged.tagged g.L.Listener.calls g.L.Listener.heard g.L.Listener.given g.L.Listener.plan)) c.self.inside.rows.items c.self.inside.places.keys c.in-Some.place c.index_mut.result.now c.step_at.new.row c.args.object.now (with_context c.step_at.new.row.context) c.args.self.now (λ x. refl) c.self.view_is c.self.invariant c.in-Some.ensures.some c.index_mut.ensures.value c.step_at.ensures.others).kept
 
 pub returns-in-Some-clause-ok : goal.returns-in-Some-clause-ok
-returns-in-Some-clause-ok g c = on_ok_weaker c.step_at.result (λ row. (changed (row_data (told g.L.Tagged.tagged g.L.Listener.calls g.L.Listener.heard g.L.Listener.plan)) c.self.inside.rows.items c.self.inside.places.keys c.in-Some.place c.index_mut.result.now c.step_at.new.row c.args.object.now (stepped c.args.msg.now) c.args.self.now (λ x. refl) c.self.view_is c.self.invariant c.in-Some.ensures.some c.index_mut.ensures.value row).seats) c.step_at.ensures.row
+returns-in-Some-clause-ok g c = on_ok_weaker c.step_at.result (λ row. (changed (row_data (told g.L.Tagged.tagged g.L.Listener.calls g.L.Listener.heard g.L.Listener.given g.L.Listener.plan)) c.self.inside.rows.items c.self.inside.places.keys c.in-Some.place c.index_mut.result.now c.step_at.new.row c.args.object.now (stepped c.args.msg.now) c.args.self.now (λ x. refl) c.self.view_is c.self.invariant c.in-Some.ensures.some c.index_mut.ensures.value row).seats) c.step_at.ensures.row
 
 pub returns-in-Some-clause-pending : goal.returns-in-Some-clause-pending
 returns-in-Some-clause-pending g c =
-    let was = ap (λ (s : Option SeatData). option_map_or (λ (x : SeatData). x.context) s (new_context Basic 0)) (row_there (row_data (told g.L.Tagged.tagged g.L.Listener.calls g.L.Listener.heard g.L.Listener.plan)) c.self.inside.rows.items c.in-Some.place c.index_mut.result.now c.args.object.now c.args.self.now c.self.view_is c.in-Some.ensures.some c.index_mut.ensures.value) in
+    let was = ap (λ (s : Option SeatData). option_map_or (λ (x : SeatData). x.context) s (new_context Basic 0)) (row_there (row_data (told g.L.Tagged.tagged g.L.Listener.calls g.L.Listener.heard g.L.Listener.given g.L.Listener.plan)) c.self.inside.rows.items c.in-Some.place c.index_mut.result.now c.args.object.now c.args.self.now c.self.view_is c.in-Some.ensures.some c.index_mut.ensures.value) in
     on_ok_weaker c.step_at.result (λ more. more ∙ ap (λ (x : ContextData). c.args.pending.now ++ callbacks_of x c.args.msg.now) (sym was)) c.step_at.ensures.pending

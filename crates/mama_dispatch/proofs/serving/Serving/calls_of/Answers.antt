@@ -1,6 +1,6 @@
 use Rattle.std.proofs.lemmas.Result.{IfOk-weaker}
 use Rattle.std.proofs.Common.{ap, sym, ◌∙◌, subst}
-use Rattle.mama_queue_rules.specs.Queue.{deeds}
+use Rattle.mama_rules_queue.specs.Queue.{deeds}
 use Rattle.mama_dispatch.specs.Journals.{notes_of}
 use Rattle.mama_dispatch.specs.Seats.{Fits}
 use Rattle.mama_dispatch.specs.Served.{Served}

@@ -2,7 +2,8 @@ use Rattle.std.proofs.Common.{ap, sym, ◌∙◌, subst}
 use Rattle.mama_dispatch.specs.Journals.{images_left}
 use Rattle.mama_dispatch.specs.Seats.{Fits}
 use Rattle.mama_dispatch.specs.Served.{Served}
-use Rattle.mama_dispatch.specs.Notes.{lists_in, calls_made}
+use Rattle.mama_dispatch.specs.Notes.{calls_made}
+use Rattle.mama_dispatch.specs.Noted.{lists_in}
 use Rattle.mama_dispatch.proofs.ServingLemmas.{fits_untold}
 use Rattle.mama_dispatch.proofs.NoteLemmas.{lists_there}
 use Rattle.mama_dispatch.proofs.serving.Serving.into_notes.Goals as goal

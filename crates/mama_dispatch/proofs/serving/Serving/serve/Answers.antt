@@ -7,12 +7,11 @@ use Rattle.mama_event.specs.declared.market.ImageHead.{ImageHead}
 use Rattle.mama_event.specs.declared.to_queue.QueueNote.{QueueNote}
 use Rattle.mama_event.specs.ToQueue.{note_of}
 use Rattle.mama_event.specs.Listener.{told}
-use Rattle.mama_queue_rules.specs.Queue.{deeds, is_fin, queue_puts_at}
+use Rattle.mama_rules_queue.specs.Queue.{deeds, is_fin, queue_puts_at}
 use Rattle.mama_dispatch.specs.Journals.{may_come}
 use Rattle.mama_dispatch.specs.Seats.{Fits}
-use Rattle.mama_dispatch.specs.Keeping.{brought, ArePlanned}
 use Rattle.mama_dispatch.specs.Answering.{AnswersTo}
-use Rattle.mama_dispatch.specs.Hearing.{HaveHeard}
+use Rattle.mama_dispatch.specs.Hearing.{brought, HeardAt, PlannedAt}
 use Rattle.mama_dispatch.specs.Served.{Served, IsServed}
 use Rattle.mama_dispatch.specs.Turns.{put_note}
 use Rattle.mama_dispatch.proofs.ServingLemmas.{answers_told, calls_served, heard_told, heard_untold, fits_told, fits_untold, planned_told, planned_untold, puts_next, may_serve}
@@ -28,7 +27,7 @@ pub invariant_of-self-in-Ok-serve : goal.invariant_of-self-in-Ok-serve
 invariant_of-self-in-Ok-serve g c =
     let grown : c.push_reserved.new.self.items ≡ c.self.inside.journal.items ++ (c.args.port, c.args.note) ∷ [] =
     c.push_reserved.ensures.items ∙ ap (λ (es : List (ℕ × QueueNote)). es ++ (c.args.port, c.args.note) ∷ []) c.reserve.ensures.items in
-    serving_as c.self.inside.journal.items c.push_reserved.new.self.items c.self.inside.fins (brought (told g.L.Tagged.tagged g.L.Listener.calls g.L.Listener.heard g.L.Listener.plan) c.args.event)
+    serving_as c.self.inside.journal.items c.push_reserved.new.self.items c.self.inside.fins (brought (told g.L.Tagged.tagged g.L.Listener.calls g.L.Listener.heard g.L.Listener.given g.L.Listener.plan) c.args.event)
     c.args.port c.args.note (note_of g.L.Tagged.tagged c.args.event) c.self.inside.seats c.serve.new.self c.self.inside.room c.prepare.new.room c.self.inside.images.items c.add_image.new.images.items (option_to_list c.in-Ok.left) _ _
     grown c.requires.noted c.self.invariant c.apart.ensures c.apart-in-Ok-serve.ensures c.requires.middle c.in-Ok-serve.ensures.ok c.in-Ok-serve.ensures.kept
     c.prepare.ensures.none c.in-Ok.ensures.enough c.in-Ok.ensures.left (c.add_image.ensures ∙ ap (λ (xs : List (SubId × ImageHead × List FieldData)). xs ++ option_to_list c.in-Ok.left) c.prepare.ensures.images)
@@ -60,26 +59,26 @@ returns-in-Ok-serve-clause-fits g c = λ orders fits.
     subst (λ (s : Served). Fits orders s.seats) c.self.view_is (fits_told orders c.self.inside.seats (c.in-Ok-serve.ensures.ok.fits orders (fits_untold orders c.serve.new.self fits)))
 
 pub returns-in-Ok-serve-clause-planned : goal.returns-in-Ok-serve-clause-planned
-returns-in-Ok-serve-clause-planned g c = λ orders comes planned.
-    planned_told orders c.serve.new.self
-    (c.in-Ok-serve.ensures.kept.planned orders c.apart.ensures c.few.ensures comes
-    (planned_untold orders c.self.inside.seats (subst (λ (s : Served). ArePlanned orders s.seats) (sym c.self.view_is) planned)))
+returns-in-Ok-serve-clause-planned g c = λ x f count comes planned.
+    planned_told x f count c.serve.new.self
+    (c.in-Ok-serve.ensures.kept.planned x f count c.apart.ensures comes
+    (planned_untold x f count c.self.inside.seats (subst (λ (s : Served). PlannedAt x f count s.seats) (sym c.self.view_is) planned)))
 
 pub returns-in-Ok-serve-clause-answer : goal.returns-in-Ok-serve-clause-answer
 returns-in-Ok-serve-clause-answer g c = λ orders fits.
     let of : QueueNote = note_of g.L.Tagged.tagged c.args.event in
-    subst (λ (s : Served). AnswersTo (told g.L.Tagged.tagged g.L.Listener.calls g.L.Listener.heard g.L.Listener.plan) orders s.seats s.journal (deeds orders s.journal) of c.in-Ok-serve.turn) c.self.view_is
-    (answers_told (told g.L.Tagged.tagged g.L.Listener.calls g.L.Listener.heard g.L.Listener.plan) orders c.self.inside.seats c.self.inside.journal.items (deeds orders c.self.inside.journal.items) of c.in-Ok-serve.turn
+    subst (λ (s : Served). AnswersTo (told g.L.Tagged.tagged g.L.Listener.calls g.L.Listener.heard g.L.Listener.given g.L.Listener.plan) orders s.seats s.journal (deeds orders s.journal) of c.in-Ok-serve.turn) c.self.view_is
+    (answers_told (told g.L.Tagged.tagged g.L.Listener.calls g.L.Listener.heard g.L.Listener.given g.L.Listener.plan) orders c.self.inside.seats c.self.inside.journal.items (deeds orders c.self.inside.journal.items) of c.in-Ok-serve.turn
     (c.in-Ok-serve.ensures.answer orders c.self.inside.journal.items (deeds orders c.self.inside.journal.items)
     (ap (λ (n : QueueNote). is_fin (0, n)) (sym c.requires.noted) ∙ c.requires.middle) c.apart.ensures
     (fits_untold orders c.serve.new.self fits)
     (c.self.invariant.served.stands orders (c.in-Ok-serve.ensures.ok.fits orders (fits_untold orders c.serve.new.self fits)))))
 
 pub returns-in-Ok-serve-clause-heard : goal.returns-in-Ok-serve-clause-heard
-returns-in-Ok-serve-clause-heard g c = λ came comes heard.
-    heard_told came c.serve.new.self
-    (c.in-Ok-serve.ensures.kept.heard came c.apart.ensures comes
-    (heard_untold came c.self.inside.seats (subst (λ (s : Served). HaveHeard came s.seats) (sym c.self.view_is) heard)))
+returns-in-Ok-serve-clause-heard g c = λ x came comes heard.
+    heard_told x came c.serve.new.self
+    (c.in-Ok-serve.ensures.kept.heard x came c.apart.ensures comes
+    (heard_untold x came c.self.inside.seats (subst (λ (s : Served). HeardAt x came s.seats) (sym c.self.view_is) heard)))
 
 pub returns-in-Ok-serve-clause-calls : goal.returns-in-Ok-serve-clause-calls
 returns-in-Ok-serve-clause-calls g c = calls_served c.push_reserved.new.self.items c.self.inside.fins c.serve.new.self (invariant_of-self-in-Ok-serve g c).served

@@ -2,7 +2,7 @@ use Rattle.std.specs.Prelude.{map}
 use Rattle.std.proofs.lemmas.Result.{on_ok_weaker}
 use Rattle.std.proofs.Common.{◌++◌, ap, sym, ◌∙◌}
 use Rattle.mama_event.specs.ToQueue.{note_of}
-use Rattle.mama_queue_rules.specs.Queue.{queue_puts_at}
+use Rattle.mama_rules_queue.specs.Queue.{queue_puts_at}
 use Rattle.mama_dispatch.specs.Turns.{put_note}
 use Rattle.mama_dispatch.proofs.serving.Serving.turn.Goals as goal
 

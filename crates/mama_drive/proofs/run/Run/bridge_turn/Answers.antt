@@ -1,4 +1,4 @@
-use Rattle.mama_rounds.specs.World.{bridge_turn}
+use Rattle.mama_rules_rounds.specs.World.{bridge_turn}
 use Rattle.mama_drive.proofs.RunLemmas.{turn_then}
 use Rattle.mama_drive.proofs.run.Run.bridge_turn.Goals as goal
 

@@ -1,4 +1,4 @@
-use Rattle.mama_rounds.specs.Stage.{client_step}
+use Rattle.mama_rules_rounds.specs.Stage.{client_step}
 use Rattle.mama_drive.proofs.StageLemmas.{drained_on, on_ok}
 use Rattle.mama_drive.proofs.RunLemmas.{heard_drained}
 use Rattle.mama_drive.proofs.run.Run.client_step.Goals as goal

@@ -1,6 +1,6 @@
 use Rattle.mama_drive.proofs.StageLemmas.{steps_none, steps_more}
 use Rattle.mama_drive.proofs.ClockLemmas.{steps_heard_none, steps_heard_more}
-use Rattle.mama_rounds.specs.Stage.{client_step}
+use Rattle.mama_rules_rounds.specs.Stage.{client_step}
 use Rattle.mama_drive.proofs.run.Run.client_steps.Goals as goal
 
 pub loop-number-init : goal.loop-number-init

@@ -1,4 +1,4 @@
-use Rattle.mama_rounds.specs.Stage.{client_step}
+use Rattle.mama_rules_rounds.specs.Stage.{client_step}
 use Rattle.mama_drive.specs.Scene.{Advances, SteppedAll}
 use Rattle.mama_drive.specs.Heard.{Hears, StepsRead}
 use Rattle.mama_drive.proofs.run.Run.client_steps.Given as goal

@@ -1,5 +1,5 @@
 use Rattle.std.proofs.Common.{sym, subst, ◌<◌, length}
-use Rattle.mama_rounds.specs.Stage.{client_step}
+use Rattle.mama_rules_rounds.specs.Stage.{client_step}
 use Rattle.mama_drive.specs.Scene.{Scene, Stepped}
 use Rattle.mama_drive.proofs.RunLemmas.{step_then, heard_then}
 use Rattle.mama_drive.proofs.HeldLemmas.{settled}

@@ -1,4 +1,4 @@
-use Rattle.mama_rounds.specs.World.{publisher_turn}
+use Rattle.mama_rules_rounds.specs.World.{publisher_turn}
 use Rattle.mama_drive.proofs.SceneLemmas.{moves_none}
 use Rattle.mama_drive.proofs.TurnLemmas.{turn_more}
 use Rattle.mama_drive.proofs.run.Run.each_publisher.Goals as goal

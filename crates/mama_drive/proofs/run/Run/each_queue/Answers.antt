@@ -1,4 +1,4 @@
-use Rattle.mama_rounds.specs.World.{queue_turn}
+use Rattle.mama_rules_rounds.specs.World.{queue_turn}
 use Rattle.mama_drive.proofs.SceneLemmas.{moves_none}
 use Rattle.mama_drive.proofs.TurnLemmas.{turn_more}
 use Rattle.mama_drive.proofs.run.Run.each_queue.Goals as goal

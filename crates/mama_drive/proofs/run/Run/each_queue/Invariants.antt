@@ -1,4 +1,4 @@
-use Rattle.mama_rounds.specs.World.{in_turn, queue_turn}
+use Rattle.mama_rules_rounds.specs.World.{in_turn, queue_turn}
 use Rattle.mama_drive.specs.Scene.{Moves, setting_in, world_in}
 use Rattle.mama_drive.proofs.run.Run.each_queue.Given as goal
 

@@ -1,5 +1,5 @@
 use Rattle.std.proofs.Common.{◌∙◌}
-use Rattle.mama_rounds.specs.Stage.{publisher_step}
+use Rattle.mama_rules_rounds.specs.Stage.{publisher_step}
 use Rattle.mama_drive.specs.Scene.{Drains}
 use Rattle.mama_drive.proofs.StageLemmas.{drained_on, on_ok}
 use Rattle.mama_drive.proofs.run.Run.publisher_step.Goals as goal

@@ -1,6 +1,6 @@
 use Rattle.std.proofs.Common.{◌∙◌, refl}
 use Rattle.mama_drive.proofs.StageLemmas.{steps_none, steps_more}
-use Rattle.mama_rounds.specs.Stage.{publisher_step}
+use Rattle.mama_rules_rounds.specs.Stage.{publisher_step}
 use Rattle.mama_drive.proofs.run.Run.publisher_steps.Goals as goal
 
 pub loop-number-init : goal.loop-number-init

@@ -1,5 +1,5 @@
 use Rattle.std.proofs.Common.{◌≡◌}
-use Rattle.mama_rounds.specs.Stage.{publisher_step}
+use Rattle.mama_rules_rounds.specs.Stage.{publisher_step}
 use Rattle.mama_drive.specs.Scene.{Advances, SteppedAll}
 use Rattle.mama_drive.proofs.run.Run.publisher_steps.Given as goal
 

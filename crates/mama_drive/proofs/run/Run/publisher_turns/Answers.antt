@@ -1,5 +1,5 @@
 use Rattle.mama_event.specs.Ports.{publishers_of}
-use Rattle.mama_rounds.specs.World.{in_turn, publisher_turn}
+use Rattle.mama_rules_rounds.specs.World.{in_turn, publisher_turn}
 use Rattle.mama_drive.proofs.StageLemmas.{on_ok}
 use Rattle.mama_drive.proofs.RunLemmas.{turn_from, publishers_idle_from}
 use Rattle.mama_drive.proofs.run.Run.publisher_turns.Goals as goal

@@ -1,5 +1,5 @@
 use Rattle.std.proofs.Common.{sym, subst, ◌<◌, length}
-use Rattle.mama_rounds.specs.World.{queue_turn}
+use Rattle.mama_rules_rounds.specs.World.{queue_turn}
 use Rattle.mama_drive.specs.Scene.{Scene}
 use Rattle.mama_drive.proofs.RunLemmas.{turn_then}
 use Rattle.mama_drive.proofs.HeldLemmas.{settled}

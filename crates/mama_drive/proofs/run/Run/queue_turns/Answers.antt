@@ -1,5 +1,5 @@
 use Rattle.mama_event.specs.Ports.{queues_of}
-use Rattle.mama_rounds.specs.World.{in_turn, queue_turn}
+use Rattle.mama_rules_rounds.specs.World.{in_turn, queue_turn}
 use Rattle.mama_drive.proofs.StageLemmas.{on_ok}
 use Rattle.mama_drive.proofs.RunLemmas.{turn_from, queues_idle_from}
 use Rattle.mama_drive.proofs.run.Run.queue_turns.Goals as goal

@@ -1,4 +1,4 @@
-use Rattle.mama_rounds.specs.World.{timers_turn}
+use Rattle.mama_rules_rounds.specs.World.{timers_turn}
 use Rattle.mama_drive.proofs.RunLemmas.{turn_then}
 use Rattle.mama_drive.proofs.run.Run.timers_turn.Goals as goal
 

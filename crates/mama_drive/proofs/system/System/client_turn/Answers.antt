@@ -1,8 +1,8 @@
-use Rattle.std.proofs.Common.{sym, subst, ap, ◌<◌, length}
-use Rattle.mama_queue_seat.specs.Put.{notes_of}
+use Rattle.std.proofs.Common.{sym, subst, ◌<◌, length}
+use Rattle.mama_plans.specs.Put.{notes_of}
 use Rattle.mama_drive.specs.Scene.{Scene}
-use Rattle.mama_drive.specs.Held.{waits}
-use Rattle.mama_drive.proofs.HeldTurnLemmas.{client_stepped_held, client_heard_held}
+use Rattle.mama_seats.specs.Waiting.{waits}
+use Rattle.mama_drive.proofs.HeldTurnLemmas.{client_stepped_held, client_heard_held, all_wait}
 use Rattle.mama_drive.proofs.SystemLemmas.{with_client}
 use Rattle.mama_drive.proofs.system.System.client_turn.Goals as goal
 
@@ -15,7 +15,7 @@ invariant_of-self-2 g c = with_client _ _ _ _ _ _ _ _ _ c.self.invariant c.args.
 pub returns-clause-step : goal.returns-clause-step
 returns-clause-step g c =
     client_stepped_held _ c.args.self.now c.args.number c.index_mut-seat.result.now c.step.new.self (notes_of c.in_ok-outs.outs.items) _ c.self.view_is
-    (subst (λ (s : Scene). c.args.number < length s.clients) (sym c.self.view_is) c.requires) c.index_mut-seat.ensures.value c.in_ok-outs.ensures.step (ap notes_of c.all.ensures)
+    (subst (λ (s : Scene). c.args.number < length s.clients) (sym c.self.view_is) c.requires) c.index_mut-seat.ensures.value c.in_ok-outs.ensures.step (all_wait notes_of c.all.result c.in_ok-outs.outs.items c.all.ensures)
 
 pub returns-clause-clock : goal.returns-clause-clock
 returns-clause-clock g c =

@@ -1,6 +1,6 @@
 use Rattle.std.proofs.Common.{◌≡◌, ◌∙◌, sym, subst, ap, map, List}
 use Rattle.std.specs.List.{flat_map}
-use Rattle.mama_queue_seat.specs.Server.{Server}
+use Rattle.mama_seats.specs.Server.{Server}
 use Rattle.mama_drive.specs.Scene.{journal_in, objects_in}
 use Rattle.mama_drive.specs.Record.{calls_by, images_by}
 use Rattle.mama_drive.proofs.RecordLemmas.{record_parts}

@@ -1,6 +1,6 @@
 use Rattle.std.proofs.Common.{◌∙◌, ap}
 use Rattle.std.specs.List.{list_all}
-use Rattle.mama_rounds.specs.World.{is_empty}
+use Rattle.mama_rules_rounds.specs.World.{is_empty}
 use Rattle.mama_seats.specs.Sender.{Sender}
 use Rattle.mama_drive.proofs.SystemLemmas.{publishers_looked}
 use Rattle.mama_drive.proofs.system.System.look_at_publishers.Goals as goal

@@ -1,7 +1,7 @@
 use Rattle.std.proofs.Common.{◌∙◌, ap}
 use Rattle.std.specs.List.{list_all}
-use Rattle.mama_rounds.specs.World.{is_empty}
-use Rattle.mama_queue_seat.specs.Server.{Server}
+use Rattle.mama_rules_rounds.specs.World.{is_empty}
+use Rattle.mama_seats.specs.Server.{Server}
 use Rattle.mama_drive.proofs.SystemLemmas.{queues_looked}
 use Rattle.mama_drive.proofs.system.System.look_at_queues.Goals as goal
 

@@ -1,16 +1,21 @@
-use Rattle.std.proofs.Common.{sym, subst, ap, map, ◌<◌, length}
+use Rattle.std.proofs.Common.{arith, refl, ◌+◌, sym, subst, map, ◌<◌, length}
 use Rattle.mama_event.specs.ToBridge.{note_of}
-use Rattle.mama_queue_seat.specs.Put.{own_tag}
+use Rattle.mama_plans.specs.Put.{own_tag}
 use Rattle.mama_drive.specs.Scene.{Scene}
-use Rattle.mama_drive.proofs.HeldTurnLemmas.{publisher_turned}
+use Rattle.mama_drive.proofs.HeldTurnLemmas.{publisher_turned, all_wait}
 use Rattle.mama_drive.proofs.SystemLemmas.{with_sender}
 use Rattle.mama_drive.proofs.system.System.publisher_turn.Goals as goal
+
+pub overflow_add-port : goal.overflow_add-port
+overflow_add-port c =
+    let within : c.args.number < length c.self.inside.publishers.items = subst (λ (s : Scene). c.args.number < length s.senders) (sym c.self.view_is) c.requires in
+    omega (arith, within, c.self.invariant.ports, c.self.invariant.sender_count)
 
 pub invariant_of-self : goal.invariant_of-self
 invariant_of-self c = with_sender _ _ _ _ _ _ _ _ _ c.self.invariant c.args.number c.turn.new.self
 
 pub returns-clause-turn : goal.returns-clause-turn
 returns-clause-turn c =
-    publisher_turned _ c.args.self.now c.args.number c.in_ok-port.port c.index_mut-seat.result.now c.turn.new.self (map (note_of own_tag) c.in_ok-out.out.items) _ c.self.view_is
+    publisher_turned _ c.args.self.now c.args.number (c.self.inside.shape.now.clients + c.args.number) c.index_mut-seat.result.now c.turn.new.self (map (note_of own_tag) c.in_ok-out.out.items) _ c.self.view_is
     (subst (λ (s : Scene). c.args.number < length s.senders) (sym c.self.view_is) c.requires) c.index_mut-seat.ensures.value
-    c.in_ok-out.ensures.seat c.in_ok-out.ensures.puts c.in_ok-port.ensures (ap (map (note_of own_tag)) c.all.ensures)
+    c.in_ok-out.ensures.seat c.in_ok-out.ensures.puts refl (all_wait (map (note_of own_tag)) c.all.result c.in_ok-out.out.items c.all.ensures)

@@ -1,12 +1,12 @@
 use Rattle.std.proofs.Common.{◌∙◌, ◌++◌, ap, map}
 use Rattle.mama_event.specs.ToTimers.{note_of}
 use Rattle.mama_event.specs.declared.shape.Shape.{Shape}
-use Rattle.mama_rules.specs.Timers.{timers_puts_at}
+use Rattle.mama_rules_services.specs.Timers.{timers_puts_at}
 use Rattle.mama_timer.specs.Service.{Service}
 use Rattle.mama_timer.specs.Out.{out_note}
-use Rattle.mama_queue_seat.specs.Put.{own_tag}
+use Rattle.mama_plans.specs.Put.{own_tag}
 use Rattle.mama_drive.specs.Entry.{timers_entry}
-use Rattle.mama_drive.proofs.HeldTurnLemmas.{timers_turned}
+use Rattle.mama_drive.proofs.HeldTurnLemmas.{timers_turned, all_wait}
 use Rattle.mama_drive.proofs.system.System.timers_turn.Goals as goal
 
 pub returns-in-Ok-clause-turn : goal.returns-in-Ok-clause-turn
@@ -18,4 +18,4 @@ returns-in-Ok-clause-turn c =
     (c.in-Ok.ensures.puts
     ∙ ap (λ l. map (out_note own_tag) l ++ timers_puts_at c.self.inside.timers.shape c.self.inside.timers.journal (c.in-Some.port, note_of own_tag c.in-Some.event)) c.new-out.ensures
     ∙ ap (λ (s : Shape). timers_puts_at s c.self.inside.timers.journal (c.in-Some.port, note_of own_tag c.in-Some.event)) c.self.invariant.same_timers)
-    (ap (map (out_note own_tag)) c.all.ensures)
+    (all_wait (map (out_note own_tag)) c.all.result c.take.new.out.items c.all.ensures)

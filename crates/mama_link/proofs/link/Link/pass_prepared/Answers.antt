@@ -1,6 +1,7 @@
 use Rattle.std.proofs.Common.{rules, ◌≡◌, ◌∙◌, ◌+◌, ◌-◌, ◌++◌, ◌∷◌, [], ℕ, List, Option, is_some, IsSome, option_to_list, append_assoc, ap, length, arith, if◌then◌else◌}
 use Rattle.mama_link.specs.Table.{table_of, slots_due}
-use Rattle.mama_link.specs.Link.{held_back, copies}
+use Rattle.mama_link.specs.Link.{copies}
+use Rattle.mama_link.specs.Steps.{held_back}
 use Rattle.mama_link.specs.Slots.{taken_at, emptied_at}
 use Rattle.mama_link.proofs.PassLemmas.{prepared_ends, kept_along, standing_along, length-option_to_list}
 use Rattle.mama_link.proofs.link.Link.pass_prepared.Goals as goal

@@ -1,6 +1,7 @@
 -- The test of the lists of values is exact.
 use Rattle.std.proofs.Common.{◌≡◌, ◌∙◌, sym, rules}
-use Rattle.mama_msg.specs.Equality.{same_message, same_message-Decides}
+use Rattle.mama_msg.specs.Equality.{same_message}
+use Rattle.mama_msg.specs.EqualityLaws.{same_message-Decides}
 use Rattle.mama_msg.proofs.msg.MsgPartialEq.eq.Goals as goal
 
 pub returns-clause-exact : goal.returns-clause-exact

@@ -1,6 +1,6 @@
 use Rattle.std.proofs.Common.{ap, sym, ◌∙◌}
 use Rattle.std.specs.Option.{option_copied}
-use Rattle.mama_rules.specs.Timers.{heard, is_armed, place_of, timers_puts}
+use Rattle.mama_rules_services.specs.Timers.{heard, is_armed, place_of, timers_puts}
 use Rattle.mama_timer.specs.Rows.{row_of}
 use Rattle.mama_timer.specs.Service.{Service}
 use Rattle.mama_timer.proofs.Keeping.{no_row_armed}

@@ -1,7 +1,7 @@
 use Rattle.std.proofs.Common.{Bool, true, ◌&&◌, not, set, ap, ◌∙◌}
 use Rattle.std.specs.List.{list_all}
-use Rattle.mama_rules.specs.Ports.{timers_putter}
-use Rattle.mama_rules.specs.Timers.{put_by}
+use Rattle.mama_rules_services.specs.Ports.{timers_putter}
+use Rattle.mama_rules_services.specs.Timers.{put_by}
 use Rattle.mama_timer.specs.Service.{Service, is_last_bye}
 use Rattle.mama_timer.proofs.Words.{kept_bye, queue_length, last_is}
 use Rattle.mama_timer.proofs.table.Table.bye.Goals as goal

@@ -1,8 +1,8 @@
 use Rattle.std.proofs.Common.{◌++◌, ℕ, List, map, refl, ap, sym, ◌∙◌}
 use Rattle.mama_journal.specs.Journal.{numbers_below}
 use Rattle.mama_event.specs.declared.to_queue.QueueNote.TheVariants as q
-use Rattle.mama_rules.specs.Timers.{client_done}
-use Rattle.mama_timer.specs.Out.{gone_out, fin_out, gone_note}
+use Rattle.mama_rules_services.specs.Timers.{client_done}
+use Rattle.mama_timer.specs.Putting.{gone_out, fin_out, gone_note}
 use Rattle.mama_timer.proofs.Words.{notes_ended, listeners_ended, puts_ended}
 use Rattle.mama_timer.proofs.table.Table.client_done.Goals as goal
 

@@ -1,5 +1,5 @@
 use Rattle.std.proofs.Common.{◌++◌, ◌∷◌, [], ℕ, ap, ◌∙◌}
-use Rattle.mama_rules.specs.Timers.{heard, clock, now}
+use Rattle.mama_rules_services.specs.Timers.{heard, clock, now}
 use Rattle.mama_timer.specs.Service.{Service}
 use Rattle.std.specs.Prelude.{max}
 use Rattle.mama_timer.proofs.Keeping.{clock_next}

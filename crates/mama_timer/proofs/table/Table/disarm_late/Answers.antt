@@ -1,7 +1,7 @@
 use Rattle.std.proofs.Common.{ap, ◌∙◌}
 use Rattle.std.proofs.lemmas.Bool.{both_ways}
-use Rattle.mama_rules.specs.Ports.{timers_putter}
-use Rattle.mama_rules.specs.Timers.{heard, put_by, has_ending, is_armed}
+use Rattle.mama_rules_services.specs.Ports.{timers_putter}
+use Rattle.mama_rules_services.specs.Timers.{heard, put_by, has_ending, is_armed}
 use Rattle.mama_timer.specs.Service.{Service}
 use Rattle.mama_timer.proofs.Keeping.{kept_disarmed}
 use Rattle.mama_timer.proofs.table.Table.disarm_late.Goals as goal

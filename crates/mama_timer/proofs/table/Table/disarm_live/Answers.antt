@@ -1,6 +1,6 @@
 use Rattle.std.proofs.Common.{ap, ◌∙◌}
-use Rattle.mama_rules.specs.Ports.{timers_putter}
-use Rattle.mama_rules.specs.Timers.{heard, put_by, is_armed, place_of, timers_puts}
+use Rattle.mama_rules_services.specs.Ports.{timers_putter}
+use Rattle.mama_rules_services.specs.Timers.{heard, put_by, is_armed, place_of, timers_puts}
 use Rattle.mama_timer.specs.Service.{Service}
 use Rattle.mama_timer.proofs.Keeping.{kept_disarmed}
 use Rattle.mama_timer.proofs.table.Table.disarm_live.Goals as goal

@@ -1,7 +1,7 @@
 use Rattle.std.proofs.Common.{Bool, ◌&&◌, not, ap, sym, ◌∙◌}
 use Rattle.std.specs.List.{list_all}
 use Rattle.mama_journal.specs.Journal.{turns}
-use Rattle.mama_rules.specs.Timers.{heard, has_ending, fin}
+use Rattle.mama_rules_services.specs.Timers.{heard, has_ending, fin}
 use Rattle.mama_timer.specs.Service.{Service}
 use Rattle.mama_event.specs.declared.to_timers.TimersNote.TheVariants as TimersNote
 use Rattle.mama_timer.proofs.Words.{bridge_turns}

@@ -1,8 +1,8 @@
 use Rattle.std.proofs.Common.{Bool, true, ◌&&◌, not, set, ap, sym, ◌∙◌}
 use Rattle.std.specs.List.{list_all}
 use Rattle.mama_journal.specs.Journal.{turns}
-use Rattle.mama_rules.specs.Ports.{timers_putter}
-use Rattle.mama_rules.specs.Timers.{heard, put_by, has_ending, client_done}
+use Rattle.mama_rules_services.specs.Ports.{timers_putter}
+use Rattle.mama_rules_services.specs.Timers.{heard, put_by, has_ending, client_done}
 use Rattle.mama_timer.specs.Service.{Service}
 use Rattle.mama_timer.proofs.Words.{client_length, client_turns}
 use Rattle.mama_timer.proofs.table.Table.ends_with_client.Goals as goal

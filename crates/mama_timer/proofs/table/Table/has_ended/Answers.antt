@@ -1,5 +1,5 @@
 use Rattle.std.proofs.Common.{Bool, ◌&&◌, ap, sym, ◌∙◌}
-use Rattle.mama_rules.specs.Timers.{heard, has_ending}
+use Rattle.mama_rules_services.specs.Timers.{heard, has_ending}
 use Rattle.mama_timer.specs.Service.{Service}
 use Rattle.mama_timer.proofs.Keeping.{ended_is}
 use Rattle.mama_timer.proofs.table.Table.has_ended.Goals as goal

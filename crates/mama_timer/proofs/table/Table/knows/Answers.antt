@@ -1,6 +1,6 @@
 use Rattle.std.proofs.Common.{ap, ◌∙◌}
 use Rattle.std.specs.List.{list_any}
-use Rattle.mama_rules.specs.Timers.{heard, arms_timer, timers_puts}
+use Rattle.mama_rules_services.specs.Timers.{heard, arms_timer, timers_puts}
 use Rattle.mama_timer.specs.Rows.{row_of}
 use Rattle.mama_timer.specs.Service.{Service}
 use Rattle.mama_timer.proofs.Keeping.{row_came}

@@ -1,7 +1,7 @@
 use Rattle.std.proofs.Common.{Result, Ok, Err, ap, ◌∙◌}
 use Rattle.std.specs.List.{flat_map}
 use Rattle.std.specs.Result.{IfOk}
-use Rattle.mama_rules.specs.Timers.{heard, has_ending, gone, live_timers, timers_puts}
+use Rattle.mama_rules_services.specs.Timers.{heard, has_ending, gone, live_timers, timers_puts}
 use Rattle.mama_timer.specs.Service.{Service}
 use Rattle.mama_timer.proofs.Words.{leaving_are}
 use Rattle.mama_timer.proofs.table.Table.leaving.Goals as goal

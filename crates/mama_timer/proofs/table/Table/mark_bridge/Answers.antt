@@ -1,6 +1,6 @@
 use Rattle.std.proofs.Common.{ap, ◌∙◌}
-use Rattle.mama_rules.specs.Ports.{timers_putter}
-use Rattle.mama_rules.specs.Timers.{put_by}
+use Rattle.mama_rules_services.specs.Ports.{timers_putter}
+use Rattle.mama_rules_services.specs.Timers.{put_by}
 use Rattle.mama_timer.specs.Service.{Service}
 use Rattle.mama_timer.proofs.Words.{kept_bridge}
 use Rattle.mama_timer.proofs.table.Table.mark_bridge.Goals as goal

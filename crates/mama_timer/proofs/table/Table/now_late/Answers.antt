@@ -1,6 +1,6 @@
 use Rattle.std.proofs.Common.{◌++◌, ◌∷◌, [], ap, sym, ◌∙◌}
-use Rattle.mama_rules.specs.Ports.{timers_putter}
-use Rattle.mama_rules.specs.Timers.{heard, put_by, has_ending, clock, now}
+use Rattle.mama_rules_services.specs.Ports.{timers_putter}
+use Rattle.mama_rules_services.specs.Timers.{heard, put_by, has_ending, clock, now}
 use Rattle.mama_timer.specs.Service.{Service}
 use Rattle.mama_timer.proofs.Keeping.{kept_late}
 use Rattle.mama_timer.proofs.table.Table.now_late.Goals as goal

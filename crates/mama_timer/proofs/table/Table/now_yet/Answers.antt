@@ -1,8 +1,8 @@
 use Rattle.std.proofs.Common.{◌++◌, ◌∷◌, [], List, map, ap, sym, ◌∙◌}
-use Rattle.mama_rules.specs.Ports.{timers_putter}
-use Rattle.mama_rules.specs.Timers.{heard, put_by, has_ending, clock, timers_puts_at, now}
+use Rattle.mama_rules_services.specs.Ports.{timers_putter}
+use Rattle.mama_rules_services.specs.Timers.{heard, put_by, has_ending, clock, timers_puts_at, now}
 use Rattle.mama_timer.specs.Service.{Service}
-use Rattle.mama_timer.specs.Out.{tick_out}
+use Rattle.mama_timer.specs.Putting.{tick_out}
 use Rattle.mama_timer.proofs.Pushes.{clock-small}
 use Rattle.mama_timer.proofs.Keeping.{kept_ticked, puts_ticked}
 use Rattle.mama_timer.proofs.Words.{notes_ticked, listeners_ticked}

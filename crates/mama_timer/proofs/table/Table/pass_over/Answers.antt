@@ -1,5 +1,5 @@
 use Rattle.std.proofs.Common.{List, sym, ◌∙◌, subst}
-use Rattle.mama_rules.specs.Timers.{TimersEvent, heard, timers_puts, no_event}
+use Rattle.mama_rules_services.specs.Timers.{TimersEvent, heard, timers_puts, no_event}
 use Rattle.mama_timer.specs.Stands.{IsStill, IsNoWord}
 use Rattle.mama_timer.proofs.Keeping.{puts_at_is, nothing_puts, nothing_no_word}
 use Rattle.mama_timer.proofs.Standing.{nothing_still}

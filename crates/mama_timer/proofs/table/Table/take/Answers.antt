@@ -1,7 +1,7 @@
 use Rattle.std.proofs.Common.{◌≡◌, ap, sym, ◌∙◌, refl}
 use Rattle.mama_event.specs.declared.to_timers.TimersNote.{TimersNote}
 use Rattle.mama_event.specs.ToTimers.{note_of}
-use Rattle.mama_rules.specs.Timers.{arms}
+use Rattle.mama_rules_services.specs.Timers.{arms}
 use Rattle.mama_timer.specs.Service.{is_last_bye}
 use Rattle.mama_timer.proofs.Words.{no_last, running_on}
 use Rattle.mama_timer.proofs.table.Table.take.Goals as goal

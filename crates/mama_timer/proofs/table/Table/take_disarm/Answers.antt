@@ -1,6 +1,6 @@
 use Rattle.std.proofs.Common.{◌++◌, List, map, ap, ◌∙◌}
 use Rattle.std.specs.Prelude.{option_to_list}
-use Rattle.mama_timer.specs.Out.{gone_out}
+use Rattle.mama_timer.specs.Putting.{gone_out}
 use Rattle.mama_timer.proofs.Words.{notes_left_if, listeners_left_if}
 use Rattle.mama_timer.proofs.table.Table.take_disarm.Goals as goal
 

@@ -1,0 +1,86 @@
+#!/bin/bash
+# What the proved program answers to inputs whose answers are known: each exit status once, with its line on standard error,
+# and the logs of the examples and the verdicts on them. Then what ./mama answers before any proof. Wants the proved program
+# (./mama --version builds it). Ends with 1 where anything differs.
+. "$(dirname "$0")/scratch.sh"
+proved_program
+examples=$top/examples
+bad=0
+
+# differs WHAT
+differs() {
+  echo "statuses: $1" >&2
+  bad=1
+}
+
+# told STATUS LINE COMMAND..: the command ends so, and writes this line on standard error, or nothing where it is empty.
+told() {
+  status=$1 line=$2
+  shift 2
+  "$@" > "$scratch/out" 2> "$scratch/err"
+  ended=$?
+  [ "$ended" -eq "$status" ] || differs "$*: ended with $ended, and not $status"
+  [ -z "$line" ] || line=$line$'\n'
+  printf '%s' "$line" | cmp -s - "$scratch/err" || differs "$*: wrote on standard error: $(head -c 200 "$scratch/err")"
+}
+
+# wrote FILE: so did the last command on standard output.
+wrote() {
+  cmp -s "$1" "$scratch/out" || differs "another output than $1: $(head -c 200 "$scratch/out")"
+}
+
+serial() { "$program" serial < "$1"; }
+check() { { cat "$1"; echo log; cat "$2"; } | "$program" check; }
+of_text() { printf "$2" | "$program" "$1"; }
+full() { serial "$1" > /dev/full; }
+unread() { "$program" serial < "$scratch"; }
+play_0() { "$program" play 0 < "$examples/first.script"; }
+without_log() { { cat "$examples/first.script"; echo 'pause 1'; } | "$program" check; }
+fields_65() {
+  awk 'BEGIN { printf "mama script 1\nqueues 1\ntopic \"T\"\npublisher 0"; for (i = 1; i <= 65; i++) printf " %d:f:u8:1", i; print "\nclient" }' | "$program" serial
+}
+too_long() { head -c 67108866 /dev/zero | "$program" serial; }
+little_memory() { (ulimit -v 60000; head -c 60000000 /dev/zero | "$program" serial); }
+
+printf 'legal\ncausal yes\n' > "$scratch/legal"
+printf 'not legal L5 s0.0\n' > "$scratch/late"
+for script in "$examples"/*.script; do
+  told 0 '' serial "$script"
+  wrote "${script%.script}.log"
+  told 0 '' check "$script" "${script%.script}.log"
+  wrote "$scratch/legal"
+done
+told 1 'mama_run: not legal' check "$examples/gap.script" "$examples/damaged.log"
+wrote "$scratch/late"
+told 2 'mama_run: bad words' play_0
+told 3 'mama_run: bad script, line 3, fault 3' of_text serial 'mama script 1\nqueues 1\n'
+told 4 'mama_run: over limit 8, line 4' fields_65
+told 4 'mama_run: over limit 1, line 0' too_long
+told 5 'mama_run: read fault' unread
+told 6 'mama_run: write fault' full "$examples/first.script"
+told 7 'mama_run: bad log, line 11' without_log
+told 8 'mama_run: out of memory' little_memory
+
+# ./mama where nothing is built and no toolchain is there, so that it could begin no proof
+mkdir -p "$scratch/new/crates/mama_run/src"
+cp "$top/mama" "$scratch/new/mama"
+cp "$top/crates/mama_run/src/main.rt" "$scratch/new/crates/mama_run/src/main.rt"
+alone() { PATH=/usr/bin:/bin "$scratch/new/mama" "$@" < /dev/null; }
+told 0 '' alone
+cp "$scratch/out" "$scratch/usage"
+told 0 '' alone --help
+wrote "$scratch/usage"
+told 0 '' alone -h
+wrote "$scratch/usage"
+grep -q '^  8  no memory was found$' "$scratch/usage" || differs 'the usage has no exit statuses'
+told 2 'mama: no-such-file is no command and no file that can be read; ./mama --help says what it does' alone no-such-file
+told 2 'mama: check is of a script and a log; ./mama --help says what it does' alone check "$examples/gap.script"
+
+# and where the program is built, the two files of a check are joined
+told 1 'mama_run: not legal' "$top/mama" check "$examples/gap.script" "$examples/damaged.log"
+wrote "$scratch/late"
+told 0 '' "$top/mama" "$examples/gap.script"
+wrote "$examples/gap.log"
+
+[ "$bad" -ne 0 ] || echo 'statuses: all as they should be'
+exit "$bad"

@@ -1,5 +1,0 @@
-use Rattle.mama_bridge_rules.proofs.TableLaws.{rows_are_live}
-use Rattle.mama_bridge_rules.proofs.laws.rows_are_live.Goals as goal
-
-pub returns : goal.returns
-returns c = rows_are_live

@@ -1,5 +1,0 @@
-use Rattle.mama_callbacks.proofs.Words.{last_words_are_true}
-use Rattle.mama_callbacks.proofs.laws.last_words_are_true.Goals as goal
-
-pub returns : goal.returns
-returns c = last_words_are_true

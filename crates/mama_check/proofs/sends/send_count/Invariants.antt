@@ -1,0 +1,11 @@
+use Rattle.std.proofs.Common.{◌≡◌, ◌≤◌, take}
+use Rattle.std.specs.Prelude.{count_by}
+use Rattle.mama_check.specs.Sends.{is_sending}
+use Rattle.mama_check.proofs.sends.send_count.Given as goal
+
+-- the count so far, which is small
+abbrev pub invariant-loop-line : goal.invariant-loop-line
+invariant-loop-line l = record {
+  count : l.count ≡ count_by is_sending (take l.line-index l.lines);
+  small : l.count ≤ l.line-index;
+}

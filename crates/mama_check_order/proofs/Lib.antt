@@ -1,0 +1,5 @@
+pub mod Numbered
+pub mod Orders
+pub mod Searches
+pub mod LaneWalk
+pub mod SenderWalk

@@ -1,0 +1,197 @@
+ghost use Rattle.std.specs.Prelude.{◌≡◌, IfOk};
+ghost use Rattle.mama_event.specs.ToBridge.{note_of as bridge_note_of};
+ghost use Rattle.mama_event.specs.ToPublisher.{note_of as publisher_note_of};
+ghost use Rattle.mama_event.specs.ToQueue.{note_of as queue_note_of};
+ghost use Rattle.mama_event.specs.ToTimers.{note_of as timers_note_of};
+ghost use Rattle.mama_check_puts.specs.Dealing.{own_tag};
+
+use mama_event::{
+    BridgeNote, ObjectId, PublisherNote, QueueNote, TimersNote, ToBridge, ToPublisher, ToQueue,
+    ToTimers,
+};
+use mama_memory::{Duplicate, OutOfMemory};
+
+/// The event of a note, whose listener is the tag itself.
+pub(crate) fn timers_event(note: TimersNote) -> ToTimers<ObjectId>
+    ensures { timers_note_of own_tag result ≡ note }
+{
+    match note {
+        TimersNote::Arm {
+            timer,
+            queue,
+            interval,
+            tag,
+        } => ToTimers::Arm {
+            timer,
+            queue,
+            interval,
+            listener: tag,
+        },
+        TimersNote::Disarm { timer } => ToTimers::Disarm { timer },
+        TimersNote::Now { moment } => ToTimers::Now { moment },
+        TimersNote::ClientDone => ToTimers::ClientDone,
+        TimersNote::Bye => ToTimers::Bye,
+        TimersNote::Fin => ToTimers::Fin,
+    }
+}
+
+/// The note of an event to a queue.
+pub(crate) fn queue_note(event: ToQueue<ObjectId>) -> QueueNote
+    ensures { result ≡ queue_note_of own_tag event }
+{
+    match event {
+        ToQueue::Create {
+            slot,
+            object,
+            make,
+            listener,
+        } => QueueNote::Create {
+            slot,
+            object,
+            make,
+            tag: listener,
+        },
+        ToQueue::Deliver { slot, sub, msg } => QueueNote::Deliver { slot, sub, msg },
+        ToQueue::Reply { slot, inbox, body } => QueueNote::Reply { slot, inbox, body },
+        ToQueue::Tick {
+            slot,
+            timer,
+            moment,
+        } => QueueNote::Tick {
+            slot,
+            timer,
+            moment,
+        },
+        ToQueue::Gone { slot, object } => QueueNote::Gone { slot, object },
+        ToQueue::Fin => QueueNote::Fin,
+    }
+}
+
+/// The note of an event to the timer service.
+pub(crate) fn timers_note(event: ToTimers<ObjectId>) -> TimersNote
+    ensures { result ≡ timers_note_of own_tag event }
+{
+    match event {
+        ToTimers::Arm {
+            timer,
+            queue,
+            interval,
+            listener,
+        } => TimersNote::Arm {
+            timer,
+            queue,
+            interval,
+            tag: listener,
+        },
+        ToTimers::Disarm { timer } => TimersNote::Disarm { timer },
+        ToTimers::Now { moment } => TimersNote::Now { moment },
+        ToTimers::ClientDone => TimersNote::ClientDone,
+        ToTimers::Bye => TimersNote::Bye,
+        ToTimers::Fin => TimersNote::Fin,
+    }
+}
+
+/// The event of a note to a publisher.
+pub(crate) fn publisher_event(note: PublisherNote) -> ToPublisher
+    ensures { publisher_note_of result ≡ note }
+{
+    match note {
+        PublisherNote::Want { sub, kind } => ToPublisher::Want { sub, kind },
+        PublisherNote::Ask { inbox, fids } => ToPublisher::Ask { inbox, fids },
+        PublisherNote::Settle => ToPublisher::Settle,
+        PublisherNote::Fin => ToPublisher::Fin,
+    }
+}
+
+/// The note of an event to a publisher.
+pub(crate) fn publisher_note(event: ToPublisher) -> PublisherNote
+    ensures { result ≡ publisher_note_of event }
+{
+    match event {
+        ToPublisher::Want { sub, kind } => PublisherNote::Want { sub, kind },
+        ToPublisher::Ask { inbox, fids } => PublisherNote::Ask { inbox, fids },
+        ToPublisher::Settle => PublisherNote::Settle,
+        ToPublisher::Fin => PublisherNote::Fin,
+    }
+}
+
+/// A copy of a note to the bridge as an event, whose listener is the tag itself.
+pub(crate) fn bridge_event(note: &BridgeNote) -> Result<ToBridge<ObjectId>, OutOfMemory>
+    ensures { IfOk result (λ event. bridge_note_of own_tag event ≡ note.now) }
+{
+    match note {
+        BridgeNote::Join { sub, terms, tag } => Ok(ToBridge::Join {
+            sub: *sub,
+            terms: terms.try_clone()?,
+            listener: *tag,
+        }),
+        BridgeNote::Leave { sub } => Ok(ToBridge::Leave { sub: *sub }),
+        BridgeNote::OpenInbox { inbox, terms, tag } => Ok(ToBridge::OpenInbox {
+            inbox: *inbox,
+            terms: terms.try_clone()?,
+            listener: *tag,
+        }),
+        BridgeNote::CloseInbox { inbox } => Ok(ToBridge::CloseInbox { inbox: *inbox }),
+        BridgeNote::Ask { inbox, topic, fids } => Ok(ToBridge::Ask {
+            inbox: *inbox,
+            topic: *topic,
+            fids: *fids,
+        }),
+        BridgeNote::Publish { msg } => Ok(ToBridge::Publish {
+            msg: msg.try_clone()?,
+        }),
+        BridgeNote::Image { sub, msg } => Ok(ToBridge::Image {
+            sub: *sub,
+            msg: msg.try_clone()?,
+        }),
+        BridgeNote::Reply { inbox, body } => Ok(ToBridge::Reply {
+            inbox: *inbox,
+            body: body.try_clone()?,
+        }),
+        BridgeNote::RecapWish { sub, sender } => Ok(ToBridge::RecapWish {
+            sub: *sub,
+            sender: *sender,
+        }),
+        BridgeNote::ClientDone => Ok(ToBridge::ClientDone),
+        BridgeNote::SendsDone => Ok(ToBridge::SendsDone),
+        BridgeNote::Settled => Ok(ToBridge::Settled),
+        BridgeNote::Bye => Ok(ToBridge::Bye),
+    }
+}
+
+/// The note of an event to the bridge.
+pub(crate) fn bridge_note(event: ToBridge<ObjectId>) -> BridgeNote
+    ensures { result ≡ bridge_note_of own_tag event }
+{
+    match event {
+        ToBridge::Join {
+            sub,
+            terms,
+            listener,
+        } => BridgeNote::Join {
+            sub,
+            terms,
+            tag: listener,
+        },
+        ToBridge::Leave { sub } => BridgeNote::Leave { sub },
+        ToBridge::OpenInbox {
+            inbox,
+            terms,
+            listener,
+        } => BridgeNote::OpenInbox {
+            inbox,
+            terms,
+            tag: listener,
+        },
+        ToBridge::CloseInbox { inbox } => BridgeNote::CloseInbox { inbox },
+        ToBridge::Ask { inbox, topic, fids } => BridgeNote::Ask { inbox, topic, fids },
+        ToBridge::Publish { msg } => BridgeNote::Publish { msg },
+        ToBridge::Image { sub, msg } => BridgeNote::Image { sub, msg },
+        ToBridge::Reply { inbox, body } => BridgeNote::Reply { inbox, body },
+        ToBridge::RecapWish { sub, sender } => BridgeNote::RecapWish { sub, sender },
+        ToBridge::ClientDone => BridgeNote::ClientDone,
+        ToBridge::SendsDone => BridgeNote::SendsDone,
+        ToBridge::Settled => BridgeNote::Settled,
+        ToBridge::Bye => BridgeNote::Bye,
+    }
+}

@@ -1,0 +1,175 @@
+ghost use Rattle.std.specs.Prelude.{◌≡◌, ◌++◌, [], Some, IfOk, OnOk};
+ghost use Rattle.mama_dq.specs.Strategy.{callbacks_of};
+ghost use Rattle.mama_dispatch.specs.Journals.{image_in};
+ghost use Rattle.mama_rules_queue.specs.Queue.{is_create as creates, is_destroy as destroys, context_of};
+ghost use Rattle.mama_check_queue.specs.Seen.{unseen, begun, silenced, called_so, kept_more, handling, made_as};
+ghost use Rattle.mama_check_queue.specs.Rows.{seen_data};
+
+use mama_dq::{Calls, DqContext};
+use mama_event::{CallNote, Callback, ImageHead, Make, MarketMsg, Orders, SubKind};
+use mama_memory::{Duplicate, OutOfMemory};
+use mama_msg::Msg;
+use std::alloc::Global;
+
+/// What the journal of a queue tells of one object.
+#[derive(Drop)]
+pub(crate) struct Seen {
+    pub(crate) make: Option<Make>,
+    pub(crate) live: bool,
+    pub(crate) muted: bool,
+    pub(crate) calls: Vec<CallNote>,
+    pub(crate) context: DqContext,
+    // The messages that were handled while no `Create` had come.
+    pub(crate) waiting: Vec<MarketMsg>,
+}
+
+/// Whether a callback is the first of an object.
+pub(crate) fn is_create(call: &Callback) -> bool
+    ensures { result ≡ creates call.now }
+{
+    match call {
+        Callback::Create => true,
+        _ => false,
+    }
+}
+
+/// Whether a callback is the last of an object.
+pub(crate) fn is_destroy(call: &Callback) -> bool
+    ensures { result ≡ destroys call.now }
+{
+    match call {
+        Callback::Destroy => true,
+        _ => false,
+    }
+}
+
+/// An object of which nothing came. It takes no memory.
+pub(crate) fn new_seen(alloc: Global) -> Seen
+    ensures { seen_data result ≡ unseen }
+{
+    Seen {
+        make: None,
+        live: false,
+        muted: false,
+        calls: Vec::new(alloc),
+        context: DqContext::new(alloc, SubKind::Basic, 0),
+        waiting: Vec::new(alloc),
+    }
+}
+
+/// A callback of the object begins: with its first the object is live.
+pub(crate) fn begin_at(row: &mut Seen, call: &Callback)
+    ensures { seen_data row.new ≡ begun call.now (seen_data row.old) }
+{
+    row.live = row.live || is_create(call);
+}
+
+/// An order ends the object: that mutes it where it is live.
+pub(crate) fn silence_at(row: &mut Seen)
+    ensures { seen_data row.new ≡ silenced (seen_data row.old) }
+{
+    row.muted = row.muted || row.live;
+}
+
+/// A callback of the object was made, with these orders: after its last the object is not live.
+pub(crate) fn note_at(row: &mut Seen, call: Callback, orders: Orders) -> Result<(), OutOfMemory>
+    ensures { OnOk result (seen_data row.new ≡ called_so call orders (seen_data row.old)) }
+{
+    row.live = row.live && !is_destroy(&call);
+    row.calls.push(CallNote { call, orders })?;
+    Ok(())
+}
+
+/// Keeps a message while no `Create` has come.
+fn keep(
+    make: &Option<Make>,
+    waiting: &mut Vec<MarketMsg>,
+    msg: &MarketMsg,
+) -> Result<(), OutOfMemory>
+    ensures { OnOk result (waiting.new.items ≡ kept_more make.now waiting.old.items msg.now) }
+{
+    match make {
+        Some(_) => Ok(()),
+        None => {
+            waiting.push(msg.try_clone()?)?;
+            Ok(())
+        }
+    }
+}
+
+/// The context of the object handles a message, and the callbacks of the message are added.
+pub(crate) fn handle_at(
+    row: &mut Seen,
+    msg: &MarketMsg,
+    calls: &mut Calls,
+) -> Result<(), OutOfMemory>
+    ensures row { OnOk result (seen_data row.new ≡ handling msg.now (seen_data row.old)) }
+    ensures calls { OnOk result (calls.new ≡ calls.old ++ callbacks_of row.old.context msg.now) }
+{
+    keep(&row.make, &mut row.waiting, msg)?;
+    row.context.step(msg, calls)?;
+    Ok(())
+}
+
+/// A `Create` makes the object, if it is the first: messages that were handled before are folded anew.
+pub(crate) fn make_at(alloc: Global, row: &mut Seen, make: Make) -> Result<(), OutOfMemory>
+    ensures { OnOk result (seen_data row.new ≡ made_as make (seen_data row.old)) }
+{
+    if row.make.is_some() {
+        return Ok(());
+    }
+    row.context = folded(alloc, make, &row.waiting)?;
+    row.waiting = Vec::new(alloc);
+    row.make = Some(make);
+    Ok(())
+}
+
+/// The context of a new object.
+fn context_for(alloc: Global, make: Make) -> DqContext
+    ensures { result ≡ context_of (Some make) [] }
+{
+    match make {
+        Make::Sub { kind, cache } => DqContext::new(alloc, kind, cache),
+        Make::Timer => DqContext::new(alloc, SubKind::Basic, 0),
+        Make::Inbox => DqContext::new(alloc, SubKind::Basic, 0),
+    }
+}
+
+/// The context of an object that has handled some messages.
+fn folded(alloc: Global, make: Make, messages: &[MarketMsg]) -> Result<DqContext, OutOfMemory>
+    ensures { IfOk result (λ context. context ≡ context_of (Some make) messages.now) }
+{
+    let mut context = context_for(alloc, make);
+    for msg in messages {
+        let mut calls = Calls::new(alloc);
+        context.step(msg, &mut calls)?;
+    }
+    Ok(context)
+}
+
+/// The image of a context, if it has one.
+pub(crate) fn image_of(context: &DqContext) -> Result<Option<(ImageHead, Msg)>, OutOfMemory>
+    ensures { IfOk result (λ found. found ≡ image_in context.now) }
+{
+    let Some(image) = context.image() else {
+        return Ok(None);
+    };
+    let body = image.try_clone()?;
+    let head = ImageHead {
+        sender: context.sender(),
+        last: context.last(),
+        quality: context.quality(),
+    };
+    Ok(Some((head, body)))
+}
+
+/// Copies of some callbacks.
+pub(crate) fn copies_of(alloc: Global, notes: &[CallNote]) -> Result<Vec<CallNote>, OutOfMemory>
+    ensures { IfOk result (λ copies. copies.items ≡ notes.now) }
+{
+    let mut copies = Vec::with_capacity(alloc, notes.len())?;
+    for note in notes {
+        copies.push(note.try_clone()?)?;
+    }
+    Ok(copies)
+}

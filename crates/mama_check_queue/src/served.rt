@@ -1,0 +1,65 @@
+ghost use Rattle.std.specs.Prelude.{◌≡◌, map, IfOk};
+ghost use Rattle.mama_rules_queue.specs.Queue.{deeds, calls_of};
+ghost use Rattle.mama_rules_rounds.specs.Round.{noted};
+ghost use Rattle.mama_plans.specs.Orders.{orders_in};
+ghost use Rattle.mama_plans.specs.Image.{found_image};
+ghost use Rattle.mama_check_queue.specs.Served.{bridge_puts, timers_puts, last_image_of};
+
+use crate::objects::Objects;
+use crate::puts::Puts;
+use mama_event::{BridgeNote, CallNote, ImageHead, ObjectId, QueueNote, SubId, TimersNote};
+use mama_memory::OutOfMemory;
+use mama_msg::Msg;
+use mama_plans::Plans;
+use std::marker::Model;
+
+/// A queue whose journal was served again, by the plans of its objects.
+#[derive(Drop)]
+pub struct ServedQueue<'a> {
+    pub(crate) plans: &'a Plans,
+    pub(crate) journal: &'a [(u32, QueueNote)],
+    pub(crate) objects: Objects,
+    pub(crate) puts: Puts,
+}
+
+impl<'a> Model for ServedQueue<'a> {
+    ghost use Rattle.mama_check_queue.specs.Served.{ServedData};
+
+    ghost Value = { ServedData };
+
+    ghost view = { λ s. record { objects = s.plans.now; journal = s.journal.now } };
+
+    ghost use Rattle.mama_check_queue.specs.Kept.{IsKept};
+
+    ghost invariant = { λ s. IsKept (record { objects = s.plans.now; journal = s.journal.now }) s.objects s.puts };
+}
+
+impl<'a> ServedQueue<'a> {
+    /// What it put to the bridge, each event with the number of the entry that put it, from 0.
+    pub fn to_bridge(&self) -> &[(usize, BridgeNote)]
+        ensures { result.now ≡ bridge_puts self.now }
+    {
+        self.puts.to_bridge()
+    }
+
+    /// What it put to the timer service, in the same way.
+    pub fn to_timers(&self) -> &[(usize, TimersNote)]
+        ensures { result.now ≡ timers_puts self.now }
+    {
+        self.puts.to_timers()
+    }
+
+    /// The callbacks of an object.
+    pub fn calls(&self, object: &ObjectId) -> Result<Vec<CallNote>, OutOfMemory>
+        ensures { IfOk result (λ calls. calls.items ≡ map noted (calls_of object.now (deeds (orders_in self.now.objects) self.now.journal))) }
+    {
+        self.objects.copied_calls(object)
+    }
+
+    /// The last image of a subscription, or `None` where it has none, as a basic one.
+    pub fn image(&self, sub: SubId) -> Result<Option<(ImageHead, Msg)>, OutOfMemory>
+        ensures { IfOk result (λ found. found_image sub found ≡ last_image_of self.now sub) }
+    {
+        self.objects.image(sub)
+    }
+}

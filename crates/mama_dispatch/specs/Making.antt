@@ -1,0 +1,36 @@
+-- inner: What the calls on seats make of them, by what is served.
+use Rattle.std.specs.Prelude.{◌≡◌, ℕ, List, [], ◌∷◌, ◌++◌, map, Some, None}
+use Rattle.mama_event.specs.declared.ids.ObjectId.{ObjectId}
+use Rattle.mama_event.specs.declared.ids.ObjectId.TheVariants.{Sub}
+use Rattle.mama_event.specs.declared.ids.SubId.{SubId}
+use Rattle.mama_event.specs.declared.market.MarketMsg.{MarketMsg}
+use Rattle.mama_event.specs.declared.callback.Callback.TheVariants as on
+use Rattle.mama_event.specs.declared.order.Order.{Order}
+use Rattle.mama_event.specs.declared.to_queue.Make.{Make}
+use Rattle.mama_event.specs.Listener.{ListenerData}
+use Rattle.mama_dq.specs.Strategy.{callbacks_of}
+use Rattle.mama_rules_queue.specs.Queue.{Deed, QueuePut, handled}
+use Rattle.mama_dispatch.specs.Journals.{Born}
+use Rattle.mama_dispatch.specs.Seats.{SeatData, listener_in, context_in, at, with_room, with_listener, new_seat, Fits}
+use Rattle.mama_dispatch.specs.Seating.{is_live, Seated, CalledOnce, CallsMade}
+use Rattle.mama_dispatch.specs.Keeping.{Kept}
+
+-- an object was made and got its first callback
+pub record Created (o : ObjectId) (make : Make) (l : ListenerData) (before after : List SeatData) (put_before put_after : List QueuePut) : Type 0 where
+  pub room : ℕ
+  pub once : CalledOnce o on.Create (before ++ new_seat o make l room ∷ []) after put_before put_after
+
+-- an object got its last callback, and its listener left
+pub record Ended (o : ObjectId) (l : ListenerData) (before after : List SeatData) (put_before put_after : List QueuePut) : Type 0 where
+  pub room : ℕ
+  pub middle : List SeatData
+  pub once : CalledOnce o on.Destroy (map (at o (with_room room)) before) middle put_before put_after
+  pub left : listener_in o middle ≡ Some l
+  pub seats : after ≡ map (at o (with_listener None)) middle
+
+-- a subscription's context took a message, and the callbacks of that were made
+pub record Delivered (s : SubId) (m : MarketMsg) (before after : List SeatData) (put_before put_after : List QueuePut) (so_many : ℕ) : Type 0 where
+  pub kept : Kept before after
+  pub fits : (orders : ObjectId → ℕ → List Order) → Fits orders after → Fits orders before
+  pub made : (orders : ObjectId → ℕ → List Order) (bs : List Born) (ds : List Deed) → Fits orders after → Seated (is_live ds) ds bs before
+      → CallsMade orders bs (ds ++ handled s m ∷ []) (Sub s) (callbacks_of (context_in (Sub s) before) m) after put_before put_after so_many

@@ -1,2 +1,0 @@
-pub mod LaneWalk
-pub mod SenderWalk

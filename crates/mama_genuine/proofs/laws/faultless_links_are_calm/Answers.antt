@@ -1,5 +1,0 @@
-use Rattle.mama_genuine.proofs.Calm.{faultless_is_calm}
-use Rattle.mama_genuine.proofs.laws.faultless_links_are_calm.Goals as goal
-
-pub returns : goal.returns
-returns c = faultless_is_calm

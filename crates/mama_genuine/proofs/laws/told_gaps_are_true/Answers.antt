@@ -1,5 +1,0 @@
-use Rattle.mama_genuine.proofs.Truths.{told_gaps_are_true}
-use Rattle.mama_genuine.proofs.laws.told_gaps_are_true.Goals as goal
-
-pub returns : goal.returns
-returns c = told_gaps_are_true

@@ -1,5 +1,0 @@
-use Rattle.mama_lawful.proofs.Fins.{fins_tell}
-use Rattle.mama_lawful.proofs.laws.fins_tell_the_ending.Goals as goal
-
-pub returns : goal.returns
-returns c = fins_tell

@@ -1,5 +1,0 @@
-use Rattle.mama_lawful.proofs.Timely.{lawful_are_timely}
-use Rattle.mama_lawful.proofs.laws.lawful_clients_are_timely.Goals as goal
-
-pub returns : goal.returns
-returns c = lawful_are_timely

@@ -1,6 +1,0 @@
-use Rattle.mama_rules.specs.Bridge.{heard}
-use Rattle.mama_lawful.proofs.QueueStreams.{streamed}
-use Rattle.mama_lawful.proofs.laws.slots_are_least.Goals as goal
-
-pub returns : goal.returns
-returns c = λ shape journal k timely. (streamed k shape (heard shape journal) timely).least

@@ -1,6 +1,0 @@
-use Rattle.mama_rules.specs.Bridge.{heard}
-use Rattle.mama_lawful.proofs.OtherStreams.{timers_lawful}
-use Rattle.mama_lawful.proofs.laws.timers_get_a_lawful_stream.Goals as goal
-
-pub returns : goal.returns
-returns c = λ shape journal. timers_lawful shape (heard shape journal)

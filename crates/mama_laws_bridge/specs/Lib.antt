@@ -1,0 +1,3 @@
+pub mod Byes
+pub mod Table
+pub mod Laws

@@ -1,0 +1,25 @@
+ghost use Rattle.mama_laws_callbacks.specs.Plain.{LegalRecordsTellPlainly};
+ghost use Rattle.mama_laws_callbacks.specs.Told.{LegalRecordsTellAll};
+ghost use Rattle.mama_laws_callbacks.specs.Word.{LastWordsAreTrue};
+
+/// A law: in a legal record of a script each subscription of the script is told what its strategy makes of exactly the
+/// messages that its link lets through of what was sent while it was joined, between its create and its destroy notice,
+/// in order and each once; each timer its ticks, and each inbox exactly the replies that its link lets through. If the
+/// object was muted, it is told so up to the order that muted it, and then its notice alone. At each place of its
+/// queue's journal at which it is not muted, it was told all that was taken for it so far.
+pub fn legal_records_tell_all()
+    ensures { LegalRecordsTellAll }
+{}
+
+/// A law: in a legal record of a script a market subscription whose line has no fault rows, on a topic that exactly one
+/// publisher has, is told just the messages that were sent to it from the first image on, each once and as ok, as far as
+/// it was not muted.
+pub fn legal_records_tell_plainly()
+    ensures { LegalRecordsTellPlainly }
+{}
+
+/// A law: whatever messages a market or a snapshot subscription handled, the last word that its strategy has on quality is
+/// the quality of the image that it then has.
+pub fn last_words_are_true()
+    ensures { LastWordsAreTrue }
+{}

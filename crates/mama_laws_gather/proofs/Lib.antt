@@ -1,0 +1,3 @@
+pub mod TimersFins
+pub mod Endings
+pub mod Gathering

@@ -1,0 +1,96 @@
+-- What the timer service and the queues put carries no message.
+use Rattle.std.specs.Prelude.{◌&&◌}
+use Rattle.std.specs.List.{AllByRecursion, list_any, flat_map}
+use Rattle.std.proofs.Common.{ℕ, ◌==◌, List, [], ◌∷◌, ◌++◌, map, Option, None, Some}
+use Rattle.mama_journal.specs.Journal.{count_of, turns, numbers_below, puts}
+use Rattle.mama_msg.specs.Field.{FieldData}
+use Rattle.mama_event.specs.Ports.{queues_of}
+use Rattle.mama_event.specs.declared.ids.TimerId.{TimerId}
+use Rattle.mama_event.specs.declared.ids.ObjectId.{ObjectId}
+use Rattle.mama_event.specs.declared.ids.ObjectId.TheVariants.{Sub, Timer}
+use Rattle.mama_event.specs.declared.shape.Shape.{Shape}
+use Rattle.mama_event.specs.declared.market.MarketMsg.{MarketMsg}
+use Rattle.mama_event.specs.declared.callback.Callback.{Callback}
+use Rattle.mama_event.specs.declared.callback.Callback.TheVariants as on
+use Rattle.mama_event.specs.declared.order.Order.{Order}
+use Rattle.mama_event.specs.declared.order.Order.TheVariants as order
+use Rattle.mama_event.specs.declared.to_bridge.BridgeNote.TheVariants as b
+use Rattle.mama_event.specs.declared.to_timers.TimersNote.{TimersNote}
+use Rattle.mama_event.specs.declared.to_timers.TimersNote.TheVariants as t
+use Rattle.mama_event.specs.declared.to_queue.QueueNote.{QueueNote}
+use Rattle.mama_event.specs.declared.to_queue.QueueNote.TheVariants as q
+use Rattle.mama_event.specs.declared.to_queue.Make.TheVariants as make
+use Rattle.mama_rules_services.specs.Timers.{TimersEvent, arms, disarms, now, heard, clock, is_live, live_timers, firing, has_ending, place_of, to_place, arms_timer, free_slot, gone, answer, ending_comes, timers_reaction, timers_puts}
+use Rattle.mama_rules_queue.specs.Queue.{to_bridge, to_timers, Deed, handled, called, order_put, wish_put, puts_of, is_fin, bye_put, deeds_at, queue_puts_at}
+use Rattle.mama_laws_genuine.specs.Sent.{Delivers}
+use Rattle.mama_laws_genuine.proofs.Elements.{all_append, all_if, all_flat, all_mapped, all_any, all_puts_after, all_puts_so_far}
+use Rattle.mama_laws_genuine.proofs.Carried.{InQueuePut}
+
+module _ (G : MarketMsg → Type 0) (R : List FieldData → Type 0) where
+  abbrev Told : ℕ × QueueNote → Type 0
+  Told e = Delivers G R e.1
+
+  -- ---- the timer service
+
+  placed : (place : Option (ℕ × ℕ)) (event : ℕ → QueueNote) → ((slot : ℕ) → Delivers G R (event slot)) → AllByRecursion Told (to_place place event)
+  placed None event h = tt
+  placed (Some place) event h = (h place.1, tt)
+
+  all_gone : (sofar : List (ℕ × QueueNote)) (timer : TimerId) → AllByRecursion Told (gone sofar timer)
+  all_gone sofar timer = placed (place_of timer sofar) (λ slot. q.Gone slot (Timer timer)) (λ slot. tt)
+
+  all_ticks : (shape : Shape) (before : List TimersEvent) (sofar : List (ℕ × QueueNote)) (moment : ℕ)
+      → AllByRecursion Told (flat_map (λ (timer : TimerId). to_place (place_of timer sofar) (λ slot. q.Tick slot timer moment)) (firing shape before moment))
+  all_ticks shape before sofar moment =
+      all_flat Told (λ (timer : TimerId). to_place (place_of timer sofar) (λ slot. q.Tick slot timer moment))
+      (λ timer. placed (place_of timer sofar) (λ slot. q.Tick slot timer moment) (λ slot. tt)) (firing shape before moment)
+
+  all_answered : (shape : Shape) (before : List TimersEvent) (sofar : List (ℕ × QueueNote)) (e : TimersEvent) → AllByRecursion Told (answer shape before sofar e)
+  all_answered shape before sofar (arms timer queue interval tag) =
+      all_if Told (list_any (arms_timer timer) before) [] ((queue, q.Create (free_slot shape before sofar queue) (Timer timer) make.Timer tag) ∷ []) tt (tt, tt)
+  all_answered shape before sofar (disarms timer) = all_if Told (is_live shape timer before) (gone sofar timer) [] (all_gone sofar timer) tt
+  all_answered shape before sofar (now moment) = all_ticks shape before sofar (clock (before ++ now moment ∷ []))
+  all_answered shape before sofar _ = tt
+
+  all_ending : (shape : Shape) (before : List TimersEvent) (sofar : List (ℕ × QueueNote)) (e : TimersEvent) → AllByRecursion Told (ending_comes shape before sofar e)
+  all_ending shape before sofar e =
+      let fins : List (ℕ × QueueNote) = map (λ (k : ℕ). (k, q.Fin)) (numbers_below (queues_of shape)) in
+      let lives : List (ℕ × QueueNote) = flat_map (gone sofar) (live_timers shape before) in
+      all_if Told (turns (has_ending shape) before e) (lives ++ fins) []
+      (all_append Told lives fins (all_flat Told (gone sofar) (all_gone sofar) (live_timers shape before))
+      (all_mapped Told (λ (k : ℕ). (k, q.Fin)) (λ k. tt) (numbers_below (queues_of shape))))
+      tt
+
+  pub all_timers_puts : (shape : Shape) (journal : List (ℕ × TimersNote)) → AllByRecursion Told (timers_puts shape journal)
+  all_timers_puts shape journal =
+      all_puts_so_far (λ (e : TimersEvent). Unit {0}) Told (timers_reaction shape)
+      (λ before sofar e all so h. all_append Told (answer shape before sofar e) (ending_comes shape before sofar e) (all_answered shape before sofar e) (all_ending shape before sofar e))
+      [] [] (heard shape journal) tt tt (all_any (λ (e : TimersEvent). Unit {0}) (λ e. tt) (heard shape journal))
+
+  -- ---- a queue
+
+  pub ordered : (o : Order) → InQueuePut G R (order_put o)
+  ordered (order.Stop sub) = tt
+  ordered (order.Disarm timer) = tt
+  ordered (order.Close inbox) = tt
+  ordered (order.Ask inbox topic fids) = tt
+
+  all_wished : (o : ObjectId) (call : Callback) → AllByRecursion (InQueuePut G R) (wish_put o call)
+  all_wished (Sub sub) (on.RecapRequest sender) = (tt, tt)
+  all_wished _ _ = tt
+
+  all_put : (d : Deed) → AllByRecursion (InQueuePut G R) (puts_of d)
+  all_put (handled sub msg) = tt
+  all_put (called object call orders) =
+      all_append (InQueuePut G R) (wish_put object call) (map order_put orders) (all_wished object call) (all_mapped (InQueuePut G R) order_put ordered orders)
+
+  all_put_at : (orders : ObjectId → ℕ → List Order) (journal : List (ℕ × QueueNote)) (e : ℕ × QueueNote) → AllByRecursion (InQueuePut G R) (queue_puts_at orders journal e)
+  all_put_at orders journal e =
+      all_append (InQueuePut G R) (flat_map puts_of (deeds_at orders journal e)) (bye_put journal e)
+      (all_flat (InQueuePut G R) puts_of all_put (deeds_at orders journal e))
+      (all_if (InQueuePut G R) (is_fin e && count_of is_fin journal == 1) (to_bridge b.Bye ∷ to_timers t.Bye ∷ []) [] (tt, (tt, tt)) tt)
+
+  pub all_queue_puts : (orders : ObjectId → ℕ → List Order) (journal : List (ℕ × QueueNote)) → AllByRecursion (InQueuePut G R) (puts (queue_puts_at orders) journal)
+  all_queue_puts orders journal =
+      all_puts_after (λ (e : ℕ × QueueNote). Unit {0}) (InQueuePut G R) (queue_puts_at orders) (λ before e h. all_put_at orders before e)
+      [] journal (all_any (λ (e : ℕ × QueueNote). Unit {0}) (λ e. tt) journal)

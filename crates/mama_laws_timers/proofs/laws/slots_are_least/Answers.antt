@@ -1,0 +1,6 @@
+use Rattle.mama_rules_services.specs.Timers.{heard}
+use Rattle.mama_laws_timers.proofs.QueueStreams.{streamed}
+use Rattle.mama_laws_timers.proofs.laws.slots_are_least.Goals as goal
+
+pub returns : goal.returns
+returns c = λ shape journal k timely. (streamed k shape (heard shape journal) timely).least

@@ -1,5 +1,0 @@
-use Rattle.mama_legal.proofs.InboxStreams.{inboxes_streams}
-use Rattle.mama_legal.proofs.laws.inboxes_get_their_streams.Goals as goal
-
-pub returns : goal.returns
-returns c = inboxes_streams

@@ -1,5 +1,0 @@
-use Rattle.mama_legal.proofs.OneRecord.{one_record_given}
-use Rattle.mama_legal.proofs.laws.one_record.Goals as goal
-
-pub returns : goal.returns
-returns c = one_record_given

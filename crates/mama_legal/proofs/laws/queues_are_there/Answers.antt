@@ -1,5 +1,0 @@
-use Rattle.mama_legal.proofs.QueuesThere.{queues_there}
-use Rattle.mama_legal.proofs.laws.queues_are_there.Goals as goal
-
-pub returns : goal.returns
-returns c = queues_there

@@ -1,5 +1,0 @@
-use Rattle.mama_legal.proofs.LegalRounds.{rounds_are_legal}
-use Rattle.mama_legal.proofs.laws.round_is_legal.Goals as goal
-
-pub returns : goal.returns
-returns c = rounds_are_legal

@@ -1,5 +1,0 @@
-use Rattle.mama_legal.proofs.Whole.{calls_told}
-use Rattle.mama_legal.proofs.laws.rounds_tell_calls.Goals as goal
-
-pub returns : goal.returns
-returns c = calls_told

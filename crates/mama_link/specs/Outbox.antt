@@ -1,7 +1,0 @@
--- What contracts see of an outbox.
-use Rattle.std.specs.Prelude.{ℕ, List}
-
--- the items in order, and how many more there is room for
-pub record Parcels (T : Type 0) : Type 0 where
-  pub items : List T
-  pub spare : ℕ

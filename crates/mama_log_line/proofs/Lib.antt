@@ -1,0 +1,11 @@
+pub mod Heads
+pub mod WordLaws
+pub mod LineLaws
+pub mod Ports
+pub mod PublisherLaws
+pub mod BridgeLaws
+pub mod TimersLaws
+pub mod QueueLaws
+pub mod CallLaws
+pub mod OtherLaws
+pub mod Turns

@@ -1,0 +1,245 @@
+ghost use Rattle.std.specs.Prelude.{◌≡◌, ℕ, [], ◌∷◌, ◌++◌, map, Some, IfOk, IfSome};
+ghost use Rattle.mama_words.specs.Answer.{Gives};
+ghost use Rattle.mama_event.specs.declared.to_queue.QueueNote.{QueueNote};
+ghost use Rattle.mama_record.specs.LogText.{queue_entry_line};
+ghost use Rattle.mama_log_line.specs.Entering.{MayEnterQueue};
+ghost use Rattle.mama_log_line.specs.Journal as journals;
+
+use crate::head::{Head, read_head};
+use crate::names::Names;
+use crate::word::{
+    alone, read_body, read_inbox, read_linked, read_market, read_moment, read_small, read_sub,
+    read_timer,
+};
+use mama_event::{ObjectId, QueueNote};
+use mama_memory::OutOfMemory;
+use mama_words::{ReadError, parted};
+use std::alloc::Global;
+
+#[tactic(auto, unfolding(crate::specs::Journal::created_in))]
+fn created(names: &Names, slot: u32, object: ObjectId) -> Result<QueueNote, ReadError>
+    ensures { Gives (λ x. x) result (journals.created_in names.now slot object) }
+{
+    let make = names.make(object).ok_or(ReadError::Fault(10))?;
+    Ok(QueueNote::Create {
+        slot,
+        object,
+        make,
+        tag: object,
+    })
+}
+
+#[tactic(auto, unfolding(crate::specs::Journal::create_linked_in))]
+fn read_create_linked(names: &Names, words: &[&[u8]]) -> Result<QueueNote, ReadError>
+    ensures { Gives (λ x. x) result (journals.create_linked_in names.now (map (λ w. w.now) words.now)) }
+{
+    match words {
+        [slot, object] => {
+            let slot = read_small(slot)?;
+            let object = read_linked(names, object)?;
+            created(names, slot, object)
+        }
+        _ => Err(ReadError::Fault(4)),
+    }
+}
+
+#[tactic(auto, unfolding(crate::specs::Journal::create_timer_in))]
+fn read_create_timer(names: &Names, words: &[&[u8]]) -> Result<QueueNote, ReadError>
+    ensures { Gives (λ x. x) result (journals.create_timer_in names.now (map (λ w. w.now) words.now)) }
+{
+    match words {
+        [slot, timer] => {
+            let slot = read_small(slot)?;
+            let timer = read_timer(names, timer)?;
+            created(names, slot, ObjectId::Timer(timer))
+        }
+        _ => Err(ReadError::Fault(4)),
+    }
+}
+
+#[tactic(auto, unfolding(crate::specs::Journal::data_in))]
+fn read_data(alloc: Global, names: &Names, words: &[&[u8]]) -> Result<QueueNote, ReadError>
+    ensures { Gives (λ x. x) result (journals.data_in names.now (map (λ w. w.now) words.now)) }
+{
+    match words {
+        [slot, sub, rest @ ..] => {
+            let slot = read_small(slot)?;
+            let sub = read_sub(names, sub)?;
+            let msg = read_market(alloc, rest)?;
+            Ok(QueueNote::Deliver { slot, sub, msg })
+        }
+        _ => Err(ReadError::Fault(4)),
+    }
+}
+
+#[tactic(auto, unfolding(crate::specs::Journal::reply_in))]
+fn read_reply(alloc: Global, names: &Names, words: &[&[u8]]) -> Result<QueueNote, ReadError>
+    ensures { Gives (λ x. x) result (journals.reply_in names.now (map (λ w. w.now) words.now)) }
+{
+    match words {
+        [slot, inbox, rest @ ..] => {
+            let slot = read_small(slot)?;
+            let inbox = read_inbox(names, inbox)?;
+            let body = read_body(alloc, rest)?;
+            Ok(QueueNote::Reply { slot, inbox, body })
+        }
+        _ => Err(ReadError::Fault(4)),
+    }
+}
+
+#[tactic(auto, unfolding(crate::specs::Journal::tick_in))]
+fn read_tick(names: &Names, words: &[&[u8]]) -> Result<QueueNote, ReadError>
+    ensures { Gives (λ x. x) result (journals.tick_in names.now (map (λ w. w.now) words.now)) }
+{
+    match words {
+        [slot, timer, moment] => {
+            let slot = read_small(slot)?;
+            let timer = read_timer(names, timer)?;
+            let moment = read_moment(moment)?;
+            Ok(QueueNote::Tick {
+                slot,
+                timer,
+                moment,
+            })
+        }
+        _ => Err(ReadError::Fault(4)),
+    }
+}
+
+#[tactic(auto, unfolding(crate::specs::Journal::gone_linked_in))]
+fn read_gone_linked(names: &Names, words: &[&[u8]]) -> Result<QueueNote, ReadError>
+    ensures { Gives (λ x. x) result (journals.gone_linked_in names.now (map (λ w. w.now) words.now)) }
+{
+    match words {
+        [slot, object] => {
+            let slot = read_small(slot)?;
+            let object = read_linked(names, object)?;
+            Ok(QueueNote::Gone { slot, object })
+        }
+        _ => Err(ReadError::Fault(4)),
+    }
+}
+
+#[tactic(auto, unfolding(crate::specs::Journal::gone_timer_in))]
+fn read_gone_timer(names: &Names, words: &[&[u8]]) -> Result<QueueNote, ReadError>
+    ensures { Gives (λ x. x) result (journals.gone_timer_in names.now (map (λ w. w.now) words.now)) }
+{
+    match words {
+        [slot, timer] => {
+            let slot = read_small(slot)?;
+            let timer = read_timer(names, timer)?;
+            Ok(QueueNote::Gone {
+                slot,
+                object: ObjectId::Timer(timer),
+            })
+        }
+        _ => Err(ReadError::Fault(4)),
+    }
+}
+
+// What the bridge puts.
+fn bridge_note(
+    alloc: Global,
+    names: &Names,
+    head: Head,
+    words: &[&[u8]],
+) -> Result<QueueNote, ReadError>
+    ensures { Gives (λ x. x) result (journals.queue_bridge_in names.now head (map (λ w. w.now) words.now)) }
+{
+    match head {
+        Head::Create => read_create_linked(names, words),
+        Head::Data => read_data(alloc, names, words),
+        Head::Reply => read_reply(alloc, names, words),
+        Head::Gone => read_gone_linked(names, words),
+        Head::Fin => alone(QueueNote::Fin, words),
+        _ => Err(ReadError::Fault(3)),
+    }
+}
+
+// What the timer service puts.
+fn timers_note(names: &Names, head: Head, words: &[&[u8]]) -> Result<QueueNote, ReadError>
+    ensures { Gives (λ x. x) result (journals.queue_timers_in names.now head (map (λ w. w.now) words.now)) }
+{
+    match head {
+        Head::Create => read_create_timer(names, words),
+        Head::Tick => read_tick(names, words),
+        Head::Gone => read_gone_timer(names, words),
+        Head::Fin => alone(QueueNote::Fin, words),
+        _ => Err(ReadError::Fault(3)),
+    }
+}
+
+// By the letter that is the port: the bridge's or the timer service's.
+#[tactic(auto, unfolding(crate::specs::Journal::queue_by))]
+fn read_by(
+    alloc: Global,
+    names: &Names,
+    port: &[u8],
+    head: Head,
+    words: &[&[u8]],
+) -> Result<(u32, QueueNote), ReadError>
+    ensures { Gives (λ x. x) result (journals.queue_by names.now port.now head (map (λ w. w.now) words.now)) }
+{
+    match port {
+        [letter] => {
+            if *letter == b'b' {
+                let note = bridge_note(alloc, names, head, words)?;
+                Ok((0, note))
+            } else if *letter == b't' {
+                let note = timers_note(names, head, words)?;
+                Ok((1, note))
+            } else {
+                Err(ReadError::Fault(5))
+            }
+        }
+        _ => Err(ReadError::Fault(5)),
+    }
+}
+
+#[tactic(auto, unfolding(crate::specs::Journal::queue_words_in))]
+fn read_words(alloc: Global, names: &Names, words: &[&[u8]]) -> Result<(u32, QueueNote), ReadError>
+    ensures { Gives (λ x. x) result (journals.queue_words_in names.now (map (λ w. w.now) words.now)) }
+{
+    match words {
+        [port, head, rest @ ..] => {
+            let head = read_head(head).ok_or(ReadError::Fault(3))?;
+            read_by(alloc, names, port, head, rest)
+        }
+        _ => Err(ReadError::Fault(4)),
+    }
+}
+
+#[tactic(auto, unfolding(crate::specs::Journal::queue_line_in))]
+fn read_line(alloc: Global, names: &Names, line: &[u8]) -> Result<(u32, QueueNote), ReadError>
+    ensures { Gives (λ x. x) result (journals.queue_line_in names.now line.now) }
+{
+    let words = parted(alloc, line)?;
+    read_words(alloc, names, &words)
+}
+
+fn entry_of(
+    alloc: Global,
+    names: &Names,
+    line: &[u8],
+) -> Result<Option<(u32, QueueNote)>, OutOfMemory>
+    ensures { IfOk result (λ o. o ≡ journals.told (journals.queue_line_in names.now line.now)) }
+{
+    match read_line(alloc, names, line) {
+        Ok(entry) => Ok(Some(entry)),
+        Err(ReadError::Fault(_)) => Ok(None),
+        Err(ReadError::Memory) => Err(OutOfMemory),
+    }
+}
+
+/// The entry of a queue's journal that a line without its line feed spells, with its port. None where it spells none
+/// that such a journal may have.
+pub fn queue_entry_in(
+    alloc: Global,
+    names: &Names,
+    line: &[u8],
+) -> Result<Option<(u32, QueueNote)>, OutOfMemory>
+    ensures found { IfOk result (λ o. IfSome o (λ e. MayEnterQueue names.now e × (line.now ++ 10 ∷ [] ≡ queue_entry_line e))) }
+    ensures again { IfOk result (λ o. (e : ℕ × QueueNote) → MayEnterQueue names.now e → line.now ++ 10 ∷ [] ≡ queue_entry_line e → o ≡ Some e) }
+{
+    entry_of(alloc, names, line)
+}

@@ -1,0 +1,185 @@
+-- No line of an entry is the line that begins a section: their first three bytes differ.
+use Rattle.std.proofs.Common.{◌≡◌, ℕ, ◌-◌, ◌<◌, ◌^◌, Bool, true, false, cond, eqb, List, [], ◌∷◌, ◌++◌, length, refl, sym, ap, ◌∙◌, arith}
+use Rattle.std.specs.Prelude.{◌&&◌, ◌||◌, ◌==◌}
+use Rattle.std.specs.List.{list_all}
+use Rattle.std.proofs.lemmas.Bool.{and_parts, ne_eqb}
+use Rattle.std.proofs.lemmas.Fmt.{decimal_nonempty}
+use Rattle.mama_edge.specs.Decimal.{decimal}
+use Rattle.mama_words.proofs.Cutting.{is_digit, decimal_digits}
+use Rattle.mama_event.specs.declared.order.Order.{Order}
+use Rattle.mama_event.specs.declared.callback.Callback.{Callback}
+use Rattle.mama_event.specs.declared.callback.Callback.TheVariants as on
+use Rattle.mama_event.specs.declared.shape.Shape.{Shape}
+use Rattle.mama_event.specs.declared.to_bridge.BridgeNote.{BridgeNote}
+use Rattle.mama_event.specs.declared.to_publisher.PublisherNote.TheVariants as p
+use Rattle.mama_event.specs.declared.to_timers.TimersNote.{TimersNote}
+use Rattle.mama_event.specs.declared.to_queue.QueueNote.{QueueNote}
+use Rattle.mama_event.specs.declared.publisher_entry.PublisherEntry.{PublisherEntry}
+use Rattle.mama_event.specs.declared.publisher_entry.PublisherEntry.TheVariants.{Send, Done, Took}
+use Rattle.mama_event.specs.Ports.{clients_of, publishers_of, queue_port_of_bridge, queue_port_of_timers, is_bridge_port_of_client, is_bridge_port_of_publisher, is_bridge_port_of_queue, is_timers_port_of_client, is_timers_port_of_queue, is_timers_port_of_bridge}
+use Rattle.mama_rules_services.specs.Ports.{Putter, ByClient, ByPublisher, ByQueue, ByBridge, ByTimers, ByNobody, bridge_putter, timers_putter, queue_putter}
+use Rattle.mama_record.specs.RunData.{LastImage}
+use Rattle.mama_record.specs.LogText.{putter_text, bridge_note_text, timers_note_text, queue_note_text, publisher_entry_text, callback_text}
+use Rattle.mama_log_line.specs.Names.{NamesData}
+use Rattle.mama_log_line.specs.Entering.{MayEnterBridge, MayEnterTimers, MayEnterQueue, BridgeFrom, TimersFrom, QueueFrom}
+use Rattle.mama_log_read.specs.Section.{head_of}
+use Rattle.mama_log_read.specs.Part.{clock_body, bridge_body, timers_body, queue_body, order_body, image_body}
+use Rattle.mama_log_read.specs.declared.section.Section.{Section}
+use Rattle.mama_log_read.specs.declared.section.Section.TheVariants as s
+
+abbrev first : List ℕ → ℕ
+first [] = 0
+first (b ∷ bs) = b
+
+abbrev others : List ℕ → List ℕ
+others [] = []
+others (b ∷ bs) = bs
+
+abbrev begins : ℕ → ℕ → ℕ → List ℕ → Bool
+begins a b c l = first l == a && (first (others l) == b && first (others (others l)) == c)
+
+-- the first three bytes are those of a line that begins a section
+abbrev pub is_head : List ℕ → Bool
+is_head l =
+    begins 109 97 109 l || (begins 99 108 105 l || (begins 112 117 98 l || (begins 98 114 105 l || (begins 116 105 109 l || (begins 113 117 101 l || (begins 111 110 32 l || (begins 105 109 97 l || begins 101 110 100 l)))))))
+
+pub head_is : (section : Section) → is_head (head_of section) ≡ true
+head_is s.Title = refl
+head_is (s.Client n) = refl
+head_is (s.Publisher n) = refl
+head_is s.Bridge = refl
+head_is s.Timers = refl
+head_is (s.Queue n) = refl
+head_is (s.Object o) = refl
+head_is s.Images = refl
+head_is s.End = refl
+
+pub moment_no_head : (m : ℕ) → is_head (clock_body m) ≡ false
+moment_no_head m = refl
+
+pub publisher_no_head : (e : PublisherEntry) → is_head (publisher_entry_text e) ≡ false
+publisher_no_head Send = refl
+publisher_no_head Done = refl
+publisher_no_head (Took (p.Want sub kind)) = refl
+publisher_no_head (Took (p.Ask inbox fids)) = refl
+publisher_no_head (Took p.Settle) = refl
+publisher_no_head (Took p.Fin) = refl
+
+pub call_no_head : (c : Callback) → is_head (callback_text c) ≡ false
+call_no_head on.Create = refl
+call_no_head (on.Msg msg quality) = refl
+call_no_head (on.Gap first to) = refl
+call_no_head (on.Quality quality number) = refl
+call_no_head (on.RecapRequest sender) = refl
+call_no_head (on.Error code) = refl
+call_no_head on.Destroy = refl
+call_no_head (on.Tick moment) = refl
+call_no_head (on.Reply body) = refl
+
+pub order_no_head : (o : Order) → is_head (order_body o) ≡ false
+order_no_head o = refl
+
+pub image_no_head : (i : LastImage) → is_head (image_body i) ≡ false
+image_no_head i = refl
+
+-- a callback's line is no order's
+pub call_no_order : (c : Callback) (o : Order) → callback_text c ≡ order_body o → ⊥
+call_no_order c o e = let k : false ≡ true = sym (not_o c) ∙ ap (λ (l : List ℕ). begins 111 114 100 l) e in cc
+  where
+    not_o : (c : Callback) → begins 111 114 100 (callback_text c) ≡ false
+    not_o on.Create = refl
+    not_o (on.Msg msg quality) = refl
+    not_o (on.Gap first to) = refl
+    not_o (on.Quality quality number) = refl
+    not_o (on.RecapRequest sender) = refl
+    not_o (on.Error code) = refl
+    not_o on.Destroy = refl
+    not_o (on.Tick moment) = refl
+    not_o (on.Reply body) = refl
+
+-- ---- who put an event
+
+first_digit : (ds t : List ℕ) (b : ℕ) → list_all is_digit ds ≡ true → 0 < length ds → is_digit b ≡ false → eqb (first (ds ++ t)) b ≡ false
+first_digit [] t b h some not_b = absurd (omega arith)
+first_digit (d ∷ ds) t b h some not_b = ne_eqb d b (λ e. let p = and_parts (is_digit d) (list_all is_digit ds) h in let k : true ≡ false = sym p.0 ∙ ap is_digit e ∙ not_b in absurd cc)
+
+number_first : (n : ℕ) (t : List ℕ) (b : ℕ) → n < 2 ^ 64 → is_digit b ≡ false → eqb (first (decimal n ++ t)) b ≡ false
+number_first n t b small not_b = first_digit (decimal n) t b (decimal_digits n small) (decimal_nonempty n small) not_b
+
+client_no_head : (c : ℕ) (t : List ℕ) → c < 2 ^ 64 → is_head (99 ∷ (decimal c ++ t)) ≡ false
+client_no_head c t small = rw (number_first c t 108 small refl) refl
+
+publisher_put_no_head : (c : ℕ) (t : List ℕ) → c < 2 ^ 64 → is_head (112 ∷ (decimal c ++ t)) ≡ false
+publisher_put_no_head c t small = rw (number_first c t 117 small refl) refl
+
+queue_put_no_head : (c : ℕ) (t : List ℕ) → c < 2 ^ 64 → is_head (113 ∷ (decimal c ++ t)) ≡ false
+queue_put_no_head c t small = rw (number_first c t 117 small refl) refl
+
+abbrev IsSmall : Putter → Type 0
+IsSmall (ByClient c) = c < 2 ^ 64
+IsSmall (ByPublisher n) = n < 2 ^ 64
+IsSmall (ByQueue n) = n < 2 ^ 64
+IsSmall _ = Unit {0}
+
+abbrev IsSomebody : Putter → Type 0
+IsSomebody ByNobody = ⊥
+IsSomebody _ = Unit {0}
+
+putter_no_head : (putter : Putter) (t : List ℕ) → IsSmall putter → IsSomebody putter → is_head (putter_text putter ++ 32 ∷ t) ≡ false
+putter_no_head (ByClient c) t small some = client_no_head c (32 ∷ t) small
+putter_no_head (ByPublisher n) t small some = publisher_put_no_head n (32 ∷ t) small
+putter_no_head (ByQueue n) t small some = queue_put_no_head n (32 ∷ t) small
+putter_no_head ByBridge t small some = refl
+putter_no_head ByTimers t small some = refl
+putter_no_head ByNobody t small some = absurd some
+
+chosen : (b c d : Bool) (x y z w : Putter) → IsSmall x → IsSmall y → IsSmall z → IsSmall w → IsSmall (cond b x (cond c y (cond d z w)))
+chosen true c d x y z w h k l m = h
+chosen false true d x y z w h k l m = k
+chosen false false true x y z w h k l m = l
+chosen false false false x y z w h k l m = m
+
+bridge_small : (shape : Shape) (port : ℕ) → port < 2 ^ 32 → IsSmall (bridge_putter shape port)
+bridge_small shape port small =
+    chosen (is_bridge_port_of_client shape port) (is_bridge_port_of_publisher shape port) (is_bridge_port_of_queue shape port) (ByClient port) (ByPublisher (port - clients_of shape)) (ByQueue (port - clients_of shape - publishers_of shape)) ByNobody
+    (omega (arith, small)) (omega (arith, small)) (omega (arith, small)) tt
+
+timers_small : (shape : Shape) (port : ℕ) → port < 2 ^ 32 → IsSmall (timers_putter shape port)
+timers_small shape port small =
+    chosen (is_timers_port_of_client shape port) (is_timers_port_of_queue shape port) (is_timers_port_of_bridge shape port) (ByClient port) (ByQueue (port - clients_of shape)) ByBridge ByNobody (omega (arith, small)) (omega (arith, small)) tt tt
+
+queue_small : (port : ℕ) → IsSmall (queue_putter port)
+queue_small port = chosen (port == queue_port_of_bridge) (port == queue_port_of_timers) false ByBridge ByTimers ByNobody ByNobody tt tt tt tt
+
+bridge_some : (names : NamesData) (putter : Putter) (note : BridgeNote) → BridgeFrom names putter note → IsSomebody putter
+bridge_some names (ByClient c) note h = tt
+bridge_some names (ByPublisher n) note h = tt
+bridge_some names (ByQueue n) note h = tt
+bridge_some names ByBridge note h = tt
+bridge_some names ByTimers note h = tt
+bridge_some names ByNobody note h = h
+
+timers_some : (names : NamesData) (putter : Putter) (note : TimersNote) → TimersFrom names putter note → IsSomebody putter
+timers_some names (ByClient c) note h = tt
+timers_some names (ByPublisher n) note h = tt
+timers_some names (ByQueue n) note h = tt
+timers_some names ByBridge note h = tt
+timers_some names ByTimers note h = tt
+timers_some names ByNobody note h = h
+
+queue_some : (names : NamesData) (putter : Putter) (note : QueueNote) → QueueFrom names putter note → IsSomebody putter
+queue_some names (ByClient c) note h = tt
+queue_some names (ByPublisher n) note h = tt
+queue_some names (ByQueue n) note h = tt
+queue_some names ByBridge note h = tt
+queue_some names ByTimers note h = tt
+queue_some names ByNobody note h = h
+
+pub bridge_no_head : (names : NamesData) (e : ℕ × BridgeNote) → MayEnterBridge names e → is_head (bridge_body names.shape e) ≡ false
+bridge_no_head names e h = putter_no_head (bridge_putter names.shape e.0) (bridge_note_text e.1) (bridge_small names.shape e.0 h.port) (bridge_some names (bridge_putter names.shape e.0) e.1 h.note)
+
+pub timers_no_head : (names : NamesData) (e : ℕ × TimersNote) → MayEnterTimers names e → is_head (timers_body names.shape e) ≡ false
+timers_no_head names e h = putter_no_head (timers_putter names.shape e.0) (timers_note_text e.1) (timers_small names.shape e.0 h.port) (timers_some names (timers_putter names.shape e.0) e.1 h.note)
+
+pub queue_no_head : (names : NamesData) (e : ℕ × QueueNote) → MayEnterQueue names e → is_head (queue_body e) ≡ false
+queue_no_head names e h = putter_no_head (queue_putter e.0) (queue_note_text e.1) (queue_small e.0) (queue_some names (queue_putter e.0) e.1 h)

@@ -1,0 +1,162 @@
+-- Parts that fit the sections of a script are those of a record that its log can tell.
+use Rattle.std.proofs.Common.{◌≡◌, ℕ, suc, Bool, true, false, List, [], ◌∷◌, ◌++◌, length, map, Some, refl, ap, ◌∙◌}
+use Rattle.std.specs.List.{All, AllByRecursion}
+use Rattle.std.proofs.lemmas.List.Elements.{All-from_recursion, recursion_from_All}
+use Rattle.mama_event.specs.declared.ids.SubId.{SubId}
+use Rattle.mama_event.specs.declared.ids.ObjectId.{ObjectId}
+use Rattle.mama_event.specs.declared.ids.ObjectId.TheVariants.{Sub}
+use Rattle.mama_event.specs.Object.{same_object}
+use Rattle.mama_event.specs.Ports.{queues_of}
+use Rattle.mama_script.specs.Script.{ScriptData}
+use Rattle.mama_rules_legal.specs.Form.{objects_of, in_order}
+use Rattle.mama_record.specs.RunData.{RunData, ObjectCalls}
+use Rattle.mama_log_line.specs.Names.{NamesData, names_of}
+use Rattle.mama_log_line.specs.Entering.{MayEnterPublisher, MayEnterBridge, MayEnterTimers, MayEnterQueue}
+use Rattle.mama_log_read.specs.Logged.{IsMoment, MayHearAll, IsLogged}
+use Rattle.mama_log_read.specs.Section.{numbered_from, sections}
+use Rattle.mama_log_read.specs.Part.{Part, Bare, Moments, Sends, OnBridge, OnTimers, OnQueue, Pictures, Filled, Fits, ArePictures, behind_all}
+use Rattle.mama_log_read.specs.declared.section.Section.{Section}
+use Rattle.mama_log_read.specs.declared.section.Section.TheVariants as s
+use Rattle.mama_log_read.proofs.Whole.{numbered_parts, heard_part, last_parts, parts_of, AllFit, named, first, split, split_calls, moments_in, sends_in, queue_in, bridge_in, timers_in, pictures_in, title_in, end_in}
+
+-- ---- images in order
+
+abbrev LeftBy : List ObjectId → List SubId → Type 0
+LeftBy objects subs = (left : List ObjectId) × (behind_all objects subs ≡ Some left)
+
+order_step : (o : ObjectId) (objects : List ObjectId) (sub : SubId) (subs : List SubId) (b : Bool) → same_object o (Sub sub) ≡ b
+    → (in_order objects subs ≡ true → LeftBy objects subs) → (in_order objects (sub ∷ subs) ≡ true → LeftBy objects (sub ∷ subs)) → in_order (o ∷ objects) (sub ∷ subs) ≡ true → LeftBy (o ∷ objects) (sub ∷ subs)
+order_step o objects sub subs true e here later h = let k = here (rw e at h) in (k.0, rw e k.1)
+order_step o objects sub subs false e here later h = let k = later (rw e at h) in (k.0, rw e k.1)
+
+pub order_left : (objects : List ObjectId) (subs : List SubId) → in_order objects subs ≡ true → LeftBy objects subs
+order_left objects [] h = (objects, refl)
+order_left [] (sub ∷ subs) h = absurd cc
+order_left (o ∷ objects) (sub ∷ subs) h = order_step o objects sub subs (same_object o (Sub sub)) refl (order_left objects subs) (order_left objects (sub ∷ subs)) h
+
+left_step : (o : ObjectId) (objects : List ObjectId) (sub : SubId) (subs : List SubId) (left : List ObjectId) (b : Bool) → same_object o (Sub sub) ≡ b
+    → (behind_all objects subs ≡ Some left → in_order objects subs ≡ true) → (behind_all objects (sub ∷ subs) ≡ Some left → in_order objects (sub ∷ subs) ≡ true) → behind_all (o ∷ objects) (sub ∷ subs) ≡ Some left → in_order (o ∷ objects) (sub ∷ subs) ≡ true
+left_step o objects sub subs left true e here later h = rw e (here (rw e at h))
+left_step o objects sub subs left false e here later h = rw e (later (rw e at h))
+
+pub left_order : (objects : List ObjectId) (subs : List SubId) (left : List ObjectId) → behind_all objects subs ≡ Some left → in_order objects subs ≡ true
+left_order objects [] left h = refl
+left_order [] (sub ∷ subs) left h = absurd cc
+left_order (o ∷ objects) (sub ∷ subs) left h = left_step o objects sub subs left (same_object o (Sub sub)) refl (left_order objects subs left) (left_order objects (sub ∷ subs) left) h
+
+-- ---- the record of parts that fit
+
+none_named : (fs : List Filled) → named fs ≡ [] → fs ≡ []
+none_named [] e = refl
+none_named (f ∷ fs) e = absurd cc
+
+pub record IsRecord (script : ScriptData) (fs : List Filled) : Type 0 where
+  pub run : RunData
+  pub logged : IsLogged script run
+  pub is : fs ≡ parts_of run
+
+pub whole : (script : ScriptData) (fs : List Filled) → named fs ≡ sections script → AllFit (names_of script) (objects_of script) fs → IsRecord script fs
+whole script fs e h =
+    let names = names_of script in
+    let objects = objects_of script in
+    let at_end : List Section = s.Images ∷ s.End ∷ [] in
+    let at_objects : List Section = map s.Object objects ++ at_end in
+    let at_queues : List Section = numbered_from s.Queue 0 (queues_of script.shape) ++ at_objects in
+    let at_timers : List Section = s.Timers ∷ at_queues in
+    let at_bridge : List Section = s.Bridge ∷ at_timers in
+    let at_publishers : List Section = numbered_from s.Publisher 0 (length script.publishers) ++ at_bridge in
+    let at_clients : List Section = numbered_from s.Client 0 (length script.clients) ++ at_publishers in
+    let t = first {A = Unit {0}} names objects s.Title (λ x. Bare) (λ x. Unit {0}) (title_in names objects) at_clients fs e h in
+    let c = split names objects s.Client Moments (λ x. All IsMoment x) (moments_in names objects) 0 (length script.clients) at_publishers t.rest t.name t.fits in
+    let p = split names objects s.Publisher Sends (λ x. All (MayEnterPublisher names) x) (sends_in names objects) 0 (length script.publishers) at_bridge c.rest c.name c.fits in
+    let b = first names objects s.Bridge OnBridge (λ x. All (MayEnterBridge names) x) (bridge_in names objects) at_timers p.rest p.name p.fits in
+    let m = first names objects s.Timers OnTimers (λ x. All (MayEnterTimers names) x) (timers_in names objects) at_queues b.rest b.name b.fits in
+    let q = split names objects s.Queue OnQueue (λ x. All (MayEnterQueue names) x) (queue_in names objects) 0 (queues_of script.shape) at_objects m.rest m.name m.fits in
+    let o = split_calls names objects objects at_end q.rest q.name q.fits in
+    let i = first names objects s.Images Pictures (λ x. (left : List ObjectId) × ArePictures names objects x left) (pictures_in names objects) (s.End ∷ []) o.rest o.name o.fits in
+    let z = first {A = Unit {0}} names objects s.End (λ x. Bare) (λ x. Unit {0}) (end_in names objects) [] i.rest i.name i.fits in
+    let run : RunData = record { clients = c.entries; publishers = p.entries; bridge = b.entries; timers = m.entries; queues = q.entries; calls = o.calls; images = i.entries } in
+    let end_is : i.rest ≡ (s.End, Bare) ∷ [] = z.is ∙ ap (λ (x : List Filled). (s.End, Bare) ∷ x) (none_named z.rest z.name) in
+    let images_are : o.rest ≡ last_parts i.entries = i.is ∙ ap (λ (x : List Filled). (s.Images, Pictures i.entries) ∷ x) end_is in
+    let objects_are = o.is ∙ ap (λ (x : List Filled). map heard_part o.calls ++ x) images_are in
+    let queues_are = q.is ∙ ap (λ (x : List Filled). numbered_parts s.Queue OnQueue 0 q.entries ++ x) objects_are in
+    let timers_are = m.is ∙ ap (λ (x : List Filled). (s.Timers, OnTimers m.entries) ∷ x) queues_are in
+    let bridge_are = b.is ∙ ap (λ (x : List Filled). (s.Bridge, OnBridge b.entries) ∷ x) timers_are in
+    let publishers_are = p.is ∙ ap (λ (x : List Filled). numbered_parts s.Publisher Sends 0 p.entries ++ x) bridge_are in
+    let clients_are = c.is ∙ ap (λ (x : List Filled). numbered_parts s.Client Moments 0 c.entries ++ x) publishers_are in
+    record {
+      run = run;
+      logged = record {
+        formed = record {
+          counted = record { clients = c.counted; publishers = p.counted; queues = q.counted; objects = o.of };
+          images = left_order objects (map (λ x. x.sub) i.entries) i.may.0 i.may.1.ordered;
+        };
+        clients = All-from_recursion (λ x. All IsMoment x) c.entries c.may;
+        publishers = All-from_recursion (λ x. All (MayEnterPublisher names) x) p.entries p.may;
+        bridge = b.may;
+        timers = m.may;
+        queues = All-from_recursion (λ x. All (MayEnterQueue names) x) q.entries q.may;
+        calls = All-from_recursion (MayHearAll names) o.calls o.may;
+        images = i.may.1.each;
+      };
+      is = t.is ∙ ap (λ (x : List Filled). (s.Title, Bare) ∷ x) clients_are;
+    }
+
+-- ---- the parts of a record fit
+
+named_numbered : {A : Type 0} (section : ℕ → Section) (wrap : A → Part) (n : ℕ) (xs : List A) (fs : List Filled) → named (numbered_parts section wrap n xs ++ fs) ≡ numbered_from section n (length xs) ++ named fs
+named_numbered section wrap n [] fs = refl
+named_numbered section wrap n (x ∷ xs) fs = ap (λ (t : List Section). section n ∷ t) (named_numbered section wrap (suc n) xs fs)
+
+named_heard : (calls : List ObjectCalls) (fs : List Filled) → named (map heard_part calls ++ fs) ≡ map s.Object (map (λ c. c.object) calls) ++ named fs
+named_heard [] fs = refl
+named_heard (c ∷ calls) fs = ap (λ (t : List Section). s.Object c.object ∷ t) (named_heard calls fs)
+
+fit_numbered : {A : Type 0} (names : NamesData) (objects : List ObjectId) (section : ℕ → Section) (wrap : A → Part) (May : A → Type 0) → ((n : ℕ) (x : A) → May x → Fits names objects (section n) (wrap x))
+    → (n : ℕ) (xs : List A) (fs : List Filled) → AllByRecursion May xs → AllFit names objects fs → AllFit names objects (numbered_parts section wrap n xs ++ fs)
+fit_numbered names objects section wrap May each n [] fs h k = k
+fit_numbered names objects section wrap May each n (x ∷ xs) fs h k = (each n x h.0, fit_numbered names objects section wrap May each (suc n) xs fs h.1 k)
+
+fit_heard : (names : NamesData) (objects : List ObjectId) (calls : List ObjectCalls) (fs : List Filled) → AllByRecursion (MayHearAll names) calls → AllFit names objects fs → AllFit names objects (map heard_part calls ++ fs)
+fit_heard names objects [] fs h k = k
+fit_heard names objects (c ∷ calls) fs h k = ((refl, h.0), fit_heard names objects calls fs h.1 k)
+
+pub parts_named : (script : ScriptData) (run : RunData) → IsLogged script run → named (parts_of run) ≡ sections script
+parts_named script run h =
+    let counts = h.formed.counted in
+    let at_end : List Section = s.Images ∷ s.End ∷ [] in
+    let at_objects : List Section = map s.Object (objects_of script) ++ at_end in
+    let at_queues : List Section = numbered_from s.Queue 0 (queues_of script.shape) ++ at_objects in
+    let at_bridge : List Section = s.Bridge ∷ s.Timers ∷ at_queues in
+    let at_publishers : List Section = numbered_from s.Publisher 0 (length script.publishers) ++ at_bridge in
+    let objects_part = map heard_part run.calls ++ last_parts run.images in
+    let queues_part = numbered_parts s.Queue OnQueue 0 run.queues ++ objects_part in
+    let bridge_part : List Filled = (s.Bridge, OnBridge run.bridge) ∷ (s.Timers, OnTimers run.timers) ∷ queues_part in
+    let publishers_part = numbered_parts s.Publisher Sends 0 run.publishers ++ bridge_part in
+    let objects_are : named objects_part ≡ at_objects = named_heard run.calls (last_parts run.images) ∙ ap (λ (os : List ObjectId). map s.Object os ++ at_end) counts.objects in
+    let queues_are : named queues_part ≡ at_queues =
+    named_numbered s.Queue OnQueue 0 run.queues objects_part ∙ ap (λ (k : ℕ). numbered_from s.Queue 0 k ++ named objects_part) counts.queues ∙ ap (λ (t : List Section). numbered_from s.Queue 0 (queues_of script.shape) ++ t) objects_are in
+    let bridge_are : named bridge_part ≡ at_bridge = ap (λ (t : List Section). s.Bridge ∷ s.Timers ∷ t) queues_are in
+    let publishers_are : named publishers_part ≡ at_publishers =
+    named_numbered s.Publisher Sends 0 run.publishers bridge_part ∙ ap (λ (k : ℕ). numbered_from s.Publisher 0 k ++ named bridge_part) counts.publishers ∙ ap (λ (t : List Section). numbered_from s.Publisher 0 (length script.publishers) ++ t) bridge_are in
+    ap (λ (t : List Section). s.Title ∷ t) (
+    named_numbered s.Client Moments 0 run.clients publishers_part
+    ∙ ap (λ (k : ℕ). numbered_from s.Client 0 k ++ named publishers_part) counts.clients
+    ∙ ap (λ (t : List Section). numbered_from s.Client 0 (length script.clients) ++ t) publishers_are)
+
+pub parts_fit : (script : ScriptData) (run : RunData) → IsLogged script run → AllFit (names_of script) (objects_of script) (parts_of run)
+parts_fit script run h =
+    let names = names_of script in
+    let objects = objects_of script in
+    let ordered = order_left objects (map (λ x. x.sub) run.images) h.formed.images in
+    let pictures : ArePictures names objects run.images ordered.0 = record { each = h.images; ordered = ordered.1 } in
+    let at_end : AllFit names objects (last_parts run.images) = ((ordered.0, pictures), (tt, tt)) in
+    let at_objects = fit_heard names objects run.calls (last_parts run.images) (recursion_from_All (MayHearAll names) run.calls h.calls) at_end in
+    let objects_part = map heard_part run.calls ++ last_parts run.images in
+    let at_queues =
+    fit_numbered names objects s.Queue OnQueue (λ x. All (MayEnterQueue names) x) (λ n x m. m) 0 run.queues objects_part (recursion_from_All (λ x. All (MayEnterQueue names) x) run.queues h.queues) at_objects in
+    let bridge_part : List Filled = (s.Bridge, OnBridge run.bridge) ∷ (s.Timers, OnTimers run.timers) ∷ (numbered_parts s.Queue OnQueue 0 run.queues ++ objects_part) in
+    let at_bridge : AllFit names objects bridge_part = (h.bridge, (h.timers, at_queues)) in
+    let at_publishers =
+    fit_numbered names objects s.Publisher Sends (λ x. All (MayEnterPublisher names) x) (λ n x m. m) 0 run.publishers bridge_part (recursion_from_All (λ x. All (MayEnterPublisher names) x) run.publishers h.publishers) at_bridge in
+    (tt, fit_numbered names objects s.Client Moments (λ x. All IsMoment x) (λ n x m. m) 0 run.clients (numbered_parts s.Publisher Sends 0 run.publishers ++ bridge_part) (recursion_from_All (λ x. All IsMoment x) run.clients h.clients) at_publishers)

@@ -1,0 +1,117 @@
+-- The lines of entries: each is one line, and spells one entry.
+use Rattle.std.proofs.Common.{◌≡◌, ℕ, List, [], ◌∷◌, ◌++◌, Result, Ok, refl, sym, ap, ◌∙◌}
+use Rattle.std.specs.Prelude.{◌&&◌, not}
+use Rattle.std.specs.List.{list_all, list_any}
+use Rattle.std.proofs.lemmas.Bool.{and_parts}
+use Rattle.mama_event.specs.declared.ids.ObjectId.{ObjectId}
+use Rattle.mama_event.specs.declared.order.Order.{Order}
+use Rattle.mama_event.specs.declared.callback.Callback.{Callback}
+use Rattle.mama_event.specs.declared.to_bridge.BridgeNote.{BridgeNote}
+use Rattle.mama_event.specs.declared.to_timers.TimersNote.{TimersNote}
+use Rattle.mama_event.specs.declared.to_queue.QueueNote.{QueueNote}
+use Rattle.mama_event.specs.declared.publisher_entry.PublisherEntry.{PublisherEntry}
+use Rattle.mama_words.specs.Reading.{◌>>=◌, or_fault}
+use Rattle.mama_words.specs.Parting.{parted_in, is_plain, is_parted, is_outside, place_after, is_empty_word, words}
+use Rattle.mama_words.specs.declared.parting.Place.TheVariants.{Outside}
+use Rattle.mama_words.proofs.Choices.{ok_is, step_ok, chosen_some}
+use Rattle.mama_words.proofs.Cutting.{all_lack}
+use Rattle.mama_record.specs.RunData.{LastImage}
+use Rattle.mama_record.specs.LogText.{publisher_entry_text, callback_text}
+use Rattle.mama_log_line.specs.Names.{NamesData}
+use Rattle.mama_log_line.specs.Entering.{MayEnterPublisher, MayEnterBridge, MayEnterTimers, MayEnterQueue, MayHear, MayOrder, IsLastImage}
+use Rattle.mama_log_line.specs.Journal.{publisher_line_in, publisher_words_in, bridge_line_in, bridge_words_in, timers_line_in, timers_words_in, queue_line_in, queue_words_in}
+use Rattle.mama_log_line.specs.Calls.{call_line_in, call_words_in, order_line_in, order_words_in, clock_line_in, clock_words_in, image_line_in, image_words_in}
+use Rattle.mama_log_line.proofs.PublisherLaws.{publisher_again}
+use Rattle.mama_log_line.proofs.BridgeLaws.{bridge_again}
+use Rattle.mama_log_line.proofs.TimersLaws.{timers_again}
+use Rattle.mama_log_line.proofs.QueueLaws.{queue_again}
+use Rattle.mama_log_line.proofs.CallLaws.{call_again}
+use Rattle.mama_log_line.proofs.OtherLaws.{order_line_again, clock_again, image_again}
+use Rattle.mama_log_read.specs.Logged.{IsMoment}
+use Rattle.mama_log_read.specs.Part.{clock_body, bridge_body, timers_body, queue_body, order_body, image_body}
+use Rattle.mama_log_read.proofs.Lines.{IsPlain}
+
+-- a line that was read has no line feed in it
+plain_read : {E : Type 0} (read : List (List ℕ) → Result E ℕ) (line : List ℕ) (e : E) → (or_fault 2 (parted_in line) >>= read) ≡ Ok e → IsPlain line
+plain_read read line e h =
+    let p = step_ok 2 (parted_in line) read e h in
+    let parted = chosen_some (is_parted line) (words line) p.0 p.1 in
+    let q = and_parts (list_all is_plain line && is_outside (place_after Outside line)) (not (list_any is_empty_word (words line))) parted.0 in
+    let r = and_parts (list_all is_plain line) (is_outside (place_after Outside line)) q.0 in
+    all_lack is_plain 10 line refl r.0
+
+-- two values that one line is read as
+one_read : {E : Type 0} (r : Result E ℕ) (x y : E) → r ≡ Ok x → r ≡ Ok y → x ≡ y
+one_read r x y h k = ok_is x y (sym h ∙ k)
+
+ended : (l m : List ℕ) → l ≡ m → l ++ 10 ∷ [] ≡ m ++ 10 ∷ []
+ended l m e = ap (λ (t : List ℕ). t ++ 10 ∷ []) e
+
+pub plain_moment : (m : ℕ) → IsMoment m → IsPlain (clock_body m)
+unfolding clock_line_in
+plain_moment m h = plain_read clock_words_in (clock_body m) m (clock_again (clock_body m) m h refl)
+
+pub same_moment : (m n : ℕ) → IsMoment m → IsMoment n → clock_body m ≡ clock_body n → m ≡ n
+same_moment m n h k e = one_read (clock_line_in (clock_body m)) m n (clock_again (clock_body m) m h refl) (clock_again (clock_body m) n k (ended (clock_body m) (clock_body n) e))
+
+pub plain_publisher : (names : NamesData) (e : PublisherEntry) → MayEnterPublisher names e → IsPlain (publisher_entry_text e)
+unfolding publisher_line_in
+plain_publisher names e h = plain_read (publisher_words_in names) (publisher_entry_text e) e (publisher_again names (publisher_entry_text e) e h refl)
+
+pub same_publisher : (names : NamesData) (d e : PublisherEntry) → MayEnterPublisher names d → MayEnterPublisher names e → publisher_entry_text d ≡ publisher_entry_text e → d ≡ e
+same_publisher names d e h k same =
+    one_read (publisher_line_in names (publisher_entry_text d)) d e (publisher_again names (publisher_entry_text d) d h refl) (publisher_again names (publisher_entry_text d) e k (ended (publisher_entry_text d) (publisher_entry_text e) same))
+
+pub plain_bridge : (names : NamesData) (e : ℕ × BridgeNote) → MayEnterBridge names e → IsPlain (bridge_body names.shape e)
+unfolding bridge_line_in
+plain_bridge names e h = plain_read (bridge_words_in names) (bridge_body names.shape e) e (bridge_again names (bridge_body names.shape e) e h refl)
+
+pub same_bridge : (names : NamesData) (d e : ℕ × BridgeNote) → MayEnterBridge names d → MayEnterBridge names e → bridge_body names.shape d ≡ bridge_body names.shape e → d ≡ e
+same_bridge names d e h k same =
+    let text = bridge_body names.shape d in
+    one_read (bridge_line_in names text) d e (bridge_again names text d h refl) (bridge_again names text e k (ended text (bridge_body names.shape e) same))
+
+pub plain_timers : (names : NamesData) (e : ℕ × TimersNote) → MayEnterTimers names e → IsPlain (timers_body names.shape e)
+unfolding timers_line_in
+plain_timers names e h = plain_read (timers_words_in names) (timers_body names.shape e) e (timers_again names (timers_body names.shape e) e h refl)
+
+pub same_timers : (names : NamesData) (d e : ℕ × TimersNote) → MayEnterTimers names d → MayEnterTimers names e → timers_body names.shape d ≡ timers_body names.shape e → d ≡ e
+same_timers names d e h k same =
+    let text = timers_body names.shape d in
+    one_read (timers_line_in names text) d e (timers_again names text d h refl) (timers_again names text e k (ended text (timers_body names.shape e) same))
+
+pub plain_queue : (names : NamesData) (e : ℕ × QueueNote) → MayEnterQueue names e → IsPlain (queue_body e)
+unfolding queue_line_in
+plain_queue names e h = plain_read (queue_words_in names) (queue_body e) e (queue_again names (queue_body e) e h refl)
+
+pub same_queue : (names : NamesData) (d e : ℕ × QueueNote) → MayEnterQueue names d → MayEnterQueue names e → queue_body d ≡ queue_body e → d ≡ e
+same_queue names d e h k same =
+    let text = queue_body d in
+    one_read (queue_line_in names text) d e (queue_again names text d h refl) (queue_again names text e k (ended text (queue_body e) same))
+
+pub plain_call : (object : ObjectId) (c : Callback) → MayHear object c → IsPlain (callback_text c)
+unfolding call_line_in
+plain_call object c h = plain_read (call_words_in object) (callback_text c) c (call_again object (callback_text c) c h refl)
+
+pub same_call : (object : ObjectId) (c d : Callback) → MayHear object c → MayHear object d → callback_text c ≡ callback_text d → c ≡ d
+same_call object c d h k same =
+    let text = callback_text c in
+    one_read (call_line_in object text) c d (call_again object text c h refl) (call_again object text d k (ended text (callback_text d) same))
+
+pub plain_order : (names : NamesData) (o : Order) → MayOrder names o → IsPlain (order_body o)
+unfolding order_line_in
+plain_order names o h = plain_read (order_words_in names) (order_body o) o (order_line_again names (order_body o) o h refl)
+
+pub same_order : (names : NamesData) (o p : Order) → MayOrder names o → MayOrder names p → order_body o ≡ order_body p → o ≡ p
+same_order names o p h k same =
+    let text = order_body o in
+    one_read (order_line_in names text) o p (order_line_again names text o h refl) (order_line_again names text p k (ended text (order_body p) same))
+
+pub plain_image : (names : NamesData) (i : LastImage) → IsLastImage names i → IsPlain (image_body i)
+unfolding image_line_in
+plain_image names i h = plain_read (image_words_in names) (image_body i) i (image_again names (image_body i) i h refl)
+
+pub same_image : (names : NamesData) (i j : LastImage) → IsLastImage names i → IsLastImage names j → image_body i ≡ image_body j → i ≡ j
+same_image names i j h k same =
+    let text = image_body i in
+    one_read (image_line_in names text) i j (image_again names text i h refl) (image_again names text j k (ended text (image_body j) same))

@@ -1,0 +1,9 @@
+use Rattle.std.proofs.Common.{length}
+use Rattle.mama_log_read.proofs.Taking.{IsCounting}
+use Rattle.mama_log_read.proofs.parsing.line_number.Given as goal
+
+abbrev pub invariant-loop-left : goal.invariant-loop-left
+invariant-loop-left l = IsCounting l.fn.text l.left l.rest l.number
+
+abbrev pub decreases-loop-left : goal.decreases-loop-left
+decreases-loop-left l = length l.left

@@ -1,0 +1,137 @@
+-- inner: What a section of a log says: its entries, and their lines.
+use Rattle.std.specs.Prelude.{◌≡◌, ℕ, codes, List, [], ◌∷◌, ◌++◌, map, Option, Some, None, option_and_then, if◌then◌else◌}
+use Rattle.std.specs.List.{All, flat_map}
+use Rattle.mama_edge.specs.Decimal.{decimal}
+use Rattle.mama_words.specs.Field.{fields_text}
+use Rattle.mama_words.specs.Order.{order_text, word_of}
+use Rattle.mama_event.specs.Object.{same_object}
+use Rattle.mama_event.specs.declared.shape.Shape.{Shape}
+use Rattle.mama_event.specs.declared.ids.SubId.{SubId}
+use Rattle.mama_event.specs.declared.ids.ObjectId.{ObjectId}
+use Rattle.mama_event.specs.declared.ids.ObjectId.TheVariants.{Sub}
+use Rattle.mama_event.specs.declared.order.Order.{Order}
+use Rattle.mama_event.specs.declared.callback.CallNote.{CallNote}
+use Rattle.mama_event.specs.declared.to_bridge.BridgeNote.{BridgeNote}
+use Rattle.mama_event.specs.declared.to_timers.TimersNote.{TimersNote}
+use Rattle.mama_event.specs.declared.to_queue.QueueNote.{QueueNote}
+use Rattle.mama_event.specs.declared.publisher_entry.PublisherEntry.{PublisherEntry}
+use Rattle.mama_rules_services.specs.Ports.{bridge_putter, timers_putter, queue_putter}
+use Rattle.mama_record.specs.RunData.{RunData, ObjectCalls, LastImage}
+use Rattle.mama_record.specs.LogText.{putter_text, bridge_note_text, timers_note_text, queue_note_text, publisher_entry_text, callback_text, image_head_text}
+use Rattle.mama_log_line.specs.Names.{NamesData}
+use Rattle.mama_log_line.specs.Entering.{MayEnterPublisher, MayEnterBridge, MayEnterTimers, MayEnterQueue, IsLastImage}
+use Rattle.mama_log_read.specs.Logged.{IsMoment, MayHearAll}
+use Rattle.mama_log_read.specs.Section.{head_of}
+use Rattle.mama_log_read.specs.declared.section.Section.{Section}
+use Rattle.mama_log_read.specs.declared.section.Section.TheVariants as s
+
+-- the entries of a section, by its kind
+pub data Part : Type 0 where
+  Bare : Part
+  Moments : List ℕ → Part
+  Sends : List PublisherEntry → Part
+  OnBridge : List (ℕ × BridgeNote) → Part
+  OnTimers : List (ℕ × TimersNote) → Part
+  OnQueue : List (ℕ × QueueNote) → Part
+  Heard : ObjectCalls → Part
+  Pictures : List LastImage → Part
+
+-- THE LINES OF ENTRIES, EACH WITHOUT ITS LF
+
+abbrev pub clock_body : ℕ → List ℕ
+clock_body moment = codes "clock " ++ decimal moment
+
+abbrev pub bridge_body : Shape → ℕ × BridgeNote → List ℕ
+bridge_body shape e = putter_text (bridge_putter shape e.0) ++ 32 ∷ bridge_note_text e.1
+
+abbrev pub timers_body : Shape → ℕ × TimersNote → List ℕ
+timers_body shape e = putter_text (timers_putter shape e.0) ++ 32 ∷ timers_note_text e.1
+
+abbrev pub queue_body : ℕ × QueueNote → List ℕ
+queue_body e = putter_text (queue_putter e.0) ++ 32 ∷ queue_note_text e.1
+
+abbrev pub order_body : Order → List ℕ
+order_body o = codes "order " ++ order_text (word_of o)
+
+abbrev pub call_bodies : CallNote → List (List ℕ)
+call_bodies c = callback_text c.call ∷ map order_body c.orders
+
+abbrev pub image_body : LastImage → List ℕ
+image_body i = image_head_text i.sub i.head ++ fields_text i.body
+
+-- the lines of a part's entries
+abbrev pub bodies : Shape → Part → List (List ℕ)
+bodies shape Bare = []
+bodies shape (Moments moments) = map clock_body moments
+bodies shape (Sends entries) = map publisher_entry_text entries
+bodies shape (OnBridge entries) = map (bridge_body shape) entries
+bodies shape (OnTimers entries) = map (timers_body shape) entries
+bodies shape (OnQueue entries) = map queue_body entries
+bodies shape (Heard heard) = flat_map call_bodies heard.calls
+bodies shape (Pictures images) = map image_body images
+
+-- WHICH ENTRIES A SECTION MAY HAVE
+
+-- the objects behind this subscription
+abbrev pub behind : List ObjectId → SubId → Option (List ObjectId)
+behind [] sub = None
+behind (o ∷ objects) sub = if same_object o (Sub sub) then Some objects else behind objects sub
+
+-- the objects behind the last of these subscriptions, which stand in the order of the objects
+abbrev pub behind_all : List ObjectId → List SubId → Option (List ObjectId)
+behind_all objects [] = Some objects
+behind_all objects (sub ∷ subs) = option_and_then (λ left. behind_all left subs) (behind objects sub)
+
+-- images of subscriptions in the order of these objects, after which these objects are left
+pub record ArePictures (names : NamesData) (objects : List ObjectId) (images : List LastImage) (left : List ObjectId) : Type 0 where
+  pub each : All (IsLastImage names) images
+  pub ordered : behind_all objects (map (λ i. i.sub) images) ≡ Some left
+
+-- a part that the section may have
+abbrev pub Fits : NamesData → List ObjectId → Section → Part → Type 0
+Fits names objects s.Title Bare = Unit {0}
+Fits names objects (s.Client n) (Moments moments) = All IsMoment moments
+Fits names objects (s.Publisher n) (Sends entries) = All (MayEnterPublisher names) entries
+Fits names objects s.Bridge (OnBridge entries) = All (MayEnterBridge names) entries
+Fits names objects s.Timers (OnTimers entries) = All (MayEnterTimers names) entries
+Fits names objects (s.Queue n) (OnQueue entries) = All (MayEnterQueue names) entries
+Fits names objects (s.Object o) (Heard heard) = (heard.object ≡ o) × MayHearAll names heard
+Fits names objects s.Images (Pictures images) = (left : List ObjectId) × ArePictures names objects images left
+Fits names objects s.End Bare = Unit {0}
+Fits names objects _ _ = ⊥
+
+-- A LOG PART BY PART
+
+-- a section with its entries
+abbrev pub Filled : Type 0
+Filled = Section × Part
+
+abbrev pub FitsIn : NamesData → List ObjectId → Filled → Type 0
+FitsIn names objects f = Fits names objects f.0 f.1
+
+-- the lines of a section
+abbrev pub lines_of : Shape → Filled → List (List ℕ)
+lines_of shape f = head_of f.0 ∷ bodies shape f.1
+
+abbrev pub all_lines : Shape → List Filled → List (List ℕ)
+all_lines shape fs = flat_map (lines_of shape) fs
+
+-- the record of nothing
+abbrev pub nothing : RunData
+nothing = record { clients = []; publishers = []; bridge = []; timers = []; queues = []; calls = []; images = [] }
+
+-- a record with a part more
+abbrev pub put : Part → RunData → RunData
+put Bare r = r
+put (Moments moments) r = record r { clients = r.clients ++ moments ∷ [] }
+put (Sends entries) r = record r { publishers = r.publishers ++ entries ∷ [] }
+put (OnBridge entries) r = record r { bridge = entries }
+put (OnTimers entries) r = record r { timers = entries }
+put (OnQueue entries) r = record r { queues = r.queues ++ entries ∷ [] }
+put (Heard heard) r = record r { calls = r.calls ++ heard ∷ [] }
+put (Pictures images) r = record r { images = images }
+
+-- a record with these parts more, one after the other
+abbrev pub run_after : RunData → List Filled → RunData
+run_after r [] = r
+run_after r (f ∷ fs) = run_after (put f.1 r) fs

@@ -1,0 +1,178 @@
+//! The entries of each kind of section, as many as stand at the head of a text.
+ghost use Rattle.std.specs.Prelude.{◌≡◌, ℕ, map, IfOk};
+ghost use Rattle.std.specs.Option.{option_map};
+ghost use Rattle.mama_record.specs.LogText.{publisher_entry_text};
+ghost use Rattle.mama_log_line.specs.Entering.{MayEnterPublisher, MayEnterBridge, MayEnterTimers, MayEnterQueue};
+ghost use Rattle.mama_log_read.specs.Logged.{IsMoment};
+ghost use Rattle.mama_log_read.specs.Part as part;
+ghost use Rattle.mama_log_read.specs.Reading as reading;
+
+use mama_event::{BridgeNote, PublisherEntry, QueueNote, TimersNote};
+use mama_log_line::{
+    Names, bridge_entry_in, clock_in, publisher_entry_in, queue_entry_in, timers_entry_in,
+};
+use mama_memory::OutOfMemory;
+use mama_words::cut_at;
+use std::alloc::Global;
+
+fn next_moment<'a>(alloc: Global, text: &'a [u8]) -> Result<Option<(u64, &'a [u8])>, OutOfMemory>
+    ensures { IfOk result (λ o. reading.IsNext IsMoment part.clock_body text.now (option_map (λ next. (next.0, next.1.now)) o)) }
+{
+    match cut_at(b'\n', text) {
+        Some((line, after)) => match clock_in(alloc, line)? {
+            Some(entry) => Ok(Some((entry, after))),
+            None => Ok(None),
+        },
+        None => Ok(None),
+    }
+}
+
+/// Reads the moments of a client, as many lines as are some, and says what follows them.
+pub fn read_moments<'a>(alloc: Global, text: &'a [u8]) -> Result<(Vec<u64>, &'a [u8]), OutOfMemory>
+    ensures { IfOk result (λ read. reading.AreTaken IsMoment part.clock_body text.now read.0.items read.1.now) }
+{
+    let mut entries = Vec::new(alloc);
+    let mut rest = text;
+    while let Some((entry, after)) = next_moment(alloc, rest)? {
+        entries.push(entry)?;
+        rest = after;
+    }
+    Ok((entries, rest))
+}
+
+fn next_publisher_entry<'a>(
+    alloc: Global,
+    names: &Names,
+    text: &'a [u8],
+) -> Result<Option<(PublisherEntry, &'a [u8])>, OutOfMemory>
+    ensures { IfOk result (λ o. reading.IsNext (MayEnterPublisher names.now) publisher_entry_text text.now (option_map (λ next. (next.0, next.1.now)) o)) }
+{
+    match cut_at(b'\n', text) {
+        Some((line, after)) => match publisher_entry_in(alloc, names, line)? {
+            Some(entry) => Ok(Some((entry, after))),
+            None => Ok(None),
+        },
+        None => Ok(None),
+    }
+}
+
+/// Reads the entries of a publisher's journal, as many lines as are some, and says what follows them.
+pub fn read_publisher_entries<'a>(
+    alloc: Global,
+    names: &Names,
+    text: &'a [u8],
+) -> Result<(Vec<PublisherEntry>, &'a [u8]), OutOfMemory>
+    ensures { IfOk result (λ read. reading.AreTaken (MayEnterPublisher names.now) publisher_entry_text text.now read.0.items read.1.now) }
+{
+    let mut entries = Vec::new(alloc);
+    let mut rest = text;
+    'entries: loop {
+        match next_publisher_entry(alloc, names, rest) {
+            Ok(Some((entry, after))) => {
+                entries.push(entry)?;
+                rest = after;
+            }
+            Ok(None) => return Ok((entries, rest)),
+            Err(error) => return Err(error),
+        }
+    }
+}
+
+fn next_bridge_entry<'a>(
+    alloc: Global,
+    names: &Names,
+    text: &'a [u8],
+) -> Result<Option<((u32, BridgeNote), &'a [u8])>, OutOfMemory>
+    ensures { IfOk result (λ o. reading.IsNext (MayEnterBridge names.now) (part.bridge_body names.now.shape) text.now (option_map (λ next. (next.0, next.1.now)) o)) }
+{
+    match cut_at(b'\n', text) {
+        Some((line, after)) => match bridge_entry_in(alloc, names, line)? {
+            Some(entry) => Ok(Some((entry, after))),
+            None => Ok(None),
+        },
+        None => Ok(None),
+    }
+}
+
+/// Reads the entries of the bridge's journal, as many lines as are some, and says what follows them.
+pub fn read_bridge_entries<'a>(
+    alloc: Global,
+    names: &Names,
+    text: &'a [u8],
+) -> Result<(Vec<(u32, BridgeNote)>, &'a [u8]), OutOfMemory>
+    ensures { IfOk result (λ read. reading.AreTaken (MayEnterBridge names.now) (part.bridge_body names.now.shape) text.now read.0.items read.1.now) }
+{
+    let mut entries = Vec::new(alloc);
+    let mut rest = text;
+    while let Some((entry, after)) = next_bridge_entry(alloc, names, rest)? {
+        entries.push(entry)?;
+        rest = after;
+    }
+    Ok((entries, rest))
+}
+
+fn next_timers_entry<'a>(
+    alloc: Global,
+    names: &Names,
+    text: &'a [u8],
+) -> Result<Option<((u32, TimersNote), &'a [u8])>, OutOfMemory>
+    ensures { IfOk result (λ o. reading.IsNext (MayEnterTimers names.now) (part.timers_body names.now.shape) text.now (option_map (λ next. (next.0, next.1.now)) o)) }
+{
+    match cut_at(b'\n', text) {
+        Some((line, after)) => match timers_entry_in(alloc, names, line)? {
+            Some(entry) => Ok(Some((entry, after))),
+            None => Ok(None),
+        },
+        None => Ok(None),
+    }
+}
+
+/// Reads the entries of the timer service's journal, as many lines as are some, and says what follows them.
+pub fn read_timers_entries<'a>(
+    alloc: Global,
+    names: &Names,
+    text: &'a [u8],
+) -> Result<(Vec<(u32, TimersNote)>, &'a [u8]), OutOfMemory>
+    ensures { IfOk result (λ read. reading.AreTaken (MayEnterTimers names.now) (part.timers_body names.now.shape) text.now read.0.items read.1.now) }
+{
+    let mut entries = Vec::new(alloc);
+    let mut rest = text;
+    while let Some((entry, after)) = next_timers_entry(alloc, names, rest)? {
+        entries.push(entry)?;
+        rest = after;
+    }
+    Ok((entries, rest))
+}
+
+fn next_queue_entry<'a>(
+    alloc: Global,
+    names: &Names,
+    text: &'a [u8],
+) -> Result<Option<((u32, QueueNote), &'a [u8])>, OutOfMemory>
+    ensures { IfOk result (λ o. reading.IsNext (MayEnterQueue names.now) part.queue_body text.now (option_map (λ next. (next.0, next.1.now)) o)) }
+{
+    match cut_at(b'\n', text) {
+        Some((line, after)) => match queue_entry_in(alloc, names, line)? {
+            Some(entry) => Ok(Some((entry, after))),
+            None => Ok(None),
+        },
+        None => Ok(None),
+    }
+}
+
+/// Reads the entries of a queue's journal, as many lines as are some, and says what follows them.
+pub fn read_queue_entries<'a>(
+    alloc: Global,
+    names: &Names,
+    text: &'a [u8],
+) -> Result<(Vec<(u32, QueueNote)>, &'a [u8]), OutOfMemory>
+    ensures { IfOk result (λ read. reading.AreTaken (MayEnterQueue names.now) part.queue_body text.now read.0.items read.1.now) }
+{
+    let mut entries = Vec::new(alloc);
+    let mut rest = text;
+    while let Some((entry, after)) = next_queue_entry(alloc, names, rest)? {
+        entries.push(entry)?;
+        rest = after;
+    }
+    Ok((entries, rest))
+}

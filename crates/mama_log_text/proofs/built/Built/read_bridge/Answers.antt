@@ -1,7 +1,0 @@
-use Rattle.mama_log_text.specs.contracts.built.Built.{the_view}
-use Rattle.mama_log_text.proofs.Kept.{bridge_kept}
-use Rattle.mama_log_text.proofs.built.Built.read_bridge.Goals as goal
-
-pub returns : goal.returns
-returns c =
-    bridge_kept c.args.names.now c.args.objects.now c.args.text.now c.in_ok-entries.entries.items c.in_ok-entries.rest.now (the_view c.self.inside) c.args.self.now c.self.view_is c.in_ok-entries.ensures

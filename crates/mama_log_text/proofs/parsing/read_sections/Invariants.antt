@@ -1,6 +1,0 @@
-use Rattle.std.proofs.Common.{take}
-use Rattle.mama_log_text.specs.Reading.{AreRead}
-use Rattle.mama_log_text.proofs.parsing.read_sections.Given as goal
-
-abbrev pub invariant-loop-section : goal.invariant-loop-section
-invariant-loop-section l = AreRead l.names l.objects (take l.section-index l.sections) l.fn.text l.built l.rest

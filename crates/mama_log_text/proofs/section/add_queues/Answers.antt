@@ -1,6 +1,0 @@
-use Rattle.mama_log_text.specs.declared.section.Section.TheVariants.{Queue}
-use Rattle.mama_log_text.proofs.Sections.{numbers_more}
-use Rattle.mama_log_text.proofs.section.add_queues.Goals as goal
-
-pub loop-number-preserved : goal.loop-number-preserved
-loop-number-preserved c = numbers_more Queue c.args.sections.now.items c.loop-number.sections.items c.push.new.self.items c.loop-number.number c.in_ok-push.ensures.items c.loop-number.invariant

@@ -1,5 +1,0 @@
-use Rattle.mama_logged.proofs.Logged.{records_are_logged}
-use Rattle.mama_logged.proofs.laws.legal_records_are_logged.Goals as goal
-
-pub returns : goal.returns
-returns c = records_are_logged

@@ -1,3 +1,0 @@
-pub mod Numbered
-pub mod Order
-pub mod Search

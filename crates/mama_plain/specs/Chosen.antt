@@ -1,0 +1,9 @@
+-- inner: The command that words are.
+use Rattle.std.specs.Prelude.{ℕ, List, Option, Some, None, if◌then◌else◌}
+use Rattle.mama_plain.specs.declared.command.Command.{Command}
+use Rattle.mama_plain.specs.declared.command.Command.TheVariants as command
+use Rattle.mama_plain.specs.Command.{is_serial, is_check}
+
+-- the command that the words are
+abbrev pub command_in : List (List ℕ) → Option Command
+command_in words = if is_serial words then Some command.Serial else (if is_check words then Some command.Check else None)

@@ -1,0 +1,10 @@
+pub mod Command
+pub mod Chosen
+pub mod Parts
+pub mod Verdict
+pub mod Judging
+pub mod Answers
+pub mod Causes
+pub mod Promises
+pub mod Status
+pub mod Own

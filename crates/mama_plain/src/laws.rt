@@ -1,0 +1,30 @@
+ghost use Rattle.mama_plain.specs.Promises.{LegalRecordsKeepPromises};
+ghost use Rattle.mama_plain.specs.Own.{LogsOfSerialAreLawful, LogsOfSerialAreLegal};
+
+use mama_check::legal_records_are_true;
+use mama_laws_causal::rounds_are_causal;
+use mama_laws_legal::round_is_legal;
+
+/// A law: a legal record keeps all promises, whichever thread ran what when.
+pub fn legal_records_keep_promises()
+    ensures { LegalRecordsKeepPromises }
+{
+    legal_records_are_true();
+}
+
+/// A law: the record of a log of `serial` is legal and causal, and keeps all promises.
+pub fn logs_of_serial_are_lawful()
+    ensures { LogsOfSerialAreLawful }
+{
+    legal_records_keep_promises();
+    round_is_legal();
+    rounds_are_causal();
+}
+
+/// A law: where `serial` wrote a log of a text, each line of it fits for `check` behind that text and the line `log`, and the
+/// only verdict on it is that it is legal, and causal.
+pub fn logs_of_serial_are_legal()
+    ensures { LogsOfSerialAreLegal }
+{
+    logs_of_serial_are_lawful();
+}

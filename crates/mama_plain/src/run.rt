@@ -1,0 +1,241 @@
+ghost use Rattle.std.specs.Prelude.{List, ℕ, ◌≡◌, ◌≢◌, ◌<◌, ◌≤◌, ◌↔◌, ◌⊎◌, Some, Bool, true, false, map, take, length, string_bytes, Err, IfOk, IfErr};
+ghost use Rattle.mama_edge.specs.Count.{Rose};
+ghost use Rattle.mama_edge.specs.Told.{Appended, Lost, LostAtMost};
+ghost use Rattle.mama_script.specs.Reading.{script_in};
+ghost use Rattle.mama_script.specs.Tree.{script_text};
+ghost use Rattle.mama_script.specs.declared.fault.ScriptFault.{ScriptFault};
+ghost use Rattle.mama_script.specs.declared.fault.ScriptFault.TheVariants as script;
+ghost use Rattle.mama_seats.specs.Moments.{AreHeard};
+ghost use Rattle.mama_log_read.specs.Logged.{IsLogged};
+ghost use Rattle.mama_rules_rounds.specs.Round.{IsRound};
+ghost use Rattle.mama_check.specs.declared.verdict.Actor.{Actor};
+ghost use Rattle.mama_check.specs.declared.verdict.Verdict.{Verdict};
+ghost use Rattle.mama_check.specs.declared.verdict.Verdict.TheVariants as verdicts;
+ghost use Rattle.mama_plain.specs.Command.{is_serial, is_check, is_command};
+ghost use Rattle.mama_plain.specs.Parts.{script_part, log_part};
+ghost use Rattle.mama_plain.specs.Verdict.{IsChecked, IsVerdictOf, IsBadLog};
+ghost use Rattle.mama_plain.specs.Answers.{GaveAll, IsAccepted, IsLogOf, OnUnplayed, OnSilent};
+ghost use Rattle.mama_plain.specs.Causes.{IsCause};
+ghost use Rattle.mama_plain.specs.Promises.{KeepsPromises, IsLawfulRun};
+
+use crate::check::write_verdict;
+use crate::command::{Command, command_of};
+use crate::laws::{legal_records_keep_promises, logs_of_serial_are_lawful};
+use crate::status::{Status, script_status};
+use mama_check::legal_records_are_formed;
+use mama_drive::serial;
+use mama_edge::{Clock, ReadAll, Sink, Source, read_all, write_all_counted};
+use mama_laws_legal::round_is_legal;
+use mama_laws_logged::{legal_records_are_logged, logs_tell_one_record, moments_fit};
+use mama_memory::OutOfMemory;
+use mama_record::{RunRecord, print_log};
+use mama_script::{Script, ScriptFault, first_fault_is_told, parse};
+use std::alloc::Global;
+
+/// The most bytes of input.
+pub const MOST_INPUT: usize = 67_108_864;
+
+/// Why there is no log.
+#[derive(Clone, Copy, Debug, PartialEq, Eq)]
+pub enum NoLog {
+    /// The script has a fault, or passes a limit.
+    Script(ScriptFault),
+    /// No memory was found.
+    Memory,
+}
+
+/// Serves the command that the words name. `serial` reads a script from the source, plays it on one thread and writes
+/// its log to the sink. `check` reads a script, a line `log`, and a log, and writes whether the log is that of a legal run
+/// of the script. It always returns.
+///
+/// At `Ok` of `serial` the log is that of the record that the script has where its clients read the moments of that record:
+/// `IsLogOf`; and that record keeps all promises of a run: `IsLawfulRun`. Where the clock tells its moments, those of the
+/// record are its answers to one call for each line `now clock`, in the order of the rounds: `AreHeard`. At `Ok` of `check`
+/// the log is legal, and at `NotLegal` it is not; `IsVerdictOf` says what was judged. No clause ties want of memory to its
+/// cause.
+pub fn run_plain<S: Source, K: Sink, C: Clock>(
+    alloc: Global,
+    words: &[String],
+    source: &mut S,
+    sink: &mut K,
+    clock: &mut C,
+) -> Status
+    // The words are no command exactly where that is the answer, and then nothing was read.
+    ensures bad_words { (result ≡ Status.BadWords) ↔ (is_command (map string_bytes words.now) ≡ false) }
+    ensures unread { result ≡ Status.BadWords → source.new ≡ source.old }
+
+    // A read fault and a write fault come only where the count of that object rose.
+    ensures read_fault { result ≡ Status.ReadFault → Rose (S.faults source.old) (S.faults source.new) }
+    ensures write_fault { (written : ℕ) → result ≡ Status.WriteFault written → Rose (K.faults sink.old) (K.faults sink.new) }
+
+    // At a read fault and at want of memory no more than the limit was taken. The input is too long only where one byte
+    // more was.
+    ensures read_part { result ≡ Status.ReadFault → LostAtMost (S.left source.old) (S.left source.new) 67108864 }
+    ensures memory_part { result ≡ Status.OutOfMemory → LostAtMost (S.left source.old) (S.left source.new) 67108864 }
+    ensures too_long { (limit : ℕ) → result ≡ Status.OverLimit 0 limit → (limit ≡ 1) × Lost (S.left source.old) (S.left source.new) 67108865 }
+
+    // At every answer but Ok, that a log is not legal, and a write fault, nothing was written.
+    ensures silent { OnSilent result (sink.new ≡ sink.old) }
+
+    // Only serial calls the clock, and only for a script that it plays: whatever the answer is, the clock is as it was, or
+    // the source gave the text of an accepted script.
+    ensures still { is_serial (map string_bytes words.now) ≡ false → clock.new ≡ clock.old }
+    ensures unplayed { OnUnplayed result (clock.new ≡ clock.old) }
+    ensures called { (clock.new ≡ clock.old) ⊎ ((text : List ℕ) × GaveAll (S.left source.old) (S.left source.new) text × IsAccepted text) }
+
+    // SERIAL
+
+    // A fault or a limit is that of the text that the source gave: its first line that has one, where an object that is
+    // not there is looked for last. An accepted script has neither, and is refused only where the input is too long.
+    ensures bad_script { is_serial (map string_bytes words.now) ≡ true → (line fault : ℕ) → result ≡ Status.BadScript line fault
+        → (text : List ℕ) × GaveAll (S.left source.old) (S.left source.new) text × (script_in text ≡ Err (script.Bad line fault)) }
+    ensures over_limit { is_serial (map string_bytes words.now) ≡ true → (line limit : ℕ) → result ≡ Status.OverLimit line limit → line ≢ 0
+        → (text : List ℕ) × GaveAll (S.left source.old) (S.left source.new) text × (script_in text ≡ Err (script.OverLimit line limit)) }
+    ensures accepted { is_serial (map string_bytes words.now) ≡ true → (text : List ℕ) → S.left source.old ≡ Some text → IsAccepted text
+        → ((line fault : ℕ) → result ≢ Status.BadScript line fault) × ((line limit : ℕ) → result ≡ Status.OverLimit line limit → line ≡ 0) }
+
+    // At Ok the source gave the text of an accepted script and no more, and the log of a run of it was written whole. At
+    // a write fault a part of one was written, which is not the whole. The run of such a log keeps all promises.
+    ensures ok { is_serial (map string_bytes words.now) ≡ true → result ≡ Status.Ok → (text log : List ℕ) × GaveAll (S.left source.old) (S.left source.new) text
+        × IsLogOf (C.left clock.old) (C.left clock.new) text log × Appended (K.written sink.old) (K.written sink.new) log }
+    ensures part { is_serial (map string_bytes words.now) ≡ true → (written : ℕ) → result ≡ Status.WriteFault written
+        → (text log : List ℕ) × GaveAll (S.left source.old) (S.left source.new) text × IsLogOf (C.left clock.old) (C.left clock.new) text log
+        × (written < length log) × Appended (K.written sink.old) (K.written sink.new) (take written log) }
+    ensures promises { (text log : List ℕ) (l : IsLogOf (C.left clock.old) (C.left clock.new) text log) → IsLawfulRun l.script l.run }
+
+    // CHECK
+
+    // A fault or a limit is that of the script, which is what stands before the first line `log`.
+    ensures bad_script_part { is_check (map string_bytes words.now) ≡ true → (line fault : ℕ) → result ≡ Status.BadScript line fault
+        → (text : List ℕ) × GaveAll (S.left source.old) (S.left source.new) text × (script_in (script_part text) ≡ Err (script.Bad line fault)) }
+    ensures over_limit_part { is_check (map string_bytes words.now) ≡ true → (line limit : ℕ) → result ≡ Status.OverLimit line limit → line ≢ 0
+        → (text : List ℕ) × GaveAll (S.left source.old) (S.left source.new) text × (script_in (script_part text) ≡ Err (script.OverLimit line limit)) }
+
+    // A log is bad only for check, where the script is accepted, and the line is the first behind it that does not fit. It
+    // never is where the source tells an accepted script, the line `log`, and a log that the script can have; nor is that
+    // script refused then.
+    ensures bad_log { (line : ℕ) → result ≡ Status.BadLog line → (is_check (map string_bytes words.now) ≡ true)
+        × (text : List ℕ) × GaveAll (S.left source.old) (S.left source.new) text × IsBadLog (script_part text) (log_part text) line }
+    ensures fitting { (text : List ℕ) → S.left source.old ≡ Some text → IsChecked text → (line : ℕ) → result ≢ Status.BadLog line }
+    ensures fitting_script { is_check (map string_bytes words.now) ≡ true → (text : List ℕ) → S.left source.old ≡ Some text → IsChecked text
+        → ((line fault : ℕ) → result ≢ Status.BadScript line fault) × ((line limit : ℕ) → result ≡ Status.OverLimit line limit → line ≡ 0) }
+
+    // The verdict on what the source gave was written whole: that the log is legal at Ok, and which rule is broken and by
+    // whom where it is not. At a write fault a part of a verdict was written, which is not the whole. A log that is found
+    // legal keeps all promises.
+    ensures legal { is_check (map string_bytes words.now) ≡ true → result ≡ Status.Ok → (causal : Bool) × (text : List ℕ) × (out : List ℕ)
+        × GaveAll (S.left source.old) (S.left source.new) text × IsVerdictOf text (verdicts.Legal causal) out × Appended (K.written sink.old) (K.written sink.new) out }
+    ensures not_legal { (rule : ℕ) (actor : Actor) → result ≡ Status.NotLegal rule actor → (is_check (map string_bytes words.now) ≡ true) × (text : List ℕ) × (out : List ℕ)
+        × GaveAll (S.left source.old) (S.left source.new) text × IsVerdictOf text (verdicts.NotLegal rule actor) out × Appended (K.written sink.old) (K.written sink.new) out }
+    ensures verdict_part { is_check (map string_bytes words.now) ≡ true → (written : ℕ) → result ≡ Status.WriteFault written → (verdict : Verdict) × (text : List ℕ) × (out : List ℕ)
+        × GaveAll (S.left source.old) (S.left source.new) text × IsVerdictOf text verdict out × (written < length out) × Appended (K.written sink.old) (K.written sink.new) (take written out) }
+    ensures legal_promises { (causal : Bool) (text out : List ℕ) (v : IsVerdictOf text (verdicts.Legal causal) out) → KeepsPromises v.script v.run }
+{
+    legal_records_keep_promises();
+    logs_of_serial_are_lawful();
+    let Some(command) = command_of(words) else {
+        return Status::BadWords;
+    };
+    let text = match read_all(alloc, source, MOST_INPUT) {
+        Ok(text) => text,
+        Err(ReadAll::ReadFault) => return Status::ReadFault,
+        Err(ReadAll::TooLong) => return Status::OverLimit { line: 0, limit: 1 },
+        Err(ReadAll::OutOfMemory) => return Status::OutOfMemory,
+    };
+    match command {
+        Command::Serial => write_log(alloc, text.as_slice(), sink, clock),
+        Command::Check => write_verdict(alloc, text.as_slice(), sink),
+    }
+}
+
+/// Plays the script that a text spells, and writes its log.
+fn write_log<K: Sink, C: Clock>(alloc: Global, text: &[u8], sink: &mut K, clock: &mut C) -> Status
+    requires { length text.now ≤ 67108864 }
+    ensures words { result ≢ Status.BadWords }
+    ensures read { result ≢ Status.ReadFault }
+    ensures write_fault { (written : ℕ) → result ≡ Status.WriteFault written → Rose (K.faults sink.old) (K.faults sink.new) }
+    ensures bad_script { (line fault : ℕ) → result ≡ Status.BadScript line fault → script_in text.now ≡ Err (script.Bad line fault) }
+    ensures over_limit { (line limit : ℕ) → result ≡ Status.OverLimit line limit → (line ≢ 0) × (script_in text.now ≡ Err (script.OverLimit line limit)) }
+    ensures bad_log { (line : ℕ) → result ≢ Status.BadLog line }
+    ensures not_legal { (rule : ℕ) (actor : Actor) → result ≢ Status.NotLegal rule actor }
+    ensures ok { result ≡ Status.Ok → (log : List ℕ) × IsLogOf (C.left clock.old) (C.left clock.new) text.now log
+        × Appended (K.written sink.old) (K.written sink.new) log }
+    ensures part { (written : ℕ) → result ≡ Status.WriteFault written → (log : List ℕ) × IsLogOf (C.left clock.old) (C.left clock.new) text.now log
+        × (written < length log) × Appended (K.written sink.old) (K.written sink.new) (take written log) }
+    ensures silent { OnSilent result (sink.new ≡ sink.old) }
+    ensures unplayed { OnUnplayed result (clock.new ≡ clock.old) }
+    ensures called { (clock.new ≡ clock.old) ⊎ IsAccepted text.now }
+{
+    let log = match log_of(alloc, text, clock) {
+        Ok(log) => log,
+        Err(fault) => {
+            first_fault_is_told();
+            return status_of(fault);
+        }
+    };
+    match write_all_counted(sink, log.as_slice()) {
+        Ok(()) => Status::Ok,
+        Err(fault) => Status::WriteFault {
+            written: fault.written,
+        },
+    }
+}
+
+/// The log of the script that the text spells, or why there is none.
+fn log_of<C: Clock>(alloc: Global, text: &[u8], clock: &mut C) -> Result<Vec<u8>, NoLog>
+    requires { length text.now ≤ 67108864 }
+    ensures log { IfOk result (λ log. IsLogOf (C.left clock.old) (C.left clock.new) text.now log.items) }
+    ensures cause { IfErr result (λ cause. IsCause text.now cause) }
+    ensures unplayed { (fault : ScriptFault) → result ≡ Err (NoLog.Script fault) → clock.new ≡ clock.old }
+    ensures called { (clock.new ≡ clock.old) ⊎ IsAccepted text.now }
+{
+    let script = match parse(alloc, text) {
+        Ok(script) => script,
+        Err(fault) => return Err(NoLog::Script(fault)),
+    };
+    let run = match play(alloc, &script, clock) {
+        Ok(run) => run,
+        Err(OutOfMemory) => return Err(NoLog::Memory),
+    };
+    let _shape = script.shape();
+    logs_tell_one_record();
+    match print_log(alloc, script.shape(), &run) {
+        Ok(log) => Ok(log),
+        Err(OutOfMemory) => Err(NoLog::Memory),
+    }
+}
+
+/// Plays the script on one thread. A log of the script can tell the record.
+fn play<C: Clock>(alloc: Global, script: &Script, clock: &mut C) -> Result<RunRecord, OutOfMemory>
+    requires { length (script_text script.now) ≤ 67108864 }
+    ensures round { IfOk result (λ run. IsRound script.now run) }
+    ensures logged { IfOk result (λ run. IsLogged script.now run) }
+    ensures clock { IfOk result (λ run. AreHeard (C.left clock.old) (C.left clock.new) script.now.clients run.clients) }
+{
+    let _shape = script.shape();
+    round_is_legal();
+    legal_records_are_formed();
+    legal_records_are_logged();
+    let played = serial(alloc, script, clock)?;
+    moments_fit(played.clients());
+    Ok(played)
+}
+
+/// The answer where there is no log.
+fn status_of(fault: NoLog) -> Status
+    requires { (line limit : ℕ) → fault ≡ NoLog.Script (script.OverLimit line limit) → line ≢ 0 }
+    ensures words { result ≢ Status.BadWords }
+    ensures read { result ≢ Status.ReadFault }
+    ensures ok { result ≢ Status.Ok }
+    ensures written { (written : ℕ) → result ≢ Status.WriteFault written }
+    ensures log { (line : ℕ) → result ≢ Status.BadLog line }
+    ensures legal { (rule : ℕ) (actor : Actor) → result ≢ Status.NotLegal rule actor }
+    ensures bad { (line number : ℕ) → result ≡ Status.BadScript line number → fault ≡ NoLog.Script (script.Bad line number) }
+    ensures over { (line limit : ℕ) → result ≡ Status.OverLimit line limit → (line ≢ 0) × (fault ≡ NoLog.Script (script.OverLimit line limit)) }
+    ensures memory { fault ≡ NoLog.Memory → result ≡ Status.OutOfMemory }
+{
+    match fault {
+        NoLog::Script(fault) => script_status(fault),
+        NoLog::Memory => Status::OutOfMemory,
+    }
+}

@@ -1,0 +1,4 @@
+pub mod IdLemmas
+pub mod PlanLemmas
+pub mod FewLemmas
+pub mod ImageLemmas

@@ -1,0 +1,7 @@
+pub mod Put
+pub mod Names
+pub mod Plans
+pub mod Places
+pub mod Planning
+pub mod Orders
+pub mod Image

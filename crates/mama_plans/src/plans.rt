@@ -1,0 +1,98 @@
+ghost use Rattle.std.specs.Prelude.{◌≡◌, ◌++◌, ◌∷◌, [], List, length, IfOk, OnOk};
+ghost use Rattle.mama_rules_rounds.specs.World.{plan_in, rows_of};
+ghost use Rattle.mama_journal.specs.Journal.{first_said};
+ghost use Rattle.mama_event.specs.declared.ids.ObjectId.{ObjectId};
+ghost use Rattle.mama_plans.specs.Plans.{planned_objects};
+ghost use Rattle.mama_plans.specs.Places.{objects_in, ArePlaced};
+
+use indexmap::IndexMap;
+use mama_event::{ObjectId, PlanRow};
+use mama_memory::OutOfMemory;
+use std::alloc::Global;
+use std::marker::Model;
+
+/// An object of a script, with its queue and its plan.
+#[derive(Drop)]
+pub struct PlannedObject {
+    pub object: ObjectId,
+    pub queue: u32,
+    pub plan: Vec<PlanRow>,
+}
+
+/// The objects of a script with their plans: subscriptions, timers and inboxes, each by client and number. Each is
+/// found by its id.
+#[derive(Drop)]
+pub struct Plans {
+    objects: Vec<PlannedObject>,
+    places: IndexMap<ObjectId, usize>,
+}
+
+impl Model for Plans {
+    ghost use Rattle.std.specs.Prelude.{List};
+    ghost use Rattle.mama_rules_rounds.specs.Client.{Planned};
+
+    ghost Value = { List Planned };
+
+    ghost use Rattle.mama_plans.specs.Plans.{planned_objects};
+    ghost use Rattle.mama_plans.specs.Places.{objects_in, ArePlaced};
+
+    ghost view = { λ p. planned_objects p.objects.items };
+
+    ghost invariant = { λ p. ArePlaced p.places (objects_in p.objects.items) };
+}
+
+impl Plans {
+    /// The plans of these objects. Of objects that are one the first counts.
+    pub fn new(alloc: Global, objects: Vec<PlannedObject>) -> Result<Plans, OutOfMemory>
+        ensures { IfOk result (λ plans. plans ≡ planned_objects objects.items) }
+    {
+        let places = places_of(alloc, &objects)?;
+        Ok(Plans { objects, places })
+    }
+
+    /// The objects in their order.
+    pub fn objects(&self) -> &[PlannedObject]
+        ensures { planned_objects result.now ≡ self.now }
+    {
+        self.objects.as_slice()
+    }
+
+    /// The plan of an object; no rows where it is not among these.
+    pub fn plan(&self, object: &ObjectId) -> &[PlanRow]
+        ensures { result.now ≡ rows_of (first_said (plan_in object.now) self.now) }
+    {
+        match self.places.get(object) {
+            Some(place) => self.objects[*place].plan.as_slice(),
+            None => &[],
+        }
+    }
+}
+
+/// The objects' places, by their ids.
+fn places_of(
+    alloc: Global,
+    objects: &[PlannedObject],
+) -> Result<IndexMap<ObjectId, usize>, OutOfMemory>
+    ensures { IfOk result (λ places. ArePlaced places (objects_in objects.now)) }
+{
+    let mut places = IndexMap::new(alloc);
+    for (place, planned) in objects.iter().enumerate() {
+        add_place(&mut places, planned.object, place)?;
+    }
+    Ok(places)
+}
+
+/// Adds the place of an object, if it has none yet.
+fn add_place(
+    places: &mut IndexMap<ObjectId, usize>,
+    object: ObjectId,
+    place: usize,
+) -> Result<(), OutOfMemory>
+    ensures { OnOk result ((ids : List ObjectId) → place ≡ length ids → ArePlaced places.old ids → ArePlaced places.new (ids ++ object ∷ [])) }
+{
+    if places.contains_key(&object) {
+        return Ok(());
+    }
+    places.insert(object, place)?;
+    Ok(())
+}

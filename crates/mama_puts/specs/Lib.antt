@@ -1,4 +1,0 @@
-pub mod Puts
-pub mod Bridge
-pub mod Sender
-pub mod Client

@@ -1,8 +1,0 @@
-use Rattle.std.proofs.Common.{take}
-use Rattle.mama_queue_seat.specs.Plans.{planned_objects}
-use Rattle.mama_queue_check.specs.Orders.{AreFound}
-use Rattle.mama_queue_check.proofs.orders.all_by_call.Given as goal
-
--- the plans of so many objects are found
-abbrev pub invariant-loop-planned : goal.invariant-loop-planned
-invariant-loop-planned l = AreFound l.by_object (planned_objects (take l.planned-index l.objects))

@@ -1,7 +1,0 @@
-pub mod Seen
-pub mod Rows
-pub mod Orders
-pub mod Puts
-pub mod Replay
-pub mod Served
-pub mod Recorded

@@ -1,2 +1,0 @@
-pub mod BridgeRows
-pub mod TimersRows

@@ -1,0 +1,9 @@
+pub mod Edges
+pub mod Lines
+pub mod Last
+pub mod Streams
+pub mod Ticks
+pub mod Calls
+pub mod HaveStreams
+pub mod Legal
+pub mod Form

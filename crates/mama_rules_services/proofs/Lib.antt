@@ -1,0 +1,3 @@
+pub mod BridgeRows
+pub mod TimersRows
+pub mod PutterPorts

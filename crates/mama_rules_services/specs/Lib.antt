@@ -1,0 +1,5 @@
+pub mod Life
+pub mod Place
+pub mod Ports
+pub mod Bridge
+pub mod Timers

@@ -1,0 +1,5 @@
+use Rattle.mama_event.specs.declared.callback.Callback.TheVariants as on
+use Rattle.mama_tests_queues.proofs.orderer.OrdererListener.on_quality.Goals as goal
+
+pub returns : goal.returns
+returns c = c.answer.ensures (on.Quality c.args.quality c.args.number)

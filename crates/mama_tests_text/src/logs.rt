@@ -1,0 +1,111 @@
+use crate::rows::{numbered, text_of};
+use mama_log_read::{LogFault, parse_log};
+use mama_record::print_log;
+use mama_script::{Script, parse};
+use std::alloc::Global;
+use std::test::Fail;
+
+const SCRIPT: &str =
+    r#"mama script 1|queues 1|topic "EQ.ABC"|publisher 0 22:bid:u32:100|update 22:bid:u32:101|update 25:ask:u32:103|update 22:bid:u32:102|client|sub 0 market 0 10 1000|"#;
+
+// The log of the worked script.
+const LOG: &str = "mama log 1
+client 0
+publisher 0
+want s0.0 initial
+send
+send
+send
+done
+settle
+fin
+bridge
+c0 join s0.0
+p0 image s0.0 initial 1 0 22:bid:u32:100
+p0 publish update 1 1 22:bid:u32:101
+c0 done
+p0 publish update 1 2 25:ask:u32:103
+p0 publish update 1 3 22:bid:u32:102
+p0 done
+p0 settled
+q0 bye
+timers
+c0 done
+b fin
+q0 bye
+queue 0
+b create 0 s0.0
+b data 0 s0.0 initial 1 0 22:bid:u32:100
+b data 0 s0.0 update 1 1 22:bid:u32:101
+b data 0 s0.0 update 1 2 25:ask:u32:103
+b data 0 s0.0 update 1 3 22:bid:u32:102
+b gone 0 s0.0
+b fin
+t fin
+on s0.0
+create
+msg initial 1 0 ok 22:bid:u32:100
+msg update 1 1 ok 22:bid:u32:101
+msg update 1 2 ok 25:ask:u32:103
+msg update 1 3 ok 22:bid:u32:102
+destroy
+images
+s0.0 ok 1 3 22:bid:u32:102 25:ask:u32:103
+end
+";
+
+fn script_of(alloc: Global, row: &str) -> Result<Script, Fail> {
+    Ok(parse(alloc, &text_of(alloc, row)?)?)
+}
+
+#[test]
+fn a_log_is_printed_as_it_was_read(rt: HostRuntime) -> Result<(), Fail> {
+    let script = script_of(rt.alloc(), SCRIPT)?;
+    let run = parse_log(rt.alloc(), &script, LOG.as_bytes())?;
+    let printed = print_log(rt.alloc(), script.shape(), &run)?;
+    assert_eq!(rt; printed.as_slice(), LOG.as_bytes());
+    assert!(rt; parse_log(rt.alloc(), &script, &printed)? == run);
+    Ok(())
+}
+
+const SMALL: &str =
+    r#"mama script 1|queues 1|topic "A"|client|sub 0 market 0 10 1000|sub 0 market 0 10 1000|"#;
+
+// The first line that does not fit a log of the small script, or 0: a log of nothing; one without its end, with a last
+// line that is not ended, with a line behind the end; an order before any callback, and a ninth; images that do not
+// ascend, and one that stands twice; an object and a client that are not declared; sections that are missing; and a line
+// in a wrong spelling.
+const LOGS: &str = "0 mama log 1|client 0|bridge|timers|queue 0|on s0.0|on s0.1|images|end|
+9 mama log 1|client 0|bridge|timers|queue 0|on s0.0|on s0.1|images|
+9 mama log 1|client 0|bridge|timers|queue 0|on s0.0|on s0.1|images|end
+10 mama log 1|client 0|bridge|timers|queue 0|on s0.0|on s0.1|images|end|end|
+10 mama log 1|client 0|bridge|timers|queue 0|on s0.0|on s0.1|images|end||
+1 
+7 mama log 1|client 0|bridge|timers|queue 0|on s0.0|order stop s0.0|
+16 mama log 1|client 0|bridge|timers|queue 0|on s0.0|create|order stop s0.0|order stop s0.0|order stop s0.0|order stop s0.0|order stop s0.0|order stop s0.0|order stop s0.0|order stop s0.0|order stop s0.0|
+10 mama log 1|client 0|bridge|timers|queue 0|on s0.0|on s0.1|images|s0.1 ok 1 0 1:a:u32:1|s0.0 ok 1 0 1:a:u32:1|end|
+10 mama log 1|client 0|bridge|timers|queue 0|on s0.0|on s0.1|images|s0.1 ok 1 0 1:a:u32:1|s0.1 ok 1 0 1:a:u32:1|end|
+4 mama log 1|client 0|bridge|c0 join s0.2|
+2 mama log 1|client 1|bridge|
+3 mama log 1|client 0|timers|
+6 mama log 1|client 0|bridge|timers|queue 0|on s0.1|
+3 mama log 1|client 0|clock x|bridge|";
+
+fn told(alloc: Global, script: &Script, text: &[u8]) -> Result<u64, Fail> {
+    match parse_log(alloc, script, text) {
+        Ok(_run) => Ok(0),
+        Err(LogFault::Bad { line }) => Ok(line),
+        Err(fault) => Err(Fail::from(fault)),
+    }
+}
+
+#[test]
+fn the_first_line_that_does_not_fit(rt: HostRuntime) -> Result<(), Fail> {
+    let script = script_of(rt.alloc(), SMALL)?;
+    for row in LOGS.lines() {
+        let (line, lines) = numbered(row);
+        let text = text_of(rt.alloc(), lines)?;
+        assert_eq!(rt; told(rt.alloc(), &script, &text)?, line, "{row}");
+    }
+    Ok(())
+}
