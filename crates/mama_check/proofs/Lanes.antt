@@ -28,7 +28,7 @@ use Rattle.mama_rules_rounds.specs.Client.{Planned, at_first, client_steps, brid
 use Rattle.mama_rules_rounds.specs.World.{no_section, orders_by, queue_part, timer_part}
 use Rattle.mama_rules_rounds.specs.Round.{all_client_steps, setting_of}
 use Rattle.mama_rules_legal.specs.Edges.{all_steps, client_puts, queue_puts, put_on_bridge, put_on_timers, put_on_queue}
-use Rattle.mama_laws_legal.proofs.Lists.{by_entries, puts-push}
+use Rattle.mama_journal.specs.EntryLaws.{by_entries, puts-push}
 use Rattle.mama_laws_legal.proofs.Putters.{by_bridge_port, by_timers_port, by_queue_port, bridge_puts-push, timers_puts-push}
 use Rattle.mama_check_order.specs.Taken.{put_by}
 use Rattle.mama_check_puts.specs.Puts.{AreLists, tick_part, timers_put_to, bridge_put_to_queue, bridge_put_to_timers}

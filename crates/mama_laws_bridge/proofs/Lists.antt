@@ -2,11 +2,11 @@
 use Rattle.std.specs.Prelude.{is_some}
 use Rattle.std.specs.List.{list_any, list_all, flat_map}
 use Rattle.std.specs.Option.{option_or}
-use Rattle.std.proofs.Common.{◌≡◌, ℕ, zero, suc, ◌+◌, ◌<◌, Bool, true, false, ◌||◌, cond, List, [], ◌∷◌, ◌++◌, length, map, filter, get_or, Option, None, Some, refl, sym, ◌∙◌, ap, arith, append-nil, append_assoc, ⊎_elim}
+use Rattle.std.proofs.Common.{◌≡◌, ℕ, zero, suc, ◌+◌, ◌<◌, Bool, true, false, ◌||◌, cond, List, [], ◌∷◌, ◌++◌, length, map, filter, get_or, Option, None, Some, refl, sym, ◌∙◌, ap, arith, ⊎_elim}
 use Rattle.std.proofs.lemmas.List.Concat.{flat_map-cons}
 use Rattle.std.proofs.lemmas.Bool.{and_parts, and_from, cases_lt}
 use Rattle.std.proofs.lemmas.Bool.Decides.{same_from_decides}
-use Rattle.mama_journal.specs.Journal.{puts_after, puts, count_of, puts_so_far, all_puts, first_said, all_below}
+use Rattle.mama_journal.specs.Journal.{count_of, first_said, all_below}
 
 -- what holds of each element
 abbrev pub Each : {X : Type 0} → (X → Type 0) → List X → Type 0
@@ -70,35 +70,7 @@ pub list_any-map : {X Y : Type 0} (p : Y → Bool) (f : X → Y) (xs : List X) �
 list_any-map p f [] = refl
 list_any-map p f (x ∷ xs) = ap (λ b. p (f x) || b) (list_any-map p f xs)
 
--- ---- journals with one entry more
-
-pub puts_after-push : {E P : Type 0} (at : List E → E → List P) (before es : List E) (e : E) → puts_after at before (es ++ e ∷ []) ≡ puts_after at before es ++ at (before ++ es) e
-puts_after-push at before [] e = rw (append-nil before) (append-nil (at before e))
-puts_after-push {E} at before (x ∷ es) e =
-    let ih = puts_after-push at (before ++ x ∷ []) es e in
-    let same : (before ++ x ∷ []) ++ es ≡ before ++ (x ∷ es) = append_assoc before (x ∷ []) es in
-    rw ih (rw same (sym (append_assoc (at before x) (puts_after at (before ++ x ∷ []) es) (at (before ++ (x ∷ es)) e))))
-
-pub puts-push : {E P : Type 0} (at : List E → E → List P) (es : List E) (e : E) → puts at (es ++ e ∷ []) ≡ puts at es ++ at es e
-puts-push at es e = puts_after-push at [] es e
-
-pub puts_so_far-push : {E P : Type 0} (at : List E → List P → E → List P) (before : List E) (sofar : List P) (es : List E) (e : E)
-    → puts_so_far at before sofar (es ++ e ∷ []) ≡ puts_so_far at before sofar es ++ at (before ++ es) (puts_so_far at before sofar es) e
-puts_so_far-push at before sofar [] e = rw (append-nil before) refl
-puts_so_far-push at before sofar (x ∷ es) e =
-    puts_so_far-push at (before ++ x ∷ []) (sofar ++ at before sofar x) es e
-    ∙ rw (append_assoc before (x ∷ []) es) refl
-
-pub all_puts-push : {E P : Type 0} (at : List E → List P → E → List P) (es : List E) (e : E) → all_puts at (es ++ e ∷ []) ≡ all_puts at es ++ at es (all_puts at es) e
-all_puts-push at es e = puts_so_far-push at [] [] es e
-
-option_or_assoc : {A : Type 0} (a b c : Option A) → option_or a (option_or b c) ≡ option_or (option_or a b) c
-option_or_assoc None b c = refl
-option_or_assoc (Some x) b c = refl
-
-pub first_said-append : {E A : Type 0} (say : E → Option A) (es fs : List E) → first_said say (es ++ fs) ≡ option_or (first_said say es) (first_said say fs)
-first_said-append say [] fs = refl
-first_said-append say (e ∷ es) fs = ap (λ o. option_or (say e) o) (first_said-append say es fs) ∙ option_or_assoc (say e) (first_said say es) (first_said say fs)
+-- ---- what is said first
 
 is_some_or : {A : Type 0} (a b : Option A) → is_some (option_or a b) ≡ (is_some a || is_some b)
 is_some_or None b = refl
@@ -131,15 +103,6 @@ each_append P (x ∷ xs) ys h k = (h.0, each_append P xs ys h.1 k)
 pub each_flat_map : {X Y : Type 0} (P : Y → Type 0) (f : X → List Y) (xs : List X) → ((x : X) → Each P (f x)) → Each P (flat_map f xs)
 each_flat_map P f [] h = tt
 each_flat_map P f (x ∷ xs) h = each_append P (f x) (flat_map f xs) (h x) (each_flat_map P f xs h)
-
--- ---- induction over the entries at the end
-
-entries_after : {E : Type 0} (P : List E → Type 0) → ((es : List E) (e : E) → P es → P (es ++ e ∷ [])) → (before es : List E) → P before → P (before ++ es)
-entries_after P step before [] h = rw (append-nil before) h
-entries_after P step before (e ∷ es) h = rw (← append_assoc before (e ∷ []) es) (entries_after P step (before ++ e ∷ []) es (step before e h))
-
-pub by_entries : {E : Type 0} (P : List E → Type 0) → P [] → ((es : List E) (e : E) → P es → P (es ++ e ∷ [])) → (es : List E) → P es
-by_entries P none step es = entries_after P step [] es none
 
 -- ---- flags
 

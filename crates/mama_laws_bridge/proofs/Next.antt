@@ -23,7 +23,8 @@ use Rattle.mama_event.specs.Ports.{publishers_of}
 use Rattle.mama_event.specs.Object.{same_sub, same_inbox}
 use Rattle.mama_rules_services.specs.Bridge.{BridgeEvent, joins, leaves, opens, closes, asks, publishes, images, replies, wishes, client_done, sends_done, settled, bye, no_event, terms_in, inbox_terms_in, joins_sub, opens_inbox, leaves_sub, closes_inbox, lives, has_ending, is_live, is_open, newly_joined, newly_opened, live_subs, open_inboxes, window, reply_window, sent_with, sent_to, replied_to, BridgePut, to_publisher, to_queue, created_in, to_first, wants_image, is_recap_want, may_wish, answer, bridge_reaction}
 use Rattle.mama_laws_bridge.specs.Table.{SubRow, InboxRow, Table, empty_table, table_next, table_after, table_of, marked, client_in, sender_in, settler_in, all_set, is_ended_by, of_sub, of_inbox, has_joined, has_opened, settling_now, ended_now, begins_ending, slot_for, sub_passed, inbox_passed, is_on_topic_of, may_ask, sub_wished, table_puts, changed, without, joined_next, opened_next, kept, new_sub, new_inbox, subs_next, inboxes_next}
-use Rattle.mama_laws_bridge.proofs.Lists.{Each, each_append, each_weaker, each_both, each_all, each_filter, each_map, filter_each, map-filter, puts-push, all_puts-push, first_said-append, is_some-first_said, none_of_is_some, count_of-append, by_entries}
+use Rattle.mama_laws_bridge.proofs.Lists.{Each, each_append, each_weaker, each_both, each_all, each_filter, each_map, filter_each, map-filter, is_some-first_said, none_of_is_some, count_of-append}
+use Rattle.mama_journal.specs.EntryLaws.{puts-push, all_puts-push, first_said-append, by_entries}
 use Rattle.mama_laws_bridge.proofs.Live.{counted_none, counted_next, settling_is, ended_is, list_any-push, unborn, living}
 use Rattle.mama_laws_bridge.proofs.OneKind.{newly_by, same_sym, living_next}
 use Rattle.mama_laws_bridge.proofs.Ties.{SubTells, InboxTells, SubFresh, InboxFresh, Ties, sub_made, inbox_made, subs_kind, inboxes_kind, joined_is, opened_is, live_is, open_is}

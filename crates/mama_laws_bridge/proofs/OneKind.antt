@@ -6,7 +6,8 @@ use Rattle.std.proofs.lemmas.List.Elements.{filter-append}
 use Rattle.mama_journal.specs.Journal.{puts}
 use Rattle.mama_rules_services.specs.Bridge.{BridgeEvent, lives}
 use Rattle.mama_laws_bridge.specs.Table.{kept}
-use Rattle.mama_laws_bridge.proofs.Lists.{Each, puts-push, by_entries}
+use Rattle.mama_laws_bridge.proofs.Lists.{Each}
+use Rattle.mama_journal.specs.EntryLaws.{puts-push, by_entries}
 use Rattle.mama_laws_bridge.proofs.Live.{list_any-push, lives-push, unborn, living, living_then}
 
 -- what an event makes, given what began before

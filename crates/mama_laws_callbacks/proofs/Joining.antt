@@ -29,7 +29,7 @@ use Rattle.mama_rules_legal.specs.Ticks.{arming_put}
 use Rattle.mama_laws_legal.proofs.Lives.{same_sub-itself}
 use Rattle.mama_laws_legal.proofs.Lives.{same_timer-itself}
 use Rattle.mama_laws_legal.proofs.Lives.{same_inbox-itself}
-use Rattle.mama_laws_bridge.proofs.Lists.{first_said-append}
+use Rattle.mama_journal.specs.EntryLaws.{first_said-append}
 use Rattle.mama_laws_genuine.proofs.Elements.{all_append, all_weaker}
 use Rattle.mama_laws_callbacks.specs.Told.{Of}
 

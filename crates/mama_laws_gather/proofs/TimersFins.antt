@@ -14,7 +14,8 @@ use Rattle.mama_event.specs.declared.to_queue.QueueNote.TheVariants as q
 use Rattle.mama_event.specs.Ports.{queues_of}
 use Rattle.mama_event.specs.ToQueue as queue
 use Rattle.mama_rules_services.specs.Timers.{TimersEvent, arms, disarms, now, arms_timer, has_ending, is_live, live_timers, clock, firing, place_of, to_place, free_slot, gone, answer, ending_comes, timers_reaction}
-use Rattle.mama_laws_legal.proofs.Lists.{by_entries, all_puts-push, by_port-append}
+use Rattle.mama_laws_legal.proofs.Lists.{by_port-append}
+use Rattle.mama_journal.specs.EntryLaws.{by_entries, all_puts-push}
 use Rattle.mama_laws_legal.proofs.TimerLives.{ending_stays}
 
 -- some of these puts tell a queue Fin

@@ -11,7 +11,7 @@ use Rattle.mama_event.specs.LawfulLaws.{IsLawful-start}
 use Rattle.mama_event.specs.ToQueue.{is_last, fits, open_blocks}
 use Rattle.mama_rules_services.specs.Bridge.{BridgeEvent, joins, leaves, opens, closes, asks, publishes, images, replies, wishes, client_done, sends_done, settled, bye, no_event, BridgePut, bridge_reaction}
 use Rattle.mama_laws_bridge.specs.Table.{Table, empty_table, table_next, table_of, ended_now, table_puts}
-use Rattle.mama_laws_bridge.proofs.Lists.{by_entries, all_puts-push}
+use Rattle.mama_journal.specs.EntryLaws.{by_entries, all_puts-push}
 use Rattle.mama_laws_bridge.proofs.Next.{tied, table_of-push}
 use Rattle.mama_laws_bridge.proofs.Reaction.{reaction}
 use Rattle.mama_laws_bridge.proofs.TableLaws.{rows_are_live, flags_tell}

@@ -14,7 +14,8 @@ use Rattle.mama_event.specs.declared.to_queue.Make.{Make}
 use Rattle.mama_event.specs.declared.to_queue.QueueNote.{QueueNote}
 use Rattle.mama_event.specs.declared.to_queue.QueueNote.TheVariants as q
 use Rattle.mama_laws_bridge.specs.Laws.{Alone}
-use Rattle.mama_laws_bridge.proofs.Lists.{count_of-append, by_entries}
+use Rattle.mama_laws_bridge.proofs.Lists.{count_of-append}
+use Rattle.mama_journal.specs.EntryLaws.{by_entries}
 use Rattle.mama_laws_lawful.specs.Streams.{is_gone}
 use Rattle.mama_laws_lawful.proofs.Lists.{Split, split_of, split_others, alone_put, alone_around, any_mid}
 use Rattle.mama_laws_lawful.proofs.Going.{open-push}

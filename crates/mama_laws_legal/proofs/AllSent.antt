@@ -28,7 +28,8 @@ use Rattle.mama_rules_rounds.specs.Round.{publisher_steps, all_client_steps, set
 use Rattle.mama_rules_legal.specs.Edges.{all_steps, client_puts, put_on_bridge, put_to_publisher, taken_by, AreEdges}
 use Rattle.mama_rules_legal.specs.Lines.{takes_settle, AreLines, is_done}
 use Rattle.mama_laws_legal.specs.Laws.{RoundsDoAllLines}
-use Rattle.mama_laws_legal.proofs.Lists.{by_entries, all_empty}
+use Rattle.mama_laws_legal.proofs.Lists.{all_empty}
+use Rattle.mama_journal.specs.EntryLaws.{by_entries}
 use Rattle.mama_laws_legal.proofs.Stages.{rounds_keep}
 use Rattle.mama_laws_legal.proofs.Whole.{nothing_at, sections_len, resting_at_start, whole_edges}
 use Rattle.mama_laws_legal.proofs.Endings.{is_joining, part, tail, Told, told_more, told_none}

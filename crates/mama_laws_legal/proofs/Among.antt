@@ -5,7 +5,7 @@ use Rattle.std.proofs.Common.{◌≡◌, Bool, true, false, ◌&&◌, ◌||◌, 
 use Rattle.std.proofs.lemmas.List.Concat.{flat_map-append}
 use Rattle.mama_journal.specs.Journal.{puts}
 use Rattle.mama_rules_services.specs.Life.{lives, is_alive, newly, all_alive}
-use Rattle.mama_laws_legal.proofs.Lists.{by_entries, puts-push}
+use Rattle.mama_journal.specs.EntryLaws.{by_entries, puts-push}
 use Rattle.mama_laws_legal.proofs.Lives.{any_last, lives_came}
 
 -- the object that an event begins, where it begins one, and it is the first of its id

@@ -19,7 +19,7 @@ use Rattle.mama_rules_rounds.specs.World.{no_section}
 use Rattle.mama_rules_rounds.specs.Round.{sends_in, publishers_from, publisher_line_steps, publisher_steps}
 use Rattle.mama_rules_legal.specs.Edges.{all_steps, taken_in, taken_by}
 use Rattle.mama_rules_legal.specs.Lines.{is_take, is_done, takes_settle, IsSentOut}
-use Rattle.mama_laws_legal.proofs.Lists.{by_entries, puts-push}
+use Rattle.mama_journal.specs.EntryLaws.{by_entries, puts-push}
 use Rattle.mama_laws_legal.proofs.Endings.{is_ending}
 use Rattle.mama_laws_legal.proofs.Heard.{first_of, rest_of, no_end}
 

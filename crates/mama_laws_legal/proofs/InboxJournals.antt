@@ -31,7 +31,7 @@ use Rattle.mama_rules_legal.specs.Streams.{is_of, stream_of, inbox_terms_noted, 
 use Rattle.mama_script.specs.Script.{ScriptData}
 use Rattle.mama_record.specs.RunData.{RunData}
 use Rattle.mama_laws_legal.specs.Laws.{IsOrderly}
-use Rattle.mama_laws_legal.proofs.Lists.{by_entries}
+use Rattle.mama_journal.specs.EntryLaws.{by_entries}
 use Rattle.mama_laws_legal.proofs.Putters.{by_bridge_port}
 use Rattle.mama_laws_legal.proofs.Whole.{whole_edges}
 use Rattle.mama_laws_legal.proofs.Endings.{ending_settles}

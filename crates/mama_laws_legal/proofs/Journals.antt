@@ -24,7 +24,8 @@ use Rattle.mama_rules_services.specs.Ports.{queue_putter}
 use Rattle.mama_rules_rounds.specs.World.{queue_part}
 use Rattle.mama_rules_legal.specs.Edges.{put_on_queue}
 use Rattle.mama_rules_legal.specs.Streams.{is_of, stream_of, events_of}
-use Rattle.mama_laws_legal.proofs.Lists.{by_entries, all_puts-push, by_port-append}
+use Rattle.mama_laws_legal.proofs.Lists.{by_port-append}
+use Rattle.mama_journal.specs.EntryLaws.{by_entries, all_puts-push}
 use Rattle.mama_laws_legal.proofs.Putters.{by_queue_port}
 use Rattle.mama_laws_legal.proofs.Heard.{no_end}
 

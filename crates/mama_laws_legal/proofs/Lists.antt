@@ -1,41 +1,10 @@
 -- Lemmas on lists, and on journals with one entry more.
 use Rattle.std.specs.Prelude.{slice_index_or}
 use Rattle.std.specs.List.{list_all}
-use Rattle.std.proofs.Common.{◌≡◌, ℕ, zero, suc, ◌+◌, ◌<◌, ◌==◌, Bool, true, false, cond, List, [], ◌∷◌, ◌++◌, length, refl, sym, ◌∙◌, ap, subst, arith, ⊎_elim, append-nil, append_assoc}
+use Rattle.std.proofs.Common.{◌≡◌, ℕ, zero, suc, ◌+◌, ◌<◌, ◌==◌, Bool, true, false, cond, List, [], ◌∷◌, ◌++◌, length, refl, sym, ◌∙◌, ap, arith, ⊎_elim, append-nil, append_assoc}
 use Rattle.std.proofs.lemmas.Bool.{and_parts, cases_eq, eq-eqb, ne_eqb, false≢true}
-use Rattle.mama_journal.specs.Journal.{puts_after, puts, puts_so_far, all_puts}
 use Rattle.mama_journal.specs.Lane.{by_port, from_port}
 use Rattle.mama_rules_rounds.specs.World.{extended, is_empty}
-
--- ---- induction over entries at the end
-
-entries_from : {X : Type 0} (P : List X → Type 0) → ((xs : List X) (x : X) → P xs → P (xs ++ x ∷ [])) → (front back : List X) → P front → P (front ++ back)
-entries_from P step front [] h = subst P (sym (append-nil front)) h
-entries_from P step front (x ∷ xs) h = subst P (append_assoc front (x ∷ []) xs) (entries_from P step (front ++ x ∷ []) xs (step front x h))
-
-pub by_entries : {X : Type 0} (P : List X → Type 0) → P [] → ((xs : List X) (x : X) → P xs → P (xs ++ x ∷ [])) → (xs : List X) → P xs
-by_entries P start step xs = entries_from P step [] xs start
-
--- ---- what one entry more puts
-
-puts_after-push : {E P : Type 0} (at : List E → E → List P) (before es : List E) (e : E) → puts_after at before (es ++ e ∷ []) ≡ puts_after at before es ++ at (before ++ es) e
-puts_after-push at before [] e = rw (append-nil before) (append-nil (at before e))
-puts_after-push {E} at before (x ∷ es) e =
-    let ih = puts_after-push at (before ++ x ∷ []) es e in
-    let same : (before ++ x ∷ []) ++ es ≡ before ++ (x ∷ es) = append_assoc before (x ∷ []) es in
-    rw ih (rw same (sym (append_assoc (at before x) (puts_after at (before ++ x ∷ []) es) (at (before ++ (x ∷ es)) e))))
-
-pub puts-push : {E P : Type 0} (at : List E → E → List P) (es : List E) (e : E) → puts at (es ++ e ∷ []) ≡ puts at es ++ at es e
-puts-push at es e = puts_after-push at [] es e
-
-puts_so_far-push : {E P : Type 0} (at : List E → List P → E → List P) (before : List E) (sofar : List P) (es : List E) (e : E)
-    → puts_so_far at before sofar (es ++ e ∷ []) ≡ puts_so_far at before sofar es ++ at (before ++ es) (puts_so_far at before sofar es) e
-puts_so_far-push at before sofar [] e = rw (append-nil before) refl
-puts_so_far-push at before sofar (x ∷ es) e =
-    puts_so_far-push at (before ++ x ∷ []) (sofar ++ at before sofar x) es e ∙ rw (append_assoc before (x ∷ []) es) refl
-
-pub all_puts-push : {E P : Type 0} (at : List E → List P → E → List P) (es : List E) (e : E) → all_puts at (es ++ e ∷ []) ≡ all_puts at es ++ at es (all_puts at es) e
-all_puts-push at es e = puts_so_far-push at [] [] es e
 
 -- ---- a place of a list
 

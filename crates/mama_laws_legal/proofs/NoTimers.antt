@@ -26,7 +26,7 @@ use Rattle.mama_event.specs.Ports.{publishers_of, queues_of}
 use Rattle.mama_rules_services.specs.Bridge.{BridgeEvent, joins, leaves, opens, closes, asks, publishes, images, replies, wishes, client_done, sends_done, settled, bye, no_event, BridgePut, to_publisher, to_queue, to_timers, is_settling, has_ending, is_live, is_open, terms_in, inbox_terms_in, joins_sub, opens_inbox, live_subs, open_inboxes, sent_with, window, reply_window, replied_to, faults_of, inbox_faults_of, place_of, to_place, free_slot, to_found, to_first, wants_image, delivered, replied, gone, passed_on, passed, passed_reply, ended, ended_inbox, may_wish, answer, settle_begins, ending_comes, bridge_reaction}
 use Rattle.mama_rules_legal.specs.Streams.{is_of, put_for, stream_of}
 use Rattle.mama_laws_legal.proofs.BridgeStreams.{stream_flat, none_cond, none_unless, none_append, items_other, gone_other, reaction_of}
-use Rattle.mama_laws_legal.proofs.Lists.{by_entries, all_puts-push}
+use Rattle.mama_journal.specs.EntryLaws.{by_entries, all_puts-push}
 
 module _ (timer : TimerId) where
   abbrev o : ObjectId

@@ -18,7 +18,7 @@ use Rattle.mama_rules_services.specs.Ports.{bridge_putter}
 use Rattle.mama_rules_services.specs.Bridge.{BridgeEvent, no_event, from_client, from_publisher, from_queue, put_by, heard}
 use Rattle.mama_rules_services.specs.Life.{lives, is_alive}
 use Rattle.mama_rules_legal.specs.Streams.{IsStream, IsJournal, WasAlive, events_of}
-use Rattle.mama_laws_legal.proofs.Lists.{by_entries}
+use Rattle.mama_journal.specs.EntryLaws.{by_entries}
 use Rattle.mama_laws_legal.proofs.Putters.{by_bridge_port}
 use Rattle.mama_laws_legal.proofs.Journals.{on_one_queue}
 use Rattle.mama_laws_legal.proofs.Lives.{any_last, lives-push, first_said-append}

@@ -12,7 +12,7 @@ use Rattle.mama_event.specs.declared.to_queue.QueueNote.{QueueNote}
 use Rattle.mama_event.specs.declared.to_queue.QueueNote.TheVariants as q
 use Rattle.mama_rules_services.specs.Life.{lives, is_alive, window_of}
 use Rattle.mama_rules_legal.specs.Streams.{IsStream}
-use Rattle.mama_laws_legal.proofs.Lists.{by_entries, puts-push, all_puts-push}
+use Rattle.mama_journal.specs.EntryLaws.{by_entries, puts-push, all_puts-push}
 use Rattle.mama_laws_legal.proofs.Lives.{any_last, lives-push, lives_came, first_said-append, said_came, none_said, some_is}
 
 -- One object of some kind at its service: E are the events that the service heard, P what it puts, T the terms of the

@@ -24,7 +24,8 @@ use Rattle.mama_rules_rounds.specs.Client.{bridge_part, timers_part}
 use Rattle.mama_rules_rounds.specs.World.{Setting, no_section, orders_by, queue_part, timer_part}
 use Rattle.mama_rules_legal.specs.Edges.{put_on_bridge, put_on_timers, put_on_queue, queue_puts}
 pub use Rattle.mama_rules_services.proofs.PutterPorts.{by_bridge_port, by_timers_port, by_queue_port}
-use Rattle.mama_laws_legal.proofs.Lists.{puts-push, all_puts-push, by_port-append, grows}
+use Rattle.mama_laws_legal.proofs.Lists.{by_port-append, grows}
+use Rattle.mama_journal.specs.EntryLaws.{puts-push, all_puts-push}
 
 -- ---- what one entry more puts
 

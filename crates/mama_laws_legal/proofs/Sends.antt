@@ -25,7 +25,8 @@ use Rattle.mama_rules_rounds.specs.World.{Setting, World, no_section, publisher_
 use Rattle.mama_rules_rounds.specs.Stage.{Stage, client_stepped, client_step, entries_done, publisher_stepped, publisher_step, IsStageDrained}
 use Rattle.mama_rules_legal.specs.Edges.{all_steps, put_on_bridge, put_to_publisher, taken_by}
 use Rattle.mama_rules_legal.specs.Lines.{is_done, takes_settle}
-use Rattle.mama_laws_legal.proofs.Lists.{by_entries, all_puts-push, within}
+use Rattle.mama_laws_legal.proofs.Lists.{within}
+use Rattle.mama_journal.specs.EntryLaws.{by_entries, all_puts-push}
 use Rattle.mama_laws_legal.proofs.Worlds.{Holds, bridge_turn_keeps, timers_turn_keeps, publisher_turn_keeps, queue_turn_keeps}
 use Rattle.mama_laws_legal.proofs.Stages.{IsKept, drain_keeps, IsKeptByRounds}
 use Rattle.mama_laws_legal.proofs.Whole.{is_own, are_own, Running, drained, client_runs, publisher_runs}

@@ -31,7 +31,7 @@ use Rattle.mama_rules_legal.specs.Edges.{client_puts, put_on_bridge, AreEdges}
 use Rattle.mama_rules_legal.specs.Lines.{AreLines}
 use Rattle.mama_rules_legal.specs.Streams.{is_of, stream_of, terms_noted, terms_put, terms_of, WasAlive, AreSubStreams}
 use Rattle.mama_laws_legal.specs.Laws.{IsOrderly}
-use Rattle.mama_laws_legal.proofs.Lists.{by_entries}
+use Rattle.mama_journal.specs.EntryLaws.{by_entries}
 use Rattle.mama_laws_legal.proofs.Putters.{by_bridge_port}
 use Rattle.mama_laws_legal.proofs.Whole.{whole_edges}
 use Rattle.mama_laws_legal.proofs.Endings.{is_joining, ending_settles}

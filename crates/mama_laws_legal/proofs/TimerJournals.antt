@@ -37,7 +37,8 @@ use Rattle.mama_rules_legal.specs.Streams.{is_of, WasAlive}
 use Rattle.mama_rules_legal.specs.Lines.{AreLines}
 use Rattle.mama_rules_legal.specs.Ticks.{ticks, timer_stream, arming_noted, arming_put, AreTimerStreams}
 use Rattle.mama_laws_legal.specs.Laws.{IsOrderly}
-use Rattle.mama_laws_legal.proofs.Lists.{by_entries, by_port-append}
+use Rattle.mama_laws_legal.proofs.Lists.{by_port-append}
+use Rattle.mama_journal.specs.EntryLaws.{by_entries}
 use Rattle.mama_laws_legal.proofs.Putters.{by_timers_port, by_queue_port}
 use Rattle.mama_laws_legal.proofs.Whole.{whole_edges}
 use Rattle.mama_laws_legal.proofs.Heard.{SaidLast, no_pause, part_of_steps, below_at, nothing_after}

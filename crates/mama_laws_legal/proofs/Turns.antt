@@ -23,7 +23,7 @@ use Rattle.mama_rules_queue.specs.Queue.{QueuePut, is_fin, bye_put, queue_puts_a
 use Rattle.mama_rules_queue.specs.Queue as lane
 use Rattle.mama_rules_rounds.specs.World.{Setting, orders_by}
 use Rattle.mama_rules_legal.specs.Edges.{queue_puts}
-use Rattle.mama_laws_legal.proofs.Lists.{by_entries, puts-push, all_puts-push}
+use Rattle.mama_journal.specs.EntryLaws.{by_entries, puts-push, all_puts-push}
 
 -- ---- what is put at a turn was put
 

@@ -16,7 +16,7 @@ use Rattle.mama_event.specs.declared.to_queue.Make.TheVariants as make
 use Rattle.mama_event.specs.declared.to_queue.QueueNote.{QueueNote}
 use Rattle.mama_event.specs.declared.to_queue.QueueNote.TheVariants as q
 use Rattle.mama_rules_services.specs.Timers.{TimersEvent, arms, disarms, now, client_done, bye, fin, no_event, heard, clock, arms_timer, has_ending, is_live, live_timers, firing, place_of, to_place, free_slot, gone, answer, ending_comes, timers_reaction}
-use Rattle.mama_timer.proofs.Lists.{by_entries, all_puts-push}
+use Rattle.mama_journal.specs.EntryLaws.{by_entries, all_puts-push}
 use Rattle.mama_timer.proofs.Pushes.{has_ending-keeps}
 use Rattle.mama_laws_timers.specs.Laws.{FinsTellTheEnding}
 

@@ -20,7 +20,8 @@ use Rattle.mama_event.specs.declared.to_queue.QueueNote.{QueueNote}
 use Rattle.mama_event.specs.declared.to_queue.QueueNote.TheVariants as q
 use Rattle.mama_rules_services.specs.Timers.{TimersEvent, arms, disarms, now, client_done, bye, fin, no_event, clock, arms_timer, disarms_timer, has_ending, is_armed, is_live, due, newly_armed, live_timers, comes_first, fires_first, firing, in_order, created_in, place_of, to_place, free_slot, gone, answer, timers_reaction}
 use Rattle.mama_timer.specs.Stands.{stands_at, is_held}
-use Rattle.mama_timer.proofs.Lists.{by_entries, all_puts-push, said_none, list_any-push, list_any-filter}
+use Rattle.mama_timer.proofs.Lists.{said_none, list_any-push, list_any-filter}
+use Rattle.mama_journal.specs.EntryLaws.{by_entries, all_puts-push}
 use Rattle.mama_timer.proofs.Orders.{same_timer-is, same_timer-itself}
 use Rattle.mama_timer.proofs.Pushes.{is_armed-push, has_ending-still, has_ending-keeps, live_before, no_turn}
 use Rattle.mama_timer.proofs.Sorting.{has, AreApart, ascending-apart, has-in_order, has-filter, comes_first-order}

@@ -17,14 +17,14 @@ use Rattle.mama_timer.specs.declared.table.Row.{Row}
 use Rattle.mama_timer.specs.Rows.{laid_down}
 use Rattle.mama_slots.specs.Slots.{SlotData, in_use}
 use Rattle.mama_timer.specs.Stands.{is_held, IsRow, AreListed, Stands}
-use Rattle.mama_timer.proofs.Lists.{puts-push, said_none, list_any-push}
+use Rattle.mama_timer.proofs.Lists.{said_none, list_any-push}
+use Rattle.mama_journal.specs.EntryLaws.{by_entries, puts-push}
 use Rattle.mama_timer.proofs.Orders.{same_timer-is, same_timer-itself}
 use Rattle.mama_timer.proofs.Pushes.{clock-push, is_armed-push, due_along-push, has_ending-still, has_ending-keeps, live_before, armed_came}
 use Rattle.mama_timer.proofs.Live.{all_armed, arms_timer-arms}
 use Rattle.mama_timer.proofs.Holding.{Facts, held_same, held_armed, held_disarmed}
 use Rattle.mama_timer.proofs.Reactions.{arms_no_end, place_new, place_old}
 use Rattle.mama_timer.specs.Firing.{ticked, due_then}
-use Rattle.mama_timer.proofs.Lists.{by_entries}
 use Rattle.mama_timer.proofs.Standing.{not_yet, armed_step, row_step, live_still, due_arms, due_disarms}
 
 due_none_step : (t : TimerId) (e : TimersEvent) (at : ℕ) → arms_timer t e ≡ false → due_step e at (terms_in t e) None ≡ None

@@ -29,7 +29,8 @@ use Rattle.mama_slots.specs.Slots.{SlotData, in_use}
 use Rattle.mama_timer.specs.Service.{Service, taken, every_bye}
 use Rattle.mama_timer.specs.Stands.{IsStill, IsNoWord, is_held, Stands, AreRolls, AreRows}
 use Rattle.mama_timer.specs.Kept.{Kept}
-use Rattle.mama_timer.proofs.Lists.{all_puts-push, list_any-push}
+use Rattle.mama_timer.proofs.Lists.{list_any-push}
+use Rattle.mama_journal.specs.EntryLaws.{all_puts-push}
 use Rattle.std.specs.Ordering.{is_eq}
 use Rattle.mama_event.specs.declared.ids.ObjectId.TheVariants.{Timer}
 use Rattle.mama_event.specs.declared.to_queue.Make.TheVariants as make

@@ -9,7 +9,8 @@ use Rattle.mama_event.specs.Object.{same_timer}
 use Rattle.mama_event.specs.declared.ids.TimerId.{TimerId}
 use Rattle.mama_event.specs.declared.shape.Shape.{Shape}
 use Rattle.mama_rules_services.specs.Timers.{TimersEvent, arms, disarms, now, client_done, bye, fin, no_event, arms_timer, has_ending, is_armed, is_live, newly_armed, comes_first, live_timers}
-use Rattle.mama_timer.proofs.Lists.{by_entries, puts-push, list_any-push}
+use Rattle.mama_timer.proofs.Lists.{list_any-push}
+use Rattle.mama_journal.specs.EntryLaws.{by_entries, puts-push}
 use Rattle.mama_timer.proofs.Orders.{same_timer-is}
 use Rattle.mama_timer.proofs.Pushes.{armed_came}
 use Rattle.mama_timer.proofs.Sorting.{has, IsAscending, AreApart, comes_first-order, ascending-in_order, has-in_order, has-filter, apart-filter, apart-push}

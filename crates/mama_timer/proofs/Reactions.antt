@@ -17,7 +17,8 @@ use Rattle.mama_event.specs.declared.to_queue.QueueNote.{QueueNote}
 use Rattle.mama_event.specs.declared.to_queue.QueueNote.TheVariants as q
 use Rattle.mama_rules_services.specs.Timers.{TimersEvent, arms, disarms, now, client_done, bye, fin, no_event, clock, arms_timer, has_ending, is_armed, is_live, live_timers, firing, created_in, place_of, to_place, free_slot, gone, answer, ending_comes, timers_reaction}
 use Rattle.mama_timer.specs.Stands.{stands_at, is_held}
-use Rattle.mama_timer.proofs.Lists.{by_entries, all_puts-push, first_said-append, said_still, said_none, none_more, none_of_flat_map, none_of_map, list_any-push}
+use Rattle.mama_timer.proofs.Lists.{said_still, said_none, none_more, none_of_flat_map, none_of_map, list_any-push}
+use Rattle.mama_journal.specs.EntryLaws.{by_entries, all_puts-push, first_said-append}
 use Rattle.mama_timer.proofs.Orders.{same_timer-is, same_timer-itself}
 use Rattle.mama_timer.proofs.Pushes.{live_before, no_turn, IsNoEnd}
 use Rattle.mama_timer.proofs.Sorting.{any_never, any_member}

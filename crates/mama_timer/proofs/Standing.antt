@@ -12,7 +12,8 @@ use Rattle.mama_rules_services.specs.Timers.{TimersEvent, arms, disarms, client_
 use Rattle.mama_timer.specs.declared.table.Row.{Row}
 use Rattle.mama_slots.specs.Slots.{SlotData}
 use Rattle.mama_timer.specs.Stands.{IsStill, IsRow, Stands}
-use Rattle.mama_timer.proofs.Lists.{puts-push, said_still, said_none, list_any-push}
+use Rattle.mama_timer.proofs.Lists.{said_still, said_none, list_any-push}
+use Rattle.mama_journal.specs.EntryLaws.{puts-push}
 use Rattle.mama_timer.proofs.Orders.{same_timer-is}
 use Rattle.mama_timer.proofs.Pushes.{clock-push, is_armed-push, due_along-push, has_ending-keeps, live_before}
 use Rattle.mama_timer.proofs.Live.{all_armed, arms_timer-arms}
