@@ -3,7 +3,7 @@
 
 #[cfg(test)]
 mod notes;
-#[cfg(test)]
+// not of the tests alone, since specs/ names its struct
 mod orderer;
 #[cfg(test)]
 mod plans;
