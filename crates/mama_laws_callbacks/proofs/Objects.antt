@@ -31,7 +31,7 @@ use Rattle.mama_rules_legal.specs.Ticks.{arming_of, arming_put, ticks, IsTimerJo
 use Rattle.mama_rules_legal.specs.HaveStreams.{HaveStreams}
 use Rattle.mama_rules_legal.specs.Legal.{IsLegal}
 use Rattle.mama_laws_legal.specs.Laws.{IsOrderly}
-use Rattle.mama_laws_legal.proofs.LegalRounds.{rounds_are_legal, have_streams}
+use Rattle.mama_laws_legal.proofs.LegalRounds.{have_streams}
 use Rattle.mama_laws_callbacks.specs.Told.{call_in, call_of, strategy, ticks_told, replies_told, deeds_on, IsTold, IsToldLink, IsToldTicks, IsToldReplies, IsToldObject, Of, LegalRecordsTellAll}
 use Rattle.mama_laws_callbacks.proofs.Telling.{sub_told, sub_at_once, timer_told, timer_at_once, inbox_told, inbox_at_once}
 use Rattle.mama_laws_callbacks.proofs.Joining.{OfClient, PlannedOf, queue_in, timer_queue_in, inbox_queue_in, all_planned}

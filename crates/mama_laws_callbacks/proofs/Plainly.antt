@@ -7,7 +7,6 @@ use Rattle.mama_event.specs.declared.market.MarketMsg.{MarketMsg}
 use Rattle.mama_event.specs.declared.market.SubKind.{SubKind}
 use Rattle.mama_dq.proofs.OrderlyLaw.{orderly_law}
 use Rattle.mama_rules_services.specs.Bridge.{heard, window}
-use Rattle.mama_laws_legal.proofs.LegalRounds.{rounds_are_legal}
 use Rattle.mama_laws_genuine.proofs.Ordered.{windows_are_in_order}
 use Rattle.mama_laws_genuine.proofs.CalmLinks.{plain}
 use Rattle.mama_laws_callbacks.specs.Told.{strategy}

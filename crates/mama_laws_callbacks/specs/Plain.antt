@@ -7,7 +7,6 @@ use Rattle.mama_dq.specs.Orderly.{as_ok, from_first_image}
 use Rattle.mama_rules_services.specs.Bridge.{heard, window}
 use Rattle.mama_record.specs.RunData.{RunData}
 use Rattle.mama_script.specs.Script.{ScriptData}
-use Rattle.mama_rules_rounds.specs.Round.{IsRound}
 use Rattle.mama_rules_legal.specs.Streams.{terms_of}
 use Rattle.mama_rules_legal.specs.Legal.{IsLegal}
 use Rattle.mama_laws_legal.specs.Laws.{IsOrderly}

@@ -28,7 +28,7 @@ use Rattle.mama_record.specs.RunData.{RunData, ObjectCalls}
 use Rattle.mama_script.specs.Script.{ScriptData}
 use Rattle.mama_rules_rounds.specs.Client.{Planned}
 use Rattle.mama_rules_rounds.specs.World.{orders_by}
-use Rattle.mama_rules_rounds.specs.Round.{IsRound, setting_of}
+use Rattle.mama_rules_rounds.specs.Round.{setting_of}
 use Rattle.mama_rules_legal.specs.Streams.{events_of, terms_of, inbox_terms_of}
 use Rattle.mama_rules_legal.specs.Ticks.{arming_of, ticks}
 use Rattle.mama_rules_legal.specs.Legal.{IsLegal}

@@ -32,7 +32,7 @@ use Rattle.mama_laws_legal.specs.Laws.{IsOrderly}
 use Rattle.mama_rules_legal.specs.Streams.{is_of, events_of, IsSubJournal}
 use Rattle.mama_laws_legal.proofs.Lives.{same_sub-itself}
 use Rattle.mama_rules_legal.specs.Legal.{IsLegal}
-use Rattle.mama_laws_legal.proofs.LegalRounds.{rounds_are_legal, have_streams}
+use Rattle.mama_laws_legal.proofs.LegalRounds.{have_streams}
 use Rattle.mama_laws_genuine.specs.CalmLinks.{HasPlainLink, joined_terms}
 use Rattle.mama_laws_genuine.specs.GivenAll.{given_in, given, updates_among, IsGivenAll, was_muted, AreGivenFor, HasAllGiven, LegalUpdatesAreGiven}
 use Rattle.mama_laws_genuine.proofs.Calm.{not_of}

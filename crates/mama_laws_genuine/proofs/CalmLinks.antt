@@ -11,6 +11,7 @@ use Rattle.mama_event.specs.declared.ids.ObjectId.TheVariants.{Sub, Timer, Inbox
 use Rattle.mama_event.specs.declared.callback.CallNote.{CallNote}
 use Rattle.mama_event.specs.declared.to_bridge.SubTerms.{SubTerms}
 use Rattle.mama_event.specs.declared.to_queue.QueueNote.{QueueNote}
+use Rattle.mama_rules_services.specs.Bridge.{terms_in, leaves_sub}
 use Rattle.mama_rules_queue.specs.Queue.{calls_of, deeds}
 use Rattle.mama_script.specs.Script.{ScriptData}
 use Rattle.mama_record.specs.RunData.{RunData}
@@ -20,9 +21,9 @@ use Rattle.mama_rules_rounds.specs.Round.{setting_of, object_calls, noted}
 use Rattle.mama_laws_legal.specs.Laws.{IsOrderly}
 use Rattle.mama_rules_legal.specs.Streams.{terms_of}
 use Rattle.mama_laws_legal.proofs.AllSent.{count_publishers}
-use Rattle.mama_laws_legal.proofs.SubJournals.{CameAndWent, came_by_lines}
+use Rattle.mama_laws_legal.proofs.BegunByLines.{CameAndWent}
+use Rattle.mama_laws_legal.proofs.SubJournals.{came_by_lines}
 use Rattle.mama_rules_legal.specs.Legal.{IsLegal}
-use Rattle.mama_laws_legal.proofs.LegalRounds.{rounds_are_legal}
 use Rattle.mama_laws_genuine.specs.Faultless.{IsCalm}
 use Rattle.mama_laws_genuine.specs.Order.{IsFedBy}
 use Rattle.mama_laws_genuine.specs.CalmLinks.{HasPlainLink, AreCalmFor, HasCalmCalls, LegalLinksAreCalm}
@@ -36,7 +37,7 @@ module _ (script : ScriptData) (run : RunData) (orderly : IsOrderly script) (is 
   pub record IsPlain (s : SubId) (terms : SubTerms) : Type 0 where
     pub client : s.client < clients_of script.shape
     pub said : terms_of script run s ≡ Some terms
-    pub came : CameAndWent script run s terms
+    pub came : CameAndWent script.shape (terms_in s) (leaves_sub s) run.bridge terms
     pub place : ℕ
     pub publisher : place < length script.publishers
     pub fed : IsFedBy script.shape s terms.topic place run.bridge

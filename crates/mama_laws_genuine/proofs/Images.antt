@@ -35,7 +35,6 @@ use Rattle.mama_rules_rounds.specs.Round.{object_calls, noted}
 use Rattle.mama_record.specs.RunData.{ObjectCalls}
 use Rattle.mama_rules_legal.specs.Calls.{IsShapedFor, AreCalls}
 use Rattle.mama_rules_legal.specs.Edges.{AreEdges}
-use Rattle.mama_laws_legal.proofs.Whole.{whole_edges, shaped as rounds_shaped, calls_told}
 use Rattle.mama_laws_genuine.specs.Sent.{IsReply, IsSent, Delivers, Gives, AreGivenSent, DeliveredMessagesAreSent, GivenMessagesAreSent}
 use Rattle.mama_laws_genuine.specs.Records.{IsRecord, AreRecords, OkImagesAreRecords}
 use Rattle.mama_laws_genuine.proofs.Elements.{all_flat, all_map, all_mapped, all_at}

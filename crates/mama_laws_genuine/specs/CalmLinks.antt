@@ -11,7 +11,7 @@ use Rattle.mama_event.specs.declared.to_bridge.SubTerms.{SubTerms}
 use Rattle.mama_record.specs.RunData.{RunData, ObjectCalls}
 use Rattle.mama_script.specs.Script.{ScriptData}
 use Rattle.mama_rules_rounds.specs.Client.{Planned}
-use Rattle.mama_rules_rounds.specs.Round.{IsRound, setting_of}
+use Rattle.mama_rules_rounds.specs.Round.{setting_of}
 use Rattle.mama_rules_legal.specs.Edges.{client_puts}
 use Rattle.mama_rules_legal.specs.Streams.{terms_put}
 use Rattle.mama_rules_legal.specs.Legal.{IsLegal}

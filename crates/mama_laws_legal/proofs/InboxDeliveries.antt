@@ -1,9 +1,9 @@
 -- What one entry of the bridge puts for an inbox.
 use Rattle.std.specs.Prelude.{not, position, Option, None, Some, is_some, ◌-◌}
 use Rattle.std.specs.List.{flat_map, list_any}
-use Rattle.std.proofs.Common.{◌≡◌, ℕ, ◌==◌, Bool, true, false, ◌&&◌, cond, List, [], ◌∷◌, ◌++◌, map, refl, sym, ◌∙◌, ap, append-nil}
+use Rattle.std.proofs.Common.{◌≡◌, ℕ, ◌==◌, Bool, true, false, ◌&&◌, cond, List, [], ◌∷◌, ◌++◌, refl, sym, ◌∙◌, ap}
 use Rattle.std.proofs.lemmas.Bool.{both_ways}
-use Rattle.mama_journal.specs.Journal.{turns, first_said, numbers_below}
+use Rattle.mama_journal.specs.Journal.{turns, first_said}
 use Rattle.mama_msg.specs.Field.{FieldData}
 use Rattle.mama_link.specs.Link.{rest}
 use Rattle.mama_event.specs.declared.ids.SubId.{SubId}
@@ -18,13 +18,11 @@ use Rattle.mama_event.specs.declared.shape.Shape.{Shape}
 use Rattle.mama_event.specs.declared.to_bridge.InboxTerms.{InboxTerms}
 use Rattle.mama_event.specs.declared.to_publisher.PublisherNote.{PublisherNote}
 use Rattle.mama_event.specs.declared.to_publisher.PublisherNote.TheVariants as p
-use Rattle.mama_event.specs.declared.to_timers.TimersNote.TheVariants as t
 use Rattle.mama_event.specs.declared.to_queue.Make.TheVariants as make
 use Rattle.mama_event.specs.declared.to_queue.QueueNote.{QueueNote}
 use Rattle.mama_event.specs.declared.to_queue.QueueNote.TheVariants as q
-use Rattle.mama_event.specs.Ports.{publishers_of, queues_of}
 use Rattle.mama_event.specs.Object.{same_inbox}
-use Rattle.mama_rules_services.specs.Bridge.{BridgeEvent, joins, leaves, opens, closes, asks, publishes, images, replies, wishes, client_done, sends_done, settled, bye, no_event, BridgePut, to_publisher, to_queue, to_timers, is_settling, has_ending, is_live, is_open, terms_in, inbox_terms_in, joins_sub, opens_inbox, closes_inbox, live_subs, open_inboxes, newly_opened, place_of, sent_with, window, reply_window, replied_to, faults_of, inbox_faults_of, free_slot, to_found, to_first, wants_image, delivered, replied, gone, passed_on, passed, passed_reply, ended, ended_inbox, may_wish, answer, settle_begins, ending_comes, bridge_reaction}
+use Rattle.mama_rules_services.specs.Bridge.{BridgeEvent, joins, leaves, opens, closes, asks, publishes, images, replies, wishes, client_done, sends_done, settled, bye, no_event, BridgePut, to_publisher, to_queue, is_settling, has_ending, is_live, is_open, terms_in, inbox_terms_in, joins_sub, opens_inbox, closes_inbox, live_subs, open_inboxes, newly_opened, place_of, sent_with, window, reply_window, replied_to, faults_of, inbox_faults_of, free_slot, to_found, to_first, wants_image, delivered, replied, gone, passed_on, passed, passed_reply, ended, ended_inbox, may_wish, answer, bridge_reaction}
 use Rattle.mama_rules_legal.specs.Streams.{stream_of}
 use Rattle.mama_laws_legal.proofs.Lives.{same_inbox-is, same_inbox-itself}
 use Rattle.mama_laws_legal.proofs.Among.{AreIds, is_made, begun_by, among_alive, own_among}

@@ -18,7 +18,7 @@ use Rattle.mama_event.specs.ToBridge as bridge
 use Rattle.mama_event.specs.ToPublisher as publisher
 use Rattle.mama_event.specs.ToTimers as timers
 use Rattle.mama_event.specs.ToQueue as queue
-use Rattle.mama_rules_services.specs.Bridge.{BridgeEvent, bridge_puts}
+use Rattle.mama_rules_services.specs.Bridge.{bridge_puts}
 use Rattle.mama_rules_services.specs.Bridge as bridging
 use Rattle.mama_rules_services.specs.Timers.{TimersEvent, timers_puts}
 use Rattle.mama_rules_services.specs.Timers as timing
@@ -34,11 +34,10 @@ use Rattle.mama_rules_rounds.specs.Round.{setting_of}
 use Rattle.mama_rules_legal.specs.Edges.{all_steps, client_puts, queue_puts, put_on_bridge, put_on_timers, AreEdges}
 use Rattle.mama_rules_legal.specs.Last.{HaveLast}
 use Rattle.mama_rules_legal.specs.Lines.{AreLines}
-use Rattle.mama_laws_legal.proofs.Whole.{whole_edges}
 use Rattle.mama_laws_legal.proofs.Putters.{by_bridge_port, by_timers_port}
 use Rattle.mama_laws_legal.proofs.Endings.{tail}
 use Rattle.mama_laws_legal.proofs.Heard.{is_client_done, is_settled, putter_queue, part_of_steps, said_has, settled_client}
-use Rattle.mama_laws_legal.proofs.AllSent.{count_publishers, below_from, said, settling_of_lines, told_end, ending_of_lines, steps_at, settled_of_lines, lines_done}
+use Rattle.mama_laws_legal.proofs.AllSent.{count_publishers, below_from, said, settling_of_lines, told_end, ending_of_lines, steps_at, settled_of_lines}
 use Rattle.mama_laws_legal.proofs.Turns.{any_flat, any_port, bridge_fin_timers, bridge_fin_queue, timers_fin, queue_bye, two_fins}
 
 any_weaker : {X : Type 0} (f g : X → Bool) (xs : List X) → ((x : X) → f x ≡ true → g x ≡ true) → list_any f xs ≡ true → list_any g xs ≡ true

@@ -20,6 +20,7 @@ pub mod Deliveries
 pub mod SubStreams
 pub mod Journals
 pub mod ObjectJournals
+pub mod BegunByLines
 pub mod SubJournals
 pub mod InboxDeliveries
 pub mod InboxStreams

@@ -1,9 +1,8 @@
 -- The bridge puts nothing for a timer.
 use Rattle.std.specs.Prelude.{not, position, Option, None, Some, ◌-◌}
 use Rattle.std.specs.List.{flat_map, list_any}
-use Rattle.std.proofs.Common.{◌≡◌, ℕ, ◌==◌, Bool, true, false, ◌&&◌, cond, List, [], ◌∷◌, ◌++◌, map, refl, ◌∙◌, ap}
-use Rattle.std.proofs.lemmas.List.Concat.{flat_map-append}
-use Rattle.mama_journal.specs.Journal.{all_puts, turns, first_said, numbers_below}
+use Rattle.std.proofs.Common.{◌≡◌, ℕ, ◌==◌, Bool, true, false, ◌&&◌, cond, List, [], ◌∷◌, ◌++◌, refl, ◌∙◌, ap}
+use Rattle.mama_journal.specs.Journal.{all_puts, turns, first_said}
 use Rattle.mama_msg.specs.Field.{FieldData}
 use Rattle.mama_link.specs.Link.{rest}
 use Rattle.mama_event.specs.declared.ids.SubId.{SubId}
@@ -18,13 +17,11 @@ use Rattle.mama_event.specs.declared.market.SubKind.TheVariants.{Market, Snapsho
 use Rattle.mama_event.specs.declared.shape.Shape.{Shape}
 use Rattle.mama_event.specs.declared.to_publisher.PublisherNote.{PublisherNote}
 use Rattle.mama_event.specs.declared.to_publisher.PublisherNote.TheVariants as p
-use Rattle.mama_event.specs.declared.to_timers.TimersNote.TheVariants as t
 use Rattle.mama_event.specs.declared.to_queue.Make.TheVariants as make
 use Rattle.mama_event.specs.declared.to_queue.QueueNote.{QueueNote}
 use Rattle.mama_event.specs.declared.to_queue.QueueNote.TheVariants as q
-use Rattle.mama_event.specs.Ports.{publishers_of, queues_of}
-use Rattle.mama_rules_services.specs.Bridge.{BridgeEvent, joins, leaves, opens, closes, asks, publishes, images, replies, wishes, client_done, sends_done, settled, bye, no_event, BridgePut, to_publisher, to_queue, to_timers, is_settling, has_ending, is_live, is_open, terms_in, inbox_terms_in, joins_sub, opens_inbox, live_subs, open_inboxes, sent_with, window, reply_window, replied_to, faults_of, inbox_faults_of, place_of, to_place, free_slot, to_found, to_first, wants_image, delivered, replied, gone, passed_on, passed, passed_reply, ended, ended_inbox, may_wish, answer, settle_begins, ending_comes, bridge_reaction}
-use Rattle.mama_rules_legal.specs.Streams.{is_of, put_for, stream_of}
+use Rattle.mama_rules_services.specs.Bridge.{BridgeEvent, joins, leaves, opens, closes, asks, publishes, images, replies, wishes, client_done, sends_done, settled, bye, no_event, BridgePut, to_publisher, to_queue, is_settling, has_ending, is_live, is_open, terms_in, inbox_terms_in, joins_sub, opens_inbox, live_subs, open_inboxes, sent_with, window, reply_window, replied_to, faults_of, inbox_faults_of, place_of, free_slot, to_found, to_first, wants_image, delivered, replied, gone, passed_on, passed, passed_reply, ended, ended_inbox, may_wish, answer, bridge_reaction}
+use Rattle.mama_rules_legal.specs.Streams.{stream_of}
 use Rattle.mama_laws_legal.proofs.BridgeStreams.{stream_flat, none_cond, none_unless, none_append, items_other, gone_other, reaction_of}
 use Rattle.mama_journal.specs.EntryLaws.{by_entries, all_puts-push}
 

@@ -1,5 +1,5 @@
 -- What a service heard of an object of any kind, that it was alive, and what its queue's journal has of it.
-use Rattle.std.specs.Prelude.{not, Option, None, Some}
+use Rattle.std.specs.Prelude.{not, Option, None}
 use Rattle.std.specs.List.{flat_map, list_any}
 use Rattle.std.specs.Option.{option_or}
 use Rattle.std.proofs.Common.{◌≡◌, ℕ, ◌+◌, ◌<◌, ◌==◌, Bool, true, false, ◌&&◌, ◌||◌, cond, List, [], ◌∷◌, ◌++◌, map, refl, sym, ◌∙◌, ap, subst, ⊎_elim, append-nil, append_assoc, arith}

@@ -1,8 +1,7 @@
 -- Which actor puts by a port, by cases, and what one entry more puts on each lane.
-use Rattle.std.specs.Prelude.{slice_index_or, slice_set, nat_lt, nat_le, ◌-◌}
+use Rattle.std.specs.Prelude.{slice_index_or, slice_set}
 use Rattle.std.specs.List.{flat_map}
-use Rattle.std.proofs.Common.{◌≡◌, ℕ, ◌+◌, ◌<◌, ◌≤◌, ◌==◌, Bool, true, false, ◌&&◌, cond, List, [], ◌∷◌, ◌++◌, length, refl, sym, ◌∙◌, ap, subst, arith}
-use Rattle.std.proofs.lemmas.Bool.{and_parts, cond_both, ltb-true, ltb-false, leb-true, eqb-true, eqb-false, le-leb}
+use Rattle.std.proofs.Common.{◌≡◌, ℕ, ◌+◌, ◌<◌, ◌==◌, cond, List, [], ◌∷◌, ◌++◌, length, refl, sym, ◌∙◌, ap, subst, arith}
 use Rattle.std.proofs.lemmas.List.{map-append, get_or-set_same, get_or-set_other}
 use Rattle.std.proofs.lemmas.List.Concat.{flat_map-append}
 use Rattle.mama_journal.specs.Journal.{all_puts}
@@ -18,7 +17,7 @@ use Rattle.mama_rules_services.specs.Bridge.{BridgePut, bridge_puts, bridge_puts
 use Rattle.mama_rules_services.specs.Bridge as bridge
 use Rattle.mama_rules_services.specs.Timers.{timers_puts, timers_puts_at, timers_reaction}
 use Rattle.mama_rules_services.specs.Timers as timers
-use Rattle.mama_rules_services.specs.Ports.{Putter, ByClient, ByPublisher, ByQueue, ByBridge, ByTimers, ByNobody, bridge_putter, timers_putter, queue_putter}
+use Rattle.mama_rules_services.specs.Ports.{ByPublisher, ByQueue, ByBridge, ByTimers, ByNobody, bridge_putter, timers_putter, queue_putter}
 use Rattle.mama_rules_queue.specs.Queue.{QueuePut, queue_puts_at}
 use Rattle.mama_rules_rounds.specs.Client.{bridge_part, timers_part}
 use Rattle.mama_rules_rounds.specs.World.{Setting, no_section, orders_by, queue_part, timer_part}

@@ -1,7 +1,7 @@
 -- The stream of a subscription: its Create, what its link lets through of its window, and its Gone.
 use Rattle.std.specs.Prelude.{slice_index, Option, None, Some, is_some}
 use Rattle.std.specs.List.{list_any}
-use Rattle.std.proofs.Common.{◌≡◌, ℕ, ◌==◌, Bool, true, false, cond, List, [], ◌∷◌, ◌++◌, map, refl, sym, ◌∙◌, ap, subst, inl}
+use Rattle.std.proofs.Common.{◌≡◌, ℕ, ◌==◌, Bool, true, false, cond, List, [], ◌∷◌, ◌++◌, map, refl, ◌∙◌, ap, subst, inl}
 use Rattle.std.proofs.lemmas.Bool.{both_ways}
 use Rattle.mama_journal.specs.Journal.{first_said}
 use Rattle.mama_link.specs.Link.{rest}

@@ -1,10 +1,9 @@
 -- In the record of a run in rounds the journals of queues have the streams of the timers.
-use Rattle.std.specs.Prelude.{slice_index_or, not, filter, Option, None, Some, is_some}
+use Rattle.std.specs.Prelude.{slice_index_or, filter, Option, None, Some, is_some}
 use Rattle.std.specs.List.{flat_map, list_any}
 use Rattle.std.specs.Option.{option_or}
-use Rattle.std.proofs.Common.{◌≡◌, ℕ, ◌+◌, ◌<◌, ◌==◌, Bool, true, false, ◌&&◌, ◌||◌, cond, List, [], ◌∷◌, ◌++◌, refl, sym, ◌∙◌, ap, subst, arith, ⊎_elim, append-nil, append_assoc}
-use Rattle.std.proofs.lemmas.Bool.{and_parts, and_from, or_left, or_right, or_cases, or_from, both_ways, cases_Bool, eqb-true, eqb-false, eq-eqb, ne_eqb, false_from_ne_true}
-use Rattle.std.proofs.lemmas.List.{map-append}
+use Rattle.std.proofs.Common.{◌≡◌, ℕ, ◌+◌, ◌<◌, ◌==◌, Bool, true, false, ◌&&◌, cond, List, [], ◌∷◌, ◌++◌, refl, sym, ◌∙◌, ap, subst, arith, ⊎_elim, append_assoc}
+use Rattle.std.proofs.lemmas.Bool.{and_parts, or_left, or_right, or_cases, or_from, both_ways, eqb-true, eqb-false, eq-eqb, ne_eqb, false_from_ne_true}
 use Rattle.std.proofs.lemmas.List.Folds.{list_any-append}
 use Rattle.mama_journal.specs.Journal.{first_said, all_below}
 use Rattle.mama_journal.specs.Lane.{by_port}
@@ -21,7 +20,7 @@ use Rattle.mama_event.specs.Ports.{clients_of, queues_of}
 use Rattle.mama_event.specs.Object.{same_timer}
 use Rattle.mama_rules_services.specs.Bridge.{bridge_puts}
 use Rattle.mama_rules_services.specs.Bridge as bridging
-use Rattle.mama_rules_services.specs.Timers.{TimersEvent, arms, no_event, from_client, from_queue, from_bridge, put_by, heard, terms_in, arms_timer, disarms_timer, ends_client, is_fin, has_ending, is_armed, is_live, timers_puts}
+use Rattle.mama_rules_services.specs.Timers.{TimersEvent, arms, no_event, from_client, from_queue, from_bridge, put_by, heard, terms_in, arms_timer, disarms_timer, ends_client, is_fin, has_ending, is_live, timers_puts}
 use Rattle.mama_rules_services.specs.Ports.{timers_putter, queue_putter}
 use Rattle.mama_rules_queue.specs.Queue.{QueuePut}
 use Rattle.mama_rules_queue.specs.Queue as queue
@@ -38,15 +37,13 @@ use Rattle.mama_rules_legal.specs.Lines.{AreLines}
 use Rattle.mama_rules_legal.specs.Ticks.{ticks, timer_stream, arming_noted, arming_put, AreTimerStreams}
 use Rattle.mama_laws_legal.specs.Laws.{IsOrderly}
 use Rattle.mama_laws_legal.proofs.Lists.{by_port-append}
-use Rattle.mama_journal.specs.EntryLaws.{by_entries}
 use Rattle.mama_laws_legal.proofs.Putters.{by_timers_port, by_queue_port}
-use Rattle.mama_laws_legal.proofs.Whole.{whole_edges}
 use Rattle.mama_laws_legal.proofs.Heard.{SaidLast, no_pause, part_of_steps, below_at, nothing_after}
-use Rattle.mama_laws_legal.proofs.AllSent.{steps_at, lines_done}
+use Rattle.mama_laws_legal.proofs.AllSent.{steps_at}
 use Rattle.mama_laws_legal.proofs.LastEvents.{timers_done, timers_client, timers_ended, some_client}
 use Rattle.mama_laws_legal.proofs.Lives.{said_came}
 use Rattle.mama_laws_legal.proofs.QueuesThere.{queues_there}
-use Rattle.mama_laws_legal.proofs.Journals.{one_port, part_stream, on_one_queue}
+use Rattle.mama_laws_legal.proofs.Journals.{one_port, part_stream}
 use Rattle.mama_laws_legal.proofs.NoTimers.{bridge_none}
 use Rattle.mama_laws_legal.proofs.TimerLives.{is_word, ending_same}
 use Rattle.mama_laws_legal.proofs.ObjectJournals.{said_by_port, said_in_parts, was_alive, dead_at_ending, journal_has}

@@ -1,16 +1,15 @@
 -- When a timer is live, with one entry more; and what of the service's puts is for it.
-use Rattle.std.specs.Prelude.{not, nat_le, Option, None, Some, is_some}
+use Rattle.std.specs.Prelude.{nat_le, Option, None, Some, is_some}
 use Rattle.std.specs.List.{flat_map, list_any}
 use Rattle.std.specs.Option.{option_or}
-use Rattle.std.proofs.Common.{◌≡◌, ℕ, zero, suc, ◌==◌, Bool, true, false, ◌&&◌, ◌||◌, cond, List, [], ◌∷◌, ◌++◌, map, filter, refl, sym, ◌∙◌, ap, append-nil}
-use Rattle.std.proofs.lemmas.Bool.{and_parts, and_from, or_left, both_ways, eq-eqb, eqb-true}
+use Rattle.std.proofs.Common.{◌≡◌, ℕ, zero, suc, Bool, true, false, cond, List, [], ◌∷◌, ◌++◌, map, filter, refl, sym, ◌∙◌, ap, append-nil}
+use Rattle.std.proofs.lemmas.Bool.{and_parts, and_from, or_left, both_ways}
 use Rattle.std.proofs.lemmas.List.Elements.{filter-append}
-use Rattle.std.proofs.lemmas.List.Concat.{flat_map-append}
 use Rattle.std.proofs.lemmas.List.Folds.{list_any-append}
-use Rattle.mama_journal.specs.Journal.{puts, first_said, all_below, turns, numbers_below}
+use Rattle.mama_journal.specs.Journal.{first_said, all_below, turns, numbers_below}
 use Rattle.mama_event.specs.declared.ids.TimerId.{TimerId}
 use Rattle.mama_event.specs.declared.ids.ObjectId.{ObjectId}
-use Rattle.mama_event.specs.declared.ids.ObjectId.TheVariants.{Sub, Timer, Inbox}
+use Rattle.mama_event.specs.declared.ids.ObjectId.TheVariants.{Timer}
 use Rattle.mama_event.specs.declared.shape.Shape.{Shape}
 use Rattle.mama_event.specs.declared.to_queue.Make.TheVariants as make
 use Rattle.mama_event.specs.declared.to_queue.QueueNote.{QueueNote}

@@ -1,7 +1,7 @@
 -- The stream of a timer: its Create, its ticks, and its Gone.
-use Rattle.std.specs.Prelude.{nat_le, Option, None, Some, is_some}
+use Rattle.std.specs.Prelude.{nat_le, None, Some, is_some}
 use Rattle.std.specs.List.{list_any}
-use Rattle.std.proofs.Common.{◌≡◌, ℕ, Bool, true, false, cond, List, [], ◌∷◌, ◌++◌, map, refl, sym, ◌∙◌, ap, subst, append-nil}
+use Rattle.std.proofs.Common.{◌≡◌, ℕ, Bool, true, false, cond, List, [], ◌∷◌, ◌++◌, map, refl, ◌∙◌, ap, subst, append-nil}
 use Rattle.std.proofs.lemmas.Bool.{both_ways}
 use Rattle.mama_event.specs.declared.ids.TimerId.{TimerId}
 use Rattle.mama_event.specs.declared.ids.ObjectId.TheVariants.{Timer}
@@ -10,7 +10,7 @@ use Rattle.mama_event.specs.declared.to_queue.Make.TheVariants as make
 use Rattle.mama_event.specs.declared.to_queue.QueueNote.{QueueNote}
 use Rattle.mama_event.specs.declared.to_queue.QueueNote.TheVariants as q
 use Rattle.mama_event.specs.Object.{same_timer}
-use Rattle.mama_rules_services.specs.Timers.{TimersEvent, arms, disarms, now, client_done, bye, fin, no_event, clock, terms_in, arms_timer, disarms_timer, has_ending, due, place_of, free_slot, gone, answer, timers_reaction, timers_puts, heard}
+use Rattle.mama_rules_services.specs.Timers.{TimersEvent, arms, disarms, now, clock, terms_in, arms_timer, disarms_timer, has_ending, due, place_of, free_slot, gone, answer, timers_reaction, timers_puts, heard}
 use Rattle.mama_rules_legal.specs.Streams.{IsStream}
 use Rattle.mama_rules_legal.specs.Ticks.{fires, ticks}
 use Rattle.mama_laws_legal.specs.Laws.{TimersGetTheirStreams}

@@ -21,9 +21,8 @@ use Rattle.mama_record.specs.RunData.{RunData}
 use Rattle.mama_rules_rounds.specs.Round.{IsRound}
 use Rattle.mama_rules_legal.specs.Edges.{AreEdges}
 use Rattle.mama_rules_legal.specs.Lines.{AreLines}
-use Rattle.mama_rules_legal.specs.Last.{HaveLast}
-use Rattle.mama_rules_legal.specs.Streams.{WasAlive, IsSubStream, IsInboxStream, stream_of, terms_of, inbox_terms_of, AreSubStreams, AreInboxStreams}
-use Rattle.mama_rules_legal.specs.Ticks.{ticks, timer_stream, IsTimerStream, arming_of, AreTimerStreams}
+use Rattle.mama_rules_legal.specs.Streams.{WasAlive, IsSubStream, IsInboxStream, stream_of, terms_of, inbox_terms_of}
+use Rattle.mama_rules_legal.specs.Ticks.{ticks, timer_stream, IsTimerStream, arming_of}
 use Rattle.mama_rules_legal.specs.HaveStreams.{HaveStreams}
 use Rattle.mama_rules_legal.specs.Legal.{IsLegal}
 use Rattle.mama_rules_legal.specs.Calls.{IsShapedFor, AreCalls}

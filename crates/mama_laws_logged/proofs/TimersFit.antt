@@ -2,8 +2,8 @@
 use Rattle.std.specs.Prelude.{is_some, option_map, if◌then◌else◌}
 use Rattle.std.specs.List.{AllByRecursion, list_any, flat_map, filter}
 use Rattle.std.specs.Option.{option_or}
-use Rattle.std.proofs.Common.{◌≡◌, ℕ, ◌+◌, ◌*◌, ◌^◌, ◌≤◌, ◌<◌, ◌==◌, eqb, nat_le, Bool, true, false, not, List, [], ◌∷◌, ◌++◌, length, map, Option, None, Some, refl, subst, arith}
-use Rattle.std.proofs.lemmas.Bool.{cond_both, and_parts}
+use Rattle.std.proofs.Common.{◌≡◌, ℕ, ◌+◌, ◌*◌, ◌^◌, ◌≤◌, ◌<◌, ◌==◌, eqb, nat_le, Bool, true, false, List, [], ◌∷◌, ◌++◌, length, map, Option, None, Some, refl, subst, arith}
+use Rattle.std.proofs.lemmas.Bool.{cond_both}
 use Rattle.std.proofs.lemmas.Nat.{mul-add-lt}
 use Rattle.mama_journal.specs.Journal.{puts, all_puts, turns, numbers_below}
 use Rattle.mama_event.specs.Ports.{queues_of}
@@ -15,7 +15,7 @@ use Rattle.mama_event.specs.declared.to_queue.QueueNote.{QueueNote}
 use Rattle.mama_event.specs.declared.to_queue.QueueNote.TheVariants as q
 use Rattle.mama_event.specs.Object.{same_timer, same_object}
 use Rattle.mama_event.specs.EqualityLaws.{same_timer-Decides}
-use Rattle.mama_rules_services.specs.Timers.{TimersEvent, arms, disarms, now, moment_in, clock, last_moment, arms_timer, disarms_timer, has_ending, is_armed, is_live, newly_armed, comes_first, fires_first, due, put_in, in_order, live_timers, firing, created_by, place_of, to_place, slot_on, free_slot, gone, answer, ending_comes, timers_reaction}
+use Rattle.mama_rules_services.specs.Timers.{TimersEvent, arms, disarms, now, moment_in, clock, last_moment, arms_timer, disarms_timer, has_ending, is_live, newly_armed, comes_first, fires_first, due, put_in, in_order, live_timers, firing, created_by, place_of, to_place, slot_on, free_slot, gone, answer, ending_comes, timers_reaction}
 use Rattle.mama_laws_genuine.proofs.Elements.{all_append, all_weaker, all_if, all_flat_map, all_mapped, all_filter, all_puts_after, all_puts_so_far}
 use Rattle.mama_log_line.specs.Names.{NamesData, IsTimer, timer_terms_of, make_of}
 use Rattle.mama_log_line.specs.Entering.{QueueFromTimers}
