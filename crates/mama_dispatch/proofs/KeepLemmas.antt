@@ -21,25 +21,8 @@ use Rattle.mama_dispatch.specs.Making.{Created, Ended}
 use Rattle.mama_dispatch.specs.Keeping.{AreFew, Kept, KeptWith}
 use Rattle.mama_dispatch.specs.Hearing.{AllSeats, AtSeat, HeardOn, GivenOn, HasHeard, HeardSince, HeardAt, PlanGives, ListensAs, IsPlannedSeat, PlannedAt, ArePlanned, ComesWith, ComesPlanned}
 use Rattle.mama_dispatch.proofs.DeedLemmas.{same_object-true, same_object-refl}
+use Rattle.mama_dispatch.proofs.AllLemmas.{all_map, all_change, all_more}
 use Rattle.mama_dispatch.proofs.PlaceLemmas.{none_changed, apart_kept, at_object, apart_more}
-
--- ALL SEATS
-
-pub all_map : (P Q : SeatData → Type 0) (f : SeatData → SeatData) → ((s : SeatData) → P s → Q (f s)) → (ss : List SeatData) → AllSeats P ss → AllSeats Q (map f ss)
-all_map P Q f step [] all = tt
-all_map P Q f step (s ∷ ss) all = (step s all.0, all_map P Q f step ss all.1)
-
-pub all_back : (P Q : SeatData → Type 0) (f : SeatData → SeatData) → ((s : SeatData) → Q (f s) → P s) → (ss : List SeatData) → AllSeats Q (map f ss) → AllSeats P ss
-all_back P Q f step [] all = tt
-all_back P Q f step (s ∷ ss) all = (step s all.0, all_back P Q f step ss all.1)
-
-pub all_change : (P : SeatData → Type 0) (o : ObjectId) (f : SeatData → SeatData) → ((s : SeatData) → P s → P (f s)) → (ss : List SeatData) → AllSeats P ss → AllSeats P (map (at o f) ss)
-all_change P o f step ss all =
-    all_map P P (at o f) (λ s p. elim (same_object o s.object) as (λ t. P (if t then f s else s)) [ true ↦ step s p | false ↦ p ]) ss all
-
-pub all_more : (P : SeatData → Type 0) (ss : List SeatData) (s : SeatData) → AllSeats P ss → P s → AllSeats P (ss ++ s ∷ [])
-all_more P [] s all p = (p, tt)
-all_more P (t ∷ ss) s all p = (all.0, all_more P ss s all.1 p)
 
 -- A SEAT OF AN OBJECT
 

@@ -1,7 +1,9 @@
 pub mod DeedLemmas
 pub mod SeatLemmas
+pub mod AllLemmas
 pub mod PlaceLemmas
 pub mod CallBound
+pub mod CacheBound
 pub mod CallLemmas
 pub mod Ids
 pub mod ArmLemmas

@@ -15,7 +15,8 @@ use Rattle.mama_event.specs.Listener.{ListenerData}
 use Rattle.mama_dispatch.specs.Seats.{SeatData, has_seat, AreApart, seat_of, listener_in, HeardIn, at, muted_by, muted_by_all, muted_where_live}
 use Rattle.mama_rules_queue.specs.Queue.{ends}
 use Rattle.mama_dispatch.specs.Places.{IsPlace, IsEnded}
-use Rattle.mama_dispatch.specs.Rows.{AreKept}
+use Rattle.mama_dispatch.specs.Rows.{IsSmall, AreSmall, AreKept}
+use Rattle.mama_dispatch.proofs.AllLemmas.{all_change, all_more}
 use Rattle.mama_dispatch.proofs.DeedLemmas.{same_object-true, same_object-sym}
 
 -- tests that agree find the same place
@@ -173,10 +174,10 @@ pub record Changed (index : List ObjectId) (o : ObjectId) (f : SeatData → Seat
   pub is : seat_of o after ≡ Some (f seat)
 
 pub changed : {R : Type 0} (view : R → SeatData) (rows : List R) (index : List ObjectId) (i : ℕ) (r q : R) (o : ObjectId) (f : SeatData → SeatData) (ss : List SeatData)
-    → ((x : SeatData) → (f x).object ≡ x.object)
+    → ((x : SeatData) → (f x).object ≡ x.object) → ((x : SeatData) → IsSmall x.context.cache → IsSmall (f x).context.cache)
     → map view rows ≡ ss → AreKept index (map view rows) → IsPlace o i ss → r ≡ get_or rows i r → view q ≡ f (view r)
     → Changed index o f ss (map view (set rows i q)) (view r)
-changed view rows index i r q o f ss objects seen kept place here change =
+changed view rows index i r q o f ss objects caches seen kept place here change =
     let inside : IsPlace o i (map view rows) = subst (IsPlace o i) (sym seen) place in
     let seats : map view (set rows i q) ≡ map (at o f) ss = row_changed view rows i r q o f inside kept.apart here change ∙ ap (map (at o f)) seen in
     let was : seat_of o ss ≡ Some (view r) = ap (seat_of o) (sym seen) ∙ row_seat view rows i r o inside here in
@@ -185,6 +186,7 @@ changed view rows index i r q o f ss objects seen kept place here change =
       kept = record {
         keys = kept.keys ∙ ap (map (λ (s : SeatData). s.object)) seen ∙ sym (ap (map (λ (s : SeatData). s.object)) seats ∙ objects_kept (at o f) ss (at_object o f objects));
         apart = subst AreApart (sym seats) (apart_kept (at o f) ss (at_object o f objects) (subst AreApart seen kept.apart));
+        caches = subst AreSmall (sym seats) (all_change (λ s. IsSmall s.context.cache) o f caches ss (subst AreSmall seen kept.caches));
       };
       was = was;
       is = ap (seat_of o) seats ∙ changed_seat o f ss (view r) objects was;
@@ -307,12 +309,13 @@ apart_more (t ∷ ss) s apart none =
     )
 
 -- one seat more, and its object in the index
-pub kept_more : (index after : List ObjectId) (o : ObjectId) (ss : List SeatData) (s : SeatData) → AreKept index ss → after ≡ index ++ o ∷ [] → s.object ≡ o → has_seat o ss ≡ false
+pub kept_more : (index after : List ObjectId) (o : ObjectId) (ss : List SeatData) (s : SeatData) → AreKept index ss → after ≡ index ++ o ∷ [] → s.object ≡ o → has_seat o ss ≡ false → IsSmall s.context.cache
     → AreKept after (ss ++ s ∷ [])
-kept_more index after o ss s kept more same none = record {
+kept_more index after o ss s kept more same none small = record {
   keys =
       more ∙ ap (λ (xs : List ObjectId). xs ++ o ∷ []) kept.keys
       ∙ ap (λ (x : ObjectId). map (λ (t : SeatData). t.object) ss ++ x ∷ []) (sym same)
       ∙ sym (map-append (λ (t : SeatData). t.object) ss (s ∷ []));
   apart = apart_more ss s kept.apart (ap (λ (x : ObjectId). has_seat x ss) same ∙ none);
+  caches = all_more (λ x. IsSmall x.context.cache) ss s kept.caches small;
 }

@@ -2,7 +2,7 @@
 use Rattle.std.specs.Prelude.{not, map, Option, Some, None, is_some, if◌then◌else◌, ◌-◌, ◌==◌}
 use Rattle.std.specs.List.{list_any}
 use Rattle.std.specs.Option.{option_and_then, option_map_or}
-use Rattle.std.proofs.Common.{◌≡◌, ℕ, suc, ◌+◌, ◌<◌, get_or, Bool, true, false, ◌&&◌, ◌||◌, List, [], ◌∷◌, ◌++◌, length, refl, ap, sym, ◌∙◌, subst, append-nil, arith}
+use Rattle.std.proofs.Common.{◌≡◌, ℕ, suc, ◌+◌, ◌<◌, ◌≤◌, get_or, Bool, true, false, ◌&&◌, ◌||◌, List, [], ◌∷◌, ◌++◌, length, refl, ap, sym, ◌∙◌, subst, append-nil, arith}
 use Rattle.std.proofs.lemmas.Bool.{or_parts}
 use Rattle.mama_journal.specs.Journal.{first_said, count_of}
 use Rattle.mama_event.specs.declared.ids.SubId.{SubId}
@@ -18,6 +18,9 @@ use Rattle.mama_event.specs.declared.to_timers.TimersNote.TheVariants as timers_
 use Rattle.mama_event.specs.declared.to_queue.Make.{Make}
 use Rattle.mama_event.specs.declared.to_queue.QueueNote.{QueueNote}
 use Rattle.mama_event.specs.declared.to_queue.QueueNote.TheVariants as q
+use Rattle.mama_event.specs.declared.to_queue.ToQueue.{ToQueue}
+use Rattle.mama_event.specs.declared.to_queue.ToQueue.TheVariants as event
+use Rattle.mama_event.specs.ToQueue.{note_of}
 use Rattle.mama_event.specs.Object.{same_object}
 use Rattle.mama_dq.specs.Context.{ContextData, new_context}
 use Rattle.mama_event.specs.Listener.{ListenerData}
@@ -49,7 +52,26 @@ use Rattle.mama_dispatch.proofs.ArmLemmas.{first_make}
 use Rattle.mama_dispatch.proofs.BirthLemmas.{seated_has, unbegun}
 use Rattle.mama_dispatch.proofs.ServeLemmas.{serves_fin}
 use Rattle.mama_dispatch.proofs.JournalLaws.{standing, stands_at_first}
-use Rattle.mama_dispatch.proofs.KeepLemmas.{all_map, all_back, planned_fits}
+use Rattle.mama_dispatch.proofs.AllLemmas.{all_map, all_back}
+use Rattle.mama_dispatch.proofs.KeepLemmas.{planned_fits}
+
+-- FINS
+
+-- there are no more Fins than entries
+pub fins_few : (es : List (ℕ × QueueNote)) → count_of is_fin es ≤ length es
+fins_few [] = omega arith
+fins_few (e ∷ es) =
+    let rest : count_of is_fin es ≤ length es = fins_few es in
+    elim (is_fin e) as (λ b. (if b then suc (count_of is_fin es) else count_of is_fin es) ≤ suc (length es)) [ true ↦ omega arith | false ↦ omega arith ]
+
+-- the note of an event that is no Fin is none
+pub not_fin : {L : Type 0} (tagged : L → ObjectId) (e : ToQueue L) (port : ℕ) → (e ≡ event.Fin → ⊥) → is_fin (port, note_of tagged e) ≡ false
+not_fin tagged (event.Create slot object make l) port other = refl
+not_fin tagged (event.Deliver slot sub msg) port other = refl
+not_fin tagged (event.Reply slot inbox body) port other = refl
+not_fin tagged (event.Tick slot timer moment) port other = refl
+not_fin tagged (event.Gone slot object) port other = refl
+not_fin tagged event.Fin port other = absurd (other refl)
 
 -- SEATS WITHOUT THEIR ROOM
 

@@ -1,9 +1,11 @@
 -- inner: A row of the table in which a queue keeps its objects, as contracts see it.
-use Rattle.std.specs.Prelude.{◌≡◌, ◌-◌, List, map, vec_len, vec_capacity}
+use Rattle.std.specs.Prelude.{◌≡◌, ◌-◌, ◌^◌, ◌<◌, ◌≤◌, List, length, map, vec_len, vec_capacity}
 use Rattle.std.specs.Option.{option_map}
 use Rattle.mama_event.specs.declared.ids.ObjectId.{ObjectId}
 use Rattle.mama_event.specs.Listener.{ListenerData}
+use Rattle.mama_dq.specs.Cache.{CacheData}
 use Rattle.mama_dispatch.specs.declared.row.Row.{Row}
+use Rattle.mama_dispatch.specs.Hearing.{AllSeats}
 use Rattle.mama_dispatch.specs.Seats.{SeatData, AreApart}
 
 abbrev pub row_data : {L : Type 0} → (L → ListenerData) → Row L → SeatData
@@ -16,7 +18,17 @@ row_data view r = record {
   room = vec_capacity r.calls - vec_len r.calls;
 }
 
--- the index has the objects of the seats, and no two seats are of one object
+-- a cache holds no more updates than its size, which is a number of 32 bits
+pub record IsSmall (cache : CacheData) : Type 0 where
+  pub size : cache.size < 2 ^ 32
+  pub within : length cache.updates ≤ cache.size
+
+-- the caches of all seats are small
+abbrev pub AreSmall : List SeatData → Type 0
+AreSmall seats = AllSeats (λ s. IsSmall s.context.cache) seats
+
+-- the index has the objects of the seats, no two seats are of one object, and their caches are small
 pub record AreKept (index : List ObjectId) (seats : List SeatData) : Type 0 where
   pub keys : index ≡ map (λ s. s.object) seats
   pub apart : AreApart seats
+  pub caches : AreSmall seats

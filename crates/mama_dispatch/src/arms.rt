@@ -1,14 +1,9 @@
-ghost use Rattle.std.specs.Prelude.{◌≡◌, ℕ, ◌*◌, ◌^◌, ◌<◌, ◌≤◌, List, true, false, [], ◌∷◌, ◌++◌, map, is_some, OnOk, OnErr, IfOk, IfErr, IfSome, MatchOption};
+ghost use Rattle.std.specs.Prelude.{◌≡◌, true, false, [], ◌∷◌, map, is_some, OnOk, OnErr, IfOk, IfErr};
 ghost use Rattle.mama_event.specs.declared.ids.ObjectId.TheVariants.{Sub};
 ghost use Rattle.mama_event.specs.Listener.{told};
-ghost use Rattle.mama_dispatch.specs.Seats.{has_seat, listener_in, is_muted_in, with_room, Fits};
-ghost use Rattle.mama_event.specs.declared.ids.ObjectId.{ObjectId};
-ghost use Rattle.mama_event.specs.declared.order.Order.{Order};
-ghost use Rattle.mama_rules_queue.specs.Queue.{Deed};
-ghost use Rattle.mama_dispatch.specs.Journals.{Born};
-ghost use Rattle.mama_dispatch.specs.Seating.{is_live, is_plain, Seated, CallsMade};
-ghost use Rattle.mama_dispatch.specs.Making.{Created, Ended, Delivered};
-ghost use Rattle.mama_dispatch.specs.Keeping.{Kept};
+ghost use Rattle.mama_dispatch.specs.Seats.{has_seat, listener_in, is_muted_in, with_room};
+ghost use Rattle.mama_dispatch.specs.Seating.{is_plain};
+ghost use Rattle.mama_dispatch.specs.Making.{WereCalled, Created, Ended, Delivered};
 ghost use Rattle.mama_dispatch.specs.Turns.{put_note};
 
 use crate::seats::Seats;
@@ -64,10 +59,7 @@ impl<L: Listener> Seats<L> {
         out.reserve(MOST_PUTS)?;
         self.reserve(object, 1)?;
         self.call_put(object, Callback::Destroy, out);
-        match self.close(object) {
-            Some(listener) => Ok(listener),
-            None => Err(OutOfMemory),
-        }
+        Ok(self.close(object))
     }
 
     /// Takes a message of a subscription that is not muted, and makes its callbacks. The answer is how many were made.
@@ -78,20 +70,15 @@ impl<L: Listener> Seats<L> {
         sub: SubId,
         msg: &MarketMsg,
         out: &mut Outbox<ToService<M>>,
-    ) -> Result<u32, OutOfMemory>
+    ) -> Result<u64, OutOfMemory>
         requires { is_some (listener_in (Sub sub) self.old) ≡ true }
         ensures ok { IfOk result (λ count. Delivered sub msg.now self.old self.new (map (put_note M.tagged) out.old.items) (map (put_note M.tagged) out.new.items) count) }
         ensures err { OnErr result (map (with_room 0) self.new ≡ map (with_room 0) self.old) }
         ensures puts_err { OnErr result (out.new.items ≡ out.old.items) }
     {
         let object = ObjectId::Sub(sub);
-        let Some(most) = self.most_calls(&object) else {
-            return Err(OutOfMemory);
-        };
-        let Some(puts) = most_puts(most) else {
-            return Err(OutOfMemory);
-        };
-        out.reserve(puts)?;
+        let most = self.most_calls(&object);
+        out.reserve(MOST_PUTS * most)?;
         self.reserve(&object, most)?;
         let mut pending = Calls::new(alloc);
         self.step(&object, msg, &mut pending)?;
@@ -109,9 +96,7 @@ impl<L: Listener> Seats<L> {
         requires here { is_some (listener_in object.now self.old) ≡ true }
         requires plain { is_plain call ≡ true }
         requires unmuted { is_muted_in object.now self.old ≡ false }
-        ensures kept { OnOk result (Kept self.old self.new) }
-        ensures fits { OnOk result ((orders : ObjectId → ℕ → List Order) → Fits orders self.new → Fits orders self.old) }
-        ensures made { OnOk result ((orders : ObjectId → ℕ → List Order) (bs : List Born) (ds : List Deed) → Fits orders self.new → Seated (is_live ds) ds bs self.old → CallsMade orders bs ds object.now (call ∷ []) self.new (map (put_note M.tagged) out.old.items) (map (put_note M.tagged) out.new.items) 1) }
+        ensures called { OnOk result (WereCalled object.now (call ∷ []) self.old self.new (map (put_note M.tagged) out.old.items) (map (put_note M.tagged) out.new.items) 1) }
         ensures err { OnErr result (map (with_room 0) self.new ≡ map (with_room 0) self.old) }
         ensures puts_err { OnErr result (out.new.items ≡ out.old.items) }
         ensures back { IfErr result (λ given. given ≡ call) }
@@ -125,15 +110,4 @@ impl<L: Listener> Seats<L> {
         self.call_put(object, call, out);
         Ok(())
     }
-}
-
-/// The most events that so many callbacks put, where both are numbers in range.
-fn most_puts(most: usize) -> Option<usize>
-    ensures puts { IfSome result (λ puts. 9 * most ≤ puts) }
-    ensures few { IfSome result (λ puts. most < 2 ^ 32) }
-{
-    if most > u32::MAX as usize {
-        return None;
-    }
-    Some(MOST_PUTS * most)
 }

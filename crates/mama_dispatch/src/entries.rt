@@ -144,7 +144,7 @@ pub(crate) fn serve_reply<L: Listener, M: Tagged>(
         Ok(()) => Ok(Turn::Called { count: 1 }),
         Err(Callback::Reply { body }) => Err(ToQueue::Reply { slot, inbox, body }),
         // The callback that comes back is the one that was handed in.
-        Err(_) => Err(ToQueue::Fin),
+        Err(_) => unreachable!(),
     }
 }
 

@@ -1,4 +1,11 @@
 //! Serving a queue: the callbacks of its objects, one by one, and what follows from them.
+//!
+//! [`Serving::turn`] takes an event and makes its callbacks. Which ones are made, what they put and what the turn answers is
+//! told of the journal (`mama_rules_queue`, `Answering.antt`), and what each listener heard and ordered of its seat
+//! (`Hearing.antt`). [`Serving::into_notes`] gives up what came of all turns (`Notes.antt`).
+//!
+//! A turn gives its event back only where an allocation was refused: nothing that is counted here can pass its type. No
+//! clause says so, and a body that always gave the event back would meet them all; tests take turns where there is memory.
 #![tactic(auto)]
 
 mod arms;

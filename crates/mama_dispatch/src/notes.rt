@@ -76,10 +76,7 @@ fn room_for_list<L: Listener>(
     ensures ok { OnOk result (length seats.now + 1 ≤ vec_capacity room.new) }
     ensures capacity { vec_capacity room.old ≤ vec_capacity room.new }
 {
-    let Some(lists) = seats.len().checked_add(1) else {
-        return Err(OutOfMemory);
-    };
-    Ok(room.reserve(lists)?)
+    Ok(room.reserve(seats.len() + 1)?)
 }
 
 /// A copy of the image that an object leaves, if it is a subscription that has one, with room for it among the images

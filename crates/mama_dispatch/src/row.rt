@@ -1,11 +1,11 @@
-ghost use Rattle.std.specs.Prelude.{◌≡◌, ◌+◌, ◌<◌, ◌||◌, [], ◌∷◌, ◌++◌, true, is_some, ◌-◌, ◌≤◌, ◌*◌, length, vec_len, vec_capacity, Some, None, OnOk, OnErr, IfOk, IfSome};
+ghost use Rattle.std.specs.Prelude.{◌≡◌, ◌+◌, ◌<◌, ◌||◌, [], ◌∷◌, ◌++◌, true, is_some, ◌-◌, ◌≤◌, ◌*◌, ◌^◌, length, vec_len, vec_capacity, Some, None, OnOk, OnErr, IfOk};
 ghost use Rattle.std.specs.Option.{option_map};
 ghost use Rattle.mama_dq.specs.Strategy.{callbacks_of};
 ghost use Rattle.mama_event.specs.Listener.{told};
 ghost use Rattle.mama_dispatch.specs.Seats.{HeardIn, called_with, muted_where_live, with_listener, stepped, with_context, with_room, new_seat};
 ghost use Rattle.mama_rules_queue.specs.Queue.{context_of};
 ghost use Rattle.mama_event.specs.declared.market.MarketMsg.{MarketMsg};
-ghost use Rattle.mama_dispatch.specs.Rows.{row_data};
+ghost use Rattle.mama_dispatch.specs.Rows.{row_data, IsSmall};
 ghost use Rattle.mama_dispatch.specs.Images.{lent, image_at};
 ghost use Rattle.mama_dispatch.specs.Journals.{image_in};
 
@@ -29,14 +29,14 @@ pub(crate) struct Row<L> {
     pub(crate) calls: Vec<CallNote>,
 }
 
-/// Makes a callback of the object's listener, if that is there. The answer is what it ordered.
+/// Makes a callback of the object's listener, which is there. The answer is what it ordered.
 pub(crate) fn hear<L: Listener>(listener: &mut Option<L>, call: &Callback) -> Orders
     requires { is_some listener.old ≡ true }
     ensures { HeardIn call.now (option_map (told L.tagged L.calls L.heard L.given L.plan) listener.old) (option_map (told L.tagged L.calls L.heard L.given L.plan) listener.new) result }
 {
     match listener {
         Some(listener) => make(listener, call),
-        None => Orders::new(),
+        None => unreachable!(),
     }
 }
 
@@ -62,12 +62,13 @@ pub(crate) fn mute_at<L: Listener>(row: &mut Row<L>)
     row.muted = row.muted || row.listener.is_some();
 }
 
-/// Takes the listener of a row out.
-pub(crate) fn take_at<L: Listener>(row: &mut Row<L>) -> Option<L>
-    ensures listener { result ≡ row.old.listener }
+/// Takes the listener of a row out, which is there.
+pub(crate) fn take_at<L: Listener>(row: &mut Row<L>) -> L
+    requires { is_some row.old.listener ≡ true }
+    ensures listener { row.old.listener ≡ Some result }
     ensures row { row_data (told L.tagged L.calls L.heard L.given L.plan) row.new ≡ with_listener None (row_data (told L.tagged L.calls L.heard L.given L.plan) row.old) }
 {
-    row.listener.take()
+    row.listener.take().unwrap()
 }
 
 /// Takes a message at a row: its context changes, and the callbacks of the message are added. After want of memory
@@ -80,6 +81,7 @@ pub(crate) fn step_at<L: Listener>(
     ensures row { OnOk result (row_data (told L.tagged L.calls L.heard L.given L.plan) row.new ≡ stepped msg.now (row_data (told L.tagged L.calls L.heard L.given L.plan) row.old)) }
     ensures pending { OnOk result (pending.new ≡ pending.old ++ callbacks_of row.old.context msg.now) }
     ensures err { OnErr result (row.new ≡ row.old) }
+    ensures small { IsSmall row.old.context.cache → IsSmall row.new.context.cache }
     ensures others { row_data (told L.tagged L.calls L.heard L.given L.plan) row.new ≡ with_context row.new.context (row_data (told L.tagged L.calls L.heard L.given L.plan) row.old) }
 {
     row.context.step(msg, pending)
@@ -95,7 +97,8 @@ pub(crate) fn reserve_at<L: Listener>(row: &mut Row<L>, more: usize) -> Result<(
 
 /// The context of a new object.
 fn context_for(alloc: Global, make: Make) -> DqContext
-    ensures { result ≡ context_of (Some make) [] }
+    ensures context { result ≡ context_of (Some make) [] }
+    ensures small { IsSmall result.cache }
 {
     match make {
         Make::Sub { kind, cache } => DqContext::new(alloc, kind, cache),
@@ -113,7 +116,8 @@ pub(crate) fn new_row<L: Listener>(
     calls: Vec<CallNote>,
 ) -> Row<L>
     requires { calls.items ≡ [] }
-    ensures { row_data (told L.tagged L.calls L.heard L.given L.plan) result ≡ new_seat object make (told L.tagged L.calls L.heard L.given L.plan listener) (vec_capacity calls - vec_len calls) }
+    ensures row { row_data (told L.tagged L.calls L.heard L.given L.plan) result ≡ new_seat object make (told L.tagged L.calls L.heard L.given L.plan listener) (vec_capacity calls - vec_len calls) }
+    ensures small { IsSmall result.context.cache }
 {
     Row {
         object,
@@ -124,15 +128,16 @@ pub(crate) fn new_row<L: Listener>(
     }
 }
 
-/// The most callbacks that the next message of a context can make. None where that number is out of range.
-pub(crate) fn most_calls(context: &DqContext) -> Option<usize>
-    ensures { IfSome result (λ most. (msg : MarketMsg) → length (callbacks_of context.now msg) ≤ most) }
+/// The most callbacks that the next message of a context can make.
+pub(crate) fn most_calls(context: &DqContext) -> usize
+    requires { IsSmall context.now.cache }
+    ensures calls { (msg : MarketMsg) → length (callbacks_of context.now msg) ≤ result }
+    ensures few { result ≤ 4 * 2 ^ 32 }
 {
     if context.image().is_some() {
-        return Some(4);
+        return 4;
     }
-    let each = context.cached().checked_add(1)?;
-    each.checked_mul(4)
+    (context.cached() + 1) * 4
 }
 
 /// The image of a context, if it has one.

@@ -1,8 +1,8 @@
-ghost use Rattle.std.specs.Prelude.{◌≡◌, ◌<◌, ◌≤◌, true, false, [], ◌∷◌, ◌++◌, ◌-◌, map, length, is_some, None, OnOk, OnErr, IfOk, IfErr, IfSome, IfNone, vec_len, vec_capacity};
+ghost use Rattle.std.specs.Prelude.{◌≡◌, ◌*◌, ◌^◌, ◌<◌, ◌≤◌, true, false, [], ◌∷◌, ◌++◌, ◌-◌, map, length, is_some, Some, None, OnOk, OnErr, IfOk, IfErr, IfSome, IfNone, vec_len, vec_capacity};
 ghost use Rattle.std.specs.List.{list_any};
 ghost use Rattle.mama_event.specs.Object.{same_object};
 ghost use Rattle.mama_event.specs.declared.market.MarketMsg.{MarketMsg};
-ghost use Rattle.std.specs.Option.{option_map, option_and_then};
+ghost use Rattle.std.specs.Option.{option_and_then};
 ghost use Rattle.mama_event.specs.declared.ids.ObjectId.TheVariants.{Sub};
 ghost use Rattle.mama_dq.specs.Strategy.{callbacks_of};
 ghost use Rattle.mama_event.specs.Listener.{told};
@@ -86,6 +86,17 @@ impl<L: Listener> Seats<L> {
         self.places.get_index_of(object)
     }
 
+    /// The place of an object that is live here.
+    fn live_place(&self, object: &ObjectId) -> usize
+        requires { is_some (listener_in object.now self.now) ≡ true }
+        ensures { IsPlace object.now result self.now }
+    {
+        match self.place(object) {
+            Some(place) => place,
+            None => unreachable!(),
+        }
+    }
+
     /// A fact about any seats: no two are of one object.
     pub(crate) fn apart(&self)
         ensures { AreApart self.now }
@@ -102,7 +113,8 @@ impl<L: Listener> Seats<L> {
 
     /// How many objects were made here.
     pub(crate) fn len(&self) -> usize
-        ensures { result ≡ length self.now }
+        ensures len { result ≡ length self.now }
+        ensures small { result < 2 ^ 63 }
     {
         self.rows.len()
     }
@@ -179,10 +191,8 @@ impl<L: Listener> Seats<L> {
         ensures heard { HeardIn call (listener_in object.now self.old) (listener_in object.now self.new) result }
         ensures seats { self.new ≡ map (at object.now (called_with call result (listener_in object.now self.new))) self.old }
     {
-        match self.place(object) {
-            Some(place) => make_at(&mut self.rows[place], call),
-            None => Orders::new(),
-        }
+        let place = self.live_place(object);
+        make_at(&mut self.rows[place], call)
     }
 
     /// Mutes an object, if it is live here.
@@ -220,15 +230,14 @@ impl<L: Listener> Seats<L> {
         orders
     }
 
-    /// Takes the listener of an object out.
-    pub(crate) fn close(&mut self, object: &ObjectId) -> Option<L>
-        ensures listener { option_map (told L.tagged L.calls L.heard L.given L.plan) result ≡ listener_in object.now self.old }
+    /// Takes the listener of an object that is live here out.
+    pub(crate) fn close(&mut self, object: &ObjectId) -> L
+        requires { is_some (listener_in object.now self.old) ≡ true }
+        ensures listener { listener_in object.now self.old ≡ Some (told L.tagged L.calls L.heard L.given L.plan result) }
         ensures seats { self.new ≡ map (at object.now (with_listener None)) self.old }
     {
-        match self.place(object) {
-            Some(place) => take_at(&mut self.rows[place]),
-            None => None,
-        }
+        let place = self.live_place(object);
+        take_at(&mut self.rows[place])
     }
 
     /// Gives a new object its seat, with room for one callback or more. Where no memory is found the listener is given
@@ -256,19 +265,17 @@ impl<L: Listener> Seats<L> {
         Ok(())
     }
 
-    /// Makes room for more callbacks of an object.
+    /// Makes room for more callbacks of an object that is live here.
     pub(crate) fn reserve(&mut self, object: &ObjectId, more: usize) -> Result<(), OutOfMemory>
         requires { is_some (listener_in object.now self.old) ≡ true }
         ensures seats { self.new ≡ map (at object.now (with_room (room_in object.now self.new))) self.old }
         ensures ok { OnOk result (more ≤ room_in object.now self.new) }
     {
-        match self.place(object) {
-            Some(place) => reserve_at(&mut self.rows[place], more),
-            None => Err(OutOfMemory),
-        }
+        let place = self.live_place(object);
+        reserve_at(&mut self.rows[place], more)
     }
 
-    /// Takes a message of a subscription: its context changes, and the callbacks of the message are added. After want
+    /// Takes a message of a live subscription: its context changes, and the callbacks of the message are added. After want
     /// of memory nothing has changed.
     pub(crate) fn step(
         &mut self,
@@ -276,24 +283,23 @@ impl<L: Listener> Seats<L> {
         msg: &MarketMsg,
         pending: &mut Calls,
     ) -> Result<(), OutOfMemory>
+        requires { is_some (listener_in object.now self.old) ≡ true }
         ensures ok { OnOk result (self.new ≡ map (at object.now (stepped msg.now)) self.old) }
         ensures pending { OnOk result (pending.new ≡ pending.old ++ callbacks_of (context_in object.now self.old) msg.now) }
         ensures err { OnErr result (self.new ≡ self.old) }
     {
-        match self.place(object) {
-            Some(place) => step_at(&mut self.rows[place], msg, pending),
-            None => Err(OutOfMemory),
-        }
+        let place = self.live_place(object);
+        step_at(&mut self.rows[place], msg, pending)
     }
 
-    /// The most callbacks that the next message of a subscription can make. None where that number is out of range.
-    pub(crate) fn most_calls(&self, object: &ObjectId) -> Option<usize>
-        ensures { IfSome result (λ most. (msg : MarketMsg) → length (callbacks_of (context_in object.now self.now) msg) ≤ most) }
+    /// The most callbacks that the next message of a live subscription can make.
+    pub(crate) fn most_calls(&self, object: &ObjectId) -> usize
+        requires { is_some (listener_in object.now self.now) ≡ true }
+        ensures calls { (msg : MarketMsg) → length (callbacks_of (context_in object.now self.now) msg) ≤ result }
+        ensures few { result ≤ 4 * 2 ^ 32 }
     {
-        match self.place(object) {
-            Some(place) => most_calls(&self.rows[place].context),
-            None => None,
-        }
+        let place = self.live_place(object);
+        most_calls(&self.rows[place].context)
     }
 }
 

@@ -1,13 +1,7 @@
-ghost use Rattle.std.specs.Prelude.{◌≡◌, ℕ, ◌+◌, ◌*◌, ◌^◌, ◌<◌, ◌≤◌, true, List, [], ◌∷◌, ◌++◌, map, length, drop, is_some};
-ghost use Rattle.std.specs.List.{list_all};
-ghost use Rattle.mama_event.specs.declared.ids.ObjectId.{ObjectId};
-ghost use Rattle.mama_event.specs.declared.callback.Callback.{Callback};
-ghost use Rattle.mama_event.specs.declared.order.Order.{Order};
-ghost use Rattle.mama_rules_queue.specs.Queue.{Deed};
-ghost use Rattle.mama_dispatch.specs.Journals.{Born};
-ghost use Rattle.mama_dispatch.specs.Seats.{listener_in, room_in, Fits};
-ghost use Rattle.mama_dispatch.specs.Seating.{is_live, is_plain, Seated, CalledOnce, CallsMade};
-ghost use Rattle.mama_dispatch.specs.Keeping.{Kept};
+ghost use Rattle.std.specs.Prelude.{◌≡◌, ◌+◌, ◌<◌, ◌≤◌, true, [], ◌∷◌, map, drop, take, is_some};
+ghost use Rattle.mama_dispatch.specs.Seats.{listener_in, room_in};
+ghost use Rattle.mama_dispatch.specs.Seating.{is_plain, CalledOnce};
+ghost use Rattle.mama_dispatch.specs.Making.{MayCall, WereCalled};
 ghost use Rattle.mama_dispatch.specs.Turns.{put_note};
 
 use crate::puts::{put_orders, put_wish};
@@ -44,14 +38,12 @@ impl<L: Listener> Seats<L> {
         object: &ObjectId,
         call: Callback,
         out: &mut Outbox<ToService<M>>,
-    ) -> u32
+    ) -> u64
         requires here { is_some (listener_in object.now self.old) ≡ true }
         requires room { 0 < room_in object.now self.old }
         requires spare { 9 ≤ out.old.spare }
         requires plain { is_plain call ≡ true }
-        ensures kept { Kept self.old self.new }
-        ensures fits { (orders : ObjectId → ℕ → List Order) → Fits orders self.new → Fits orders self.old }
-        ensures made { (orders : ObjectId → ℕ → List Order) (bs : List Born) (ds : List Deed) → Fits orders self.new → Seated (is_live ds) ds bs self.old → CallsMade orders bs ds object.now (call ∷ []) self.new (map (put_note M.tagged) out.old.items) (map (put_note M.tagged) out.new.items) result }
+        ensures called { WereCalled object.now (call ∷ []) self.old self.new (map (put_note M.tagged) out.old.items) (map (put_note M.tagged) out.new.items) result }
         ensures here { is_some (listener_in object.now self.new) ≡ true }
         ensures room { room_in object.now self.old ≤ room_in object.now self.new + 1 }
         ensures spare { out.old.spare ≤ out.new.spare + 9 }
@@ -71,19 +63,11 @@ impl<L: Listener> Seats<L> {
         object: &ObjectId,
         pending: &mut Calls,
         out: &mut Outbox<ToService<M>>,
-    ) -> u32
-        requires here { is_some (listener_in object.now self.old) ≡ true }
-        requires room { length pending.old ≤ room_in object.now self.old }
-        requires spare { 9 * length pending.old ≤ out.old.spare }
-        requires plain { list_all is_plain pending.old ≡ true }
+    ) -> u64
+        requires { MayCall object.now pending.old self.old out.old.spare }
         ensures rest { pending.new ≡ drop 1 pending.old }
-        ensures kept { Kept self.old self.new }
-        ensures fits { (orders : ObjectId → ℕ → List Order) → Fits orders self.new → Fits orders self.old }
-        ensures made { (orders : ObjectId → ℕ → List Order) (bs : List Born) (ds : List Deed) (call : Callback) → pending.old ≡ call ∷ pending.new → Fits orders self.new → Seated (is_live ds) ds bs self.old → CallsMade orders bs ds object.now (call ∷ []) self.new (map (put_note M.tagged) out.old.items) (map (put_note M.tagged) out.new.items) result }
-        ensures here { is_some (listener_in object.now self.new) ≡ true }
-        ensures room { length pending.new ≤ room_in object.now self.new }
-        ensures spare { 9 * length pending.new ≤ out.new.spare }
-        ensures plain { list_all is_plain pending.new ≡ true }
+        ensures called { WereCalled object.now (take 1 pending.old) self.old self.new (map (put_note M.tagged) out.old.items) (map (put_note M.tagged) out.new.items) result }
+        ensures may { MayCall object.now pending.new self.new out.new.spare }
         ensures few { result ≤ 1 }
     {
         match pending.take_first() {
@@ -99,15 +83,9 @@ impl<L: Listener> Seats<L> {
         object: &ObjectId,
         pending: &mut Calls,
         out: &mut Outbox<ToService<M>>,
-    ) -> u32
-        requires here { is_some (listener_in object.now self.old) ≡ true }
-        requires room { length pending.old ≤ room_in object.now self.old }
-        requires spare { 9 * length pending.old ≤ out.old.spare }
-        requires plain { list_all is_plain pending.old ≡ true }
-        requires few { length pending.old < 2 ^ 32 }
-        ensures kept { Kept self.old self.new }
-        ensures fits { (orders : ObjectId → ℕ → List Order) → Fits orders self.new → Fits orders self.old }
-        ensures made { (orders : ObjectId → ℕ → List Order) (bs : List Born) (ds : List Deed) → Fits orders self.new → Seated (is_live ds) ds bs self.old → CallsMade orders bs ds object.now pending.old self.new (map (put_note M.tagged) out.old.items) (map (put_note M.tagged) out.new.items) result }
+    ) -> u64
+        requires { MayCall object.now pending.old self.old out.old.spare }
+        ensures { WereCalled object.now pending.old self.old self.new (map (put_note M.tagged) out.old.items) (map (put_note M.tagged) out.new.items) result }
     {
         let mut count = 0;
         for _i in 0..pending.len() {

@@ -156,48 +156,24 @@ impl<L: Listener> Serving<L> {
         };
         match event {
             ToQueue::Fin => self.finish(port, out),
-            event => self.serve(port, note, event, out),
-        }
-    }
-
-    /// Takes an event that is no Fin.
-    fn serve<M: Tagged>(
-        &mut self,
-        port: u32,
-        note: QueueNote,
-        event: ToQueue<L>,
-        out: &mut Outbox<ToService<M>>,
-    ) -> Result<Turn<L>, ToQueue<L>>
-        requires may { may_come self.old.journal (note_of L.tagged event) ≡ true }
-        requires noted { note ≡ note_of L.tagged event }
-        requires middle { is_fin (port, note) ≡ false }
-        ensures journal { OnOk result (self.new.journal ≡ self.old.journal ++ (port, note_of L.tagged event) ∷ []) }
-        ensures queue { self.new.queue ≡ self.old.queue }
-        ensures puts { OnOk result ((orders : ObjectId → ℕ → List Order) → Fits orders self.new.seats → map (put_note M.tagged) out.new.items ≡ map (put_note M.tagged) out.old.items ++ queue_puts_at orders self.old.journal (port, note_of L.tagged event)) }
-        ensures fits { OnOk result ((orders : ObjectId → ℕ → List Order) → Fits orders self.new.seats → Fits orders self.old.seats) }
-        ensures answer { IfOk result (λ answer. (orders : ObjectId → ℕ → List Order) → Fits orders self.new.seats → AnswersTo (told L.tagged L.calls L.heard L.given L.plan) orders self.old.seats self.old.journal (deeds orders self.old.journal) (note_of L.tagged event) answer) }
-        ensures calls { OnOk result ((orders : ObjectId → ℕ → List Order) → Fits orders self.new.seats → (o : ObjectId) → calls_at o self.new.seats ≡ notes_of o (deeds orders self.new.journal)) }
-        ensures heard { OnOk result ((object : ObjectId) (came : ListenerData) → ComesAs object came (brought (told L.tagged L.calls L.heard L.given L.plan) event) → HeardAt object came self.old.seats → HeardAt object came self.new.seats) }
-        ensures planned { OnOk result ((object : ObjectId) (f : ℕ → List Order) (count : ℕ) → ComesWith object f count (brought (told L.tagged L.calls L.heard L.given L.plan) event) → PlannedAt object f count self.old.seats → PlannedAt object f count self.new.seats) }
-        ensures err { OnErr result (self.new ≡ self.old) }
-        ensures puts_err { OnErr result (out.new.items ≡ out.old.items) }
-        ensures back { IfErr result (λ given. given ≡ event) }
-    {
-        if self.journal.reserve(1).is_err() {
-            return Err(event);
-        }
-        let Ok(left) = prepare(&self.seats, &note, &mut self.room, &mut self.images) else {
-            return Err(event);
-        };
-        self.seats.apart();
-        match self.seats.serve(self.alloc, event, out) {
-            Ok(turn) => {
+            event => {
+                if self.journal.reserve(1).is_err() {
+                    return Err(event);
+                }
+                let Ok(left) = prepare(&self.seats, &note, &mut self.room, &mut self.images) else {
+                    return Err(event);
+                };
                 self.seats.apart();
-                self.journal.push_reserved((port, note));
-                add_image(&mut self.images, left);
-                Ok(turn)
+                match self.seats.serve(self.alloc, event, out) {
+                    Ok(turn) => {
+                        self.seats.apart();
+                        self.journal.push_reserved((port, note));
+                        add_image(&mut self.images, left);
+                        Ok(turn)
+                    }
+                    Err(event) => Err(event),
+                }
             }
-            Err(event) => Err(event),
         }
     }
 
@@ -217,15 +193,12 @@ impl<L: Listener> Serving<L> {
         ensures puts_err { OnErr result (out.new.items ≡ out.old.items) }
         ensures back { IfErr result (λ given. given ≡ event.Fin) }
     {
-        let Some(fins) = self.fins.checked_add(1) else {
-            return Err(ToQueue::Fin);
-        };
         if self.journal.reserve(1).is_err() || out.reserve(2).is_err() {
             return Err(ToQueue::Fin);
         }
         let is_second = self.fins == 1;
         self.journal.push_reserved((port, QueueNote::Fin));
-        self.fins = fins;
+        self.fins += 1;
         put_byes(is_second, out);
         Ok(ended(is_second))
     }

@@ -4,7 +4,7 @@ use mama_event::ObjectId;
 #[derive(Debug, Drop)]
 pub enum Turn<L> {
     /// This many callbacks were made of an object that was not muted before.
-    Called { count: u32 },
+    Called { count: u64 },
     /// The object was muted before: nothing was made.
     Muted { object: ObjectId },
     /// The object is gone, and here is the listener that came with it.

@@ -75,7 +75,7 @@ fn took<L: Listener>(
 
 fn letter<L: Listener>(turn: Turn<L>) -> (char, u64) {
     match turn {
-        Turn::Called { count } => ('c', count as u64),
+        Turn::Called { count } => ('c', count),
         Turn::Muted { object: _ } => ('m', 0),
         Turn::Ended {
             object: _,

@@ -24,38 +24,25 @@ pub returns-in_err-step-clause-err : goal.returns-in_err-step-clause-err
 returns-in_err-step-clause-err g c =
     on_err c.from_residual-in_err-step.result (ap (map (with_room 0)) (c.in_err-step.ensures.err ∙ c.reserve-2.ensures.seats) ∙ same_room (Sub c.args.sub) _ c.args.self.now)
 
-pub call_all-requires-clause-here : goal.call_all-requires-clause-here
-call_all-requires-clause-here g c =
+pub step-requires : goal.step-requires
+step-requires g c =
     let o : ObjectId = Sub c.args.sub in
-    ap is_some (ap (listener_in o) c.in_ok-step.ensures.ok ∙ listener_stepped o c.args.msg.now c.reserve-2.new.self ∙ ap (listener_in o) c.reserve-2.ensures.seats ∙ listener_room o _ c.args.self.now) ∙ c.requires
+    ap is_some (ap (listener_in o) c.reserve-2.ensures.seats ∙ listener_room o _ c.args.self.now) ∙ c.requires
 
-pub call_all-requires-clause-room : goal.call_all-requires-clause-room
-call_all-requires-clause-room g c =
+pub call_all-requires : goal.call_all-requires
+call_all-requires g c =
     let o : ObjectId = Sub c.args.sub in
-    let room = ap (room_in o) c.in_ok-step.ensures.ok ∙ room_stepped o c.args.msg.now c.reserve-2.new.self in
+    let m = c.args.msg.now in
+    let room = ap (room_in o) c.in_ok-step.ensures.ok ∙ room_stepped o m c.reserve-2.new.self in
     let context = ap (context_in o) c.reserve-2.ensures.seats ∙ context_room o _ c.args.self.now in
-    let pending = c.in_ok-step.ensures.pending ∙ ap (λ (cs : List Callback). cs ++ callbacks_of (context_in o c.reserve-2.new.self) c.args.msg.now) c.new-pending.ensures ∙ ap (λ (x : ContextData). callbacks_of x c.args.msg.now) context in
-    omega (arith, room, ap length pending, c.in-Some.ensures c.args.msg.now, c.in_ok-reserve-2.ensures.ok)
-
-pub call_all-requires-clause-spare : goal.call_all-requires-clause-spare
-call_all-requires-clause-spare g c =
-    let o : ObjectId = Sub c.args.sub in
-    let context = ap (context_in o) c.reserve-2.ensures.seats ∙ context_room o _ c.args.self.now in
-    let pending = c.in_ok-step.ensures.pending ∙ ap (λ (cs : List Callback). cs ++ callbacks_of (context_in o c.reserve-2.new.self) c.args.msg.now) c.new-pending.ensures ∙ ap (λ (x : ContextData). callbacks_of x c.args.msg.now) context in
-    omega (arith, ap length pending, c.in-Some.ensures c.args.msg.now, c.in-Some-most_puts.ensures.puts, c.in_ok-reserve.ensures.ok)
-
-pub call_all-requires-clause-plain : goal.call_all-requires-clause-plain
-call_all-requires-clause-plain g c =
-    let o : ObjectId = Sub c.args.sub in
-    let pending = c.in_ok-step.ensures.pending ∙ ap (λ (cs : List Callback). cs ++ callbacks_of (context_in o c.reserve-2.new.self) c.args.msg.now) c.new-pending.ensures in
-    ap (list_all is_plain) pending ∙ calls_plain (context_in o c.reserve-2.new.self) c.args.msg.now
-
-pub call_all-requires-clause-few : goal.call_all-requires-clause-few
-call_all-requires-clause-few g c =
-    let o : ObjectId = Sub c.args.sub in
-    let context = ap (context_in o) c.reserve-2.ensures.seats ∙ context_room o _ c.args.self.now in
-    let pending = c.in_ok-step.ensures.pending ∙ ap (λ (cs : List Callback). cs ++ callbacks_of (context_in o c.reserve-2.new.self) c.args.msg.now) c.new-pending.ensures ∙ ap (λ (x : ContextData). callbacks_of x c.args.msg.now) context in
-    omega (arith, ap length pending, c.in-Some.ensures c.args.msg.now, c.in-Some-most_puts.ensures.few)
+    let pending = c.in_ok-step.ensures.pending ∙ ap (λ (cs : List Callback). cs ++ callbacks_of (context_in o c.reserve-2.new.self) m) c.new-pending.ensures ∙ ap (λ (x : ContextData). callbacks_of x m) context in
+    record {
+      here =
+          ap is_some (ap (listener_in o) c.in_ok-step.ensures.ok ∙ listener_stepped o m c.reserve-2.new.self ∙ ap (listener_in o) c.reserve-2.ensures.seats ∙ listener_room o _ c.args.self.now) ∙ c.requires;
+      room = omega (arith, room, ap length pending, c.most_calls-most.ensures.calls m, c.in_ok-reserve-2.ensures.ok);
+      spare = omega (arith, ap length pending, c.most_calls-most.ensures.calls m, c.in_ok-reserve.ensures.ok);
+      plain = ap (list_all is_plain) pending ∙ calls_plain (context_in o c.args.self.now) m;
+    }
 
 pub returns-clause-ok : goal.returns-clause-ok
 returns-clause-ok g c =

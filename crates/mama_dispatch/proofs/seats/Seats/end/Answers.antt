@@ -11,3 +11,6 @@ returns-in_err-reserve-2-clause-err g c =
 pub call_put-requires-clause-here : goal.call_put-requires-clause-here
 call_put-requires-clause-here g c =
     ap is_some (ap (listener_in c.args.object.now) c.reserve-2.ensures.seats ∙ listener_room c.args.object.now _ c.args.self.now) ∙ c.requires
+
+pub close-requires : goal.close-requires
+close-requires g c = ap is_some c.call_put.ensures.once.here

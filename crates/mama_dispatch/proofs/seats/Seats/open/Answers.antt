@@ -24,5 +24,5 @@ invariant_of-self-2 g c =
     let seen = ap (map view) (c.push_reserved.ensures.items ∙ ap (λ xs. xs ++ row ∷ []) c.reserve.ensures.items) ∙ map-append view rows (row ∷ []) in
     subst (AreKept c.add_place.new.places.keys) (sym seen)
     (kept_more c.self.inside.places.keys c.add_place.new.places.keys c.args.object (map view rows) (view row) c.self.invariant
-    (on_ok c.add_place.result went c.add_place.ensures.ok) (ap (λ (s : SeatData). s.object) c.new_row.ensures)
-    (ap (has_seat c.args.object) c.self.view_is ∙ c.requires))
+    (on_ok c.add_place.result went c.add_place.ensures.ok) (ap (λ (s : SeatData). s.object) c.new_row.ensures.row)
+    (ap (has_seat c.args.object) c.self.view_is ∙ c.requires) c.new_row.ensures.small)

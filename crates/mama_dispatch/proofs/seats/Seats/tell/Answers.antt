@@ -13,26 +13,24 @@ pub call_put-requires-clause-here : goal.call_put-requires-clause-here
 call_put-requires-clause-here g c =
     ap is_some (ap (listener_in c.args.object.now) c.reserve-2.ensures.seats ∙ listener_room c.args.object.now _ c.args.self.now) ∙ c.requires.here
 
-pub returns-clause-fits : goal.returns-clause-fits
-returns-clause-fits g c = λ orders fits.
-    fits_change orders c.args.object.now (with_room _) c.args.self.now (λ s. refl) (λ s. refl) (subst (Fits orders) c.reserve-2.ensures.seats
-    (once_fits c.args.object.now c.args.call c.reserve-2.new.self c.call_put.new.self _ _ c.call_put.ensures.once orders fits))
-
-pub returns-clause-made : goal.returns-clause-made
-returns-clause-made g c = λ orders bs ds fits seated.
-    let o : ObjectId = c.args.object.now in
-    calls_after orders bs ds o (c.args.call ∷ []) c.call_put.new.self _ _ _ 1 (ap (map (put_note g.M.Tagged.tagged)) c.reserve.ensures.items)
-    (once_made orders bs ds o c.args.call c.reserve-2.new.self c.call_put.new.self _ _ c.call_put.ensures.once
-    (ap is_some (ap (listener_in o) c.reserve-2.ensures.seats ∙ listener_room o _ c.args.self.now) ∙ c.requires.here)
-    c.requires.plain
-    (ap (is_muted_in o) c.reserve-2.ensures.seats ∙ muted_room o _ c.args.self.now ∙ c.requires.unmuted)
-    fits (subst (Seated (is_live ds) ds bs) (sym c.reserve-2.ensures.seats) (seated_room (is_live ds) ds o _ bs c.args.self.now seated)))
-
 pub returns-then-is_err-2-clause-err : goal.returns-then-is_err-2-clause-err
 returns-then-is_err-2-clause-err g c = ap (map (with_room 0)) c.reserve-2.ensures.seats ∙ same_room c.args.object.now _ c.args.self.now
 
-pub returns-clause-kept : goal.returns-clause-kept
-returns-clause-kept g c =
+pub returns-clause-called : goal.returns-clause-called
+returns-clause-called g c =
     let o : ObjectId = c.args.object.now in
-    kept_then c.args.self.now c.reserve-2.new.self c.call_put.new.self (kept_to c.args.self.now _ c.reserve-2.new.self c.reserve-2.ensures.seats (kept_room o _ c.args.self.now))
-    (kept_once o c.args.call c.reserve-2.new.self c.call_put.new.self _ _ c.call_put.ensures.once)
+    record {
+      kept =
+          kept_then c.args.self.now c.reserve-2.new.self c.call_put.new.self (kept_to c.args.self.now _ c.reserve-2.new.self c.reserve-2.ensures.seats (kept_room o _ c.args.self.now))
+          (kept_once o c.args.call c.reserve-2.new.self c.call_put.new.self _ _ c.call_put.ensures.once);
+      fits = λ orders fits.
+          fits_change orders o (with_room _) c.args.self.now (λ s. refl) (λ s. refl) (subst (Fits orders) c.reserve-2.ensures.seats
+          (once_fits o c.args.call c.reserve-2.new.self c.call_put.new.self _ _ c.call_put.ensures.once orders fits));
+      made = λ orders bs ds fits seated.
+          calls_after orders bs ds o (c.args.call ∷ []) c.call_put.new.self _ _ _ 1 (ap (map (put_note g.M.Tagged.tagged)) c.reserve.ensures.items)
+          (once_made orders bs ds o c.args.call c.reserve-2.new.self c.call_put.new.self _ _ c.call_put.ensures.once
+          (ap is_some (ap (listener_in o) c.reserve-2.ensures.seats ∙ listener_room o _ c.args.self.now) ∙ c.requires.here)
+          c.requires.plain
+          (ap (is_muted_in o) c.reserve-2.ensures.seats ∙ muted_room o _ c.args.self.now ∙ c.requires.unmuted)
+          fits (subst (Seated (is_live ds) ds bs) (sym c.reserve-2.ensures.seats) (seated_room (is_live ds) ds o _ bs c.args.self.now seated)));
+    }
