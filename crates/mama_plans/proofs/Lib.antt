@@ -1,4 +1,5 @@
 pub mod IdLemmas
 pub mod PlanLemmas
 pub mod FewLemmas
+pub mod RoomLemmas
 pub mod ImageLemmas

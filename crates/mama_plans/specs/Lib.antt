@@ -1,5 +1,6 @@
 pub mod Put
 pub mod Names
+pub mod Room
 pub mod Plans
 pub mod Places
 pub mod Planning

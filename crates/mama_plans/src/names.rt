@@ -1,9 +1,10 @@
-ghost use Rattle.std.specs.Prelude.{◌≡◌, ◌+◌, ◌%◌, IfOk, [], ◌∷◌, List, ℕ};
+ghost use Rattle.std.specs.Prelude.{◌≡◌, ◌%◌, IfOk, OnOk, [], ◌∷◌, List, ℕ};
 ghost use Rattle.mama_event.specs.declared.order.PlanRow.{PlanRow};
 ghost use Rattle.mama_script.specs.declared.client.ClientLine.TheVariants as line;
 ghost use Rattle.mama_rules_rounds.specs.Client.{queue_named, after_word};
 ghost use Rattle.mama_plans.specs.Put.{note_of};
 ghost use Rattle.mama_plans.specs.Names.{standing_of, DoesLine, Does};
+ghost use Rattle.mama_plans.specs.Room.{HasRoom};
 
 use crate::put_of;
 use mama_event::{
@@ -43,16 +44,6 @@ struct Asked {
     recaps: u32,
 }
 
-/// One more. The error is that no number is left, which no accepted script comes to.
-pub(crate) fn one_more(number: u32) -> Result<u32, OutOfMemory>
-    ensures { IfOk result (λ next. next ≡ number + 1) }
-{
-    match number.checked_add(1) {
-        Some(next) => Ok(next),
-        None => Err(OutOfMemory),
-    }
-}
-
 /// The queue that is next in turn; where there are none, the number of the turn.
 fn next_in_turn(turns: u32, queues: u32) -> u32
     ensures { result ≡ turns % queues }
@@ -73,17 +64,29 @@ impl Names {
         }
     }
 
+    /// That a number is left for one more object of each kind. The error is that none is.
+    fn room(self) -> Result<(), OutOfMemory>
+        ensures { OnOk result (HasRoom self) }
+    {
+        let most = self.subs.max(self.timers).max(self.inboxes);
+        if most == u32::MAX || self.turns == u32::MAX {
+            return Err(OutOfMemory);
+        }
+        Ok(())
+    }
+
     /// The queue that a word names, and the names after it.
-    pub(crate) fn queue_of(self, queues: u32, word: QueueWord) -> Result<(u32, Names), OutOfMemory>
-        ensures queue { IfOk result (λ found. (moments : List ℕ) → found.0 ≡ queue_named queues (standing_of self moments) word) }
-        ensures after { IfOk result (λ found. (moments : List ℕ) → standing_of found.1 moments ≡ after_word (standing_of self moments) word) }
+    pub(crate) fn queue_of(self, queues: u32, word: QueueWord) -> (u32, Names)
+        requires { HasRoom self }
+        ensures queue { (moments : List ℕ) → result.0 ≡ queue_named queues (standing_of self moments) word }
+        ensures after { (moments : List ℕ) → standing_of result.1 moments ≡ after_word (standing_of self moments) word }
     {
         match word {
-            QueueWord::Number(queue) => Ok((queue, self)),
+            QueueWord::Number(queue) => (queue, self),
             QueueWord::Any => {
                 let mut names = self;
-                names.turns = one_more(self.turns)?;
-                Ok((next_in_turn(self.turns, queues), names))
+                names.turns += 1;
+                (next_in_turn(self.turns, queues), names)
             }
         }
     }
@@ -98,13 +101,13 @@ impl Names {
     ) -> Result<(ToService<ObjectId>, Names), OutOfMemory>
         ensures { IfOk result (λ done. (plan : List PlanRow) → DoesLine queues number self done.1 (line.Sub asked.topic asked.kind asked.queue asked.cache asked.recaps faults.now plan) (note_of done.0)) }
     {
+        self.room()?;
         let sub = SubId {
             client: number,
             number: self.subs,
         };
-        let (queue, names) = self.queue_of(queues, asked.queue)?;
-        let mut names = names;
-        names.subs = one_more(self.subs)?;
+        let (queue, mut names) = self.queue_of(queues, asked.queue);
+        names.subs = self.subs + 1;
         let terms = SubTerms {
             topic: asked.topic,
             kind: asked.kind,
@@ -131,13 +134,13 @@ impl Names {
     ) -> Result<(ToService<ObjectId>, Names), OutOfMemory>
         ensures { IfOk result (λ done. (plan : List PlanRow) → DoesLine queues number self done.1 (line.Timer queue interval plan) (note_of done.0)) }
     {
+        self.room()?;
         let timer = TimerId {
             client: number,
             number: self.timers,
         };
-        let (queue, names) = self.queue_of(queues, queue)?;
-        let mut names = names;
-        names.timers = one_more(self.timers)?;
+        let (queue, mut names) = self.queue_of(queues, queue);
+        names.timers = self.timers + 1;
         let put = ToService::Timers(ToTimers::Arm {
             timer,
             queue,
@@ -157,13 +160,13 @@ impl Names {
     ) -> Result<(ToService<ObjectId>, Names), OutOfMemory>
         ensures { IfOk result (λ done. (plan : List PlanRow) → DoesLine queues number self done.1 (line.Inbox queue faults.now plan) (note_of done.0)) }
     {
+        self.room()?;
         let inbox = InboxId {
             client: number,
             number: self.inboxes,
         };
-        let (queue, names) = self.queue_of(queues, queue)?;
-        let mut names = names;
-        names.inboxes = one_more(self.inboxes)?;
+        let (queue, mut names) = self.queue_of(queues, queue);
+        names.inboxes = self.inboxes + 1;
         let terms = InboxTerms {
             queue,
             faults: faults.try_clone()?,
@@ -176,8 +179,9 @@ impl Names {
         Ok((put, names))
     }
 
-    /// What a line does of the client of this number, where there are so many queues. The error is want of memory, or
-    /// that no number is left for an object, which no accepted script comes to.
+    /// What a line does of the client of this number, where there are so many queues. The error is want of memory. It also
+    /// comes where 2^32 - 1 objects of a kind, or queues in turn, were named: their numbers end there, and no client of an
+    /// accepted script has as many.
     pub fn line(self, number: u32, queues: u32, line: &ClientLine) -> Result<Doing, OutOfMemory>
         ensures { IfOk result (λ doing. Does queues number self line.now doing) }
     {

@@ -1,4 +1,5 @@
-ghost use Rattle.std.specs.Prelude.{◌≡◌, ◌++◌, ◌∷◌, [], List, ℕ, IfOk, OnOk};
+ghost use Rattle.std.specs.Prelude.{◌≡◌, ◌<◌, ◌^◌, ◌++◌, ◌∷◌, [], List, ℕ, length, IfOk, OnOk};
+ghost use Rattle.std.specs.List.{AllByRecursion};
 ghost use Rattle.mama_event.specs.declared.market.SubKind.{SubKind};
 ghost use Rattle.mama_link.specs.declared.faults.FaultRow.{FaultRow};
 ghost use Rattle.mama_script.specs.declared.client.ClientLine.TheVariants as line;
@@ -6,8 +7,9 @@ ghost use Rattle.mama_rules_rounds.specs.Client.{Planned, objects_from, at_first
 ghost use Rattle.mama_rules_rounds.specs.Round.{by_kind, objects_of, setting_of};
 ghost use Rattle.mama_plans.specs.Plans.{planned_object, planned_objects, AreFew};
 ghost use Rattle.mama_plans.specs.Planning.{Makes, MakesOr};
+ghost use Rattle.mama_plans.specs.Room.{HasRoom, MakesFew};
 
-use crate::names::{Names, one_more};
+use crate::names::Names;
 use crate::{PlannedObject, Plans};
 use mama_event::{InboxId, ObjectId, PlanRow, SubId, TimerId};
 use mama_memory::OutOfMemory;
@@ -55,13 +57,13 @@ fn all_objects(
     queues: u32,
     clients: &[ClientLines],
 ) -> Result<Vec<PlannedObject>, OutOfMemory>
+    requires count { length clients.now < 2 ^ 32 }
+    requires few { AllByRecursion MakesFew clients.now }
     ensures { IfOk result (λ objects. planned_objects objects.items ≡ objects_of queues 0 clients.now) }
 {
     let mut objects = Vec::new(alloc);
-    let mut number = 0u32;
-    for lines in clients {
-        add_client(alloc, &mut objects, number, queues, lines.as_slice())?;
-        number = one_more(number)?;
+    for (number, lines) in clients.iter().enumerate() {
+        add_client(alloc, &mut objects, number as u32, queues, lines.as_slice())?;
     }
     Ok(objects)
 }
@@ -74,6 +76,7 @@ fn add_client(
     queues: u32,
     lines: &[ClientLine],
 ) -> Result<(), OutOfMemory>
+    requires { MakesFew lines.now }
     ensures { OnOk result (planned_objects objects.new.items ≡ planned_objects objects.old.items ++ objects_from queues number (at_first []) lines.now) }
 {
     let mut names = Names::none();
@@ -92,6 +95,7 @@ fn add_line(
     queues: u32,
     line: &ClientLine,
 ) -> Result<Names, OutOfMemory>
+    requires { HasRoom names }
     ensures { IfOk result (λ next. (made : List Planned) × Makes queues number names next line.now made × (planned_objects objects.new.items ≡ planned_objects objects.old.items ++ made)) }
 {
     match object_of(alloc, names, number, queues, line)? {
@@ -111,6 +115,7 @@ fn object_of(
     queues: u32,
     line: &ClientLine,
 ) -> Result<Option<(PlannedObject, Names)>, OutOfMemory>
+    requires { HasRoom names }
     ensures { IfOk result (λ found. MakesOr queues number names line.now found) }
 {
     match line {
@@ -148,15 +153,15 @@ fn sub(
     word: QueueWord,
     plan: &Plan,
 ) -> Result<(PlannedObject, Names), OutOfMemory>
+    requires { HasRoom names }
     ensures { IfOk result (λ made. (topic : ℕ) (kind : SubKind) (cache recaps : ℕ) (faults : List FaultRow) → Makes queues number names made.1 (line.Sub topic kind word cache recaps faults plan.now) (planned_object made.0 ∷ [])) }
 {
     let object = ObjectId::Sub(SubId {
         client: number,
         number: names.subs,
     });
-    let (queue, after) = names.queue_of(queues, word)?;
-    let mut after = after;
-    after.subs = one_more(names.subs)?;
+    let (queue, mut after) = names.queue_of(queues, word);
+    after.subs = names.subs + 1;
     Ok((planned(alloc, object, queue, plan)?, after))
 }
 
@@ -169,15 +174,15 @@ fn timer(
     word: QueueWord,
     plan: &Plan,
 ) -> Result<(PlannedObject, Names), OutOfMemory>
+    requires { HasRoom names }
     ensures { IfOk result (λ made. (interval : ℕ) → Makes queues number names made.1 (line.Timer word interval plan.now) (planned_object made.0 ∷ [])) }
 {
     let object = ObjectId::Timer(TimerId {
         client: number,
         number: names.timers,
     });
-    let (queue, after) = names.queue_of(queues, word)?;
-    let mut after = after;
-    after.timers = one_more(names.timers)?;
+    let (queue, mut after) = names.queue_of(queues, word);
+    after.timers = names.timers + 1;
     Ok((planned(alloc, object, queue, plan)?, after))
 }
 
@@ -190,15 +195,15 @@ fn inbox(
     word: QueueWord,
     plan: &Plan,
 ) -> Result<(PlannedObject, Names), OutOfMemory>
+    requires { HasRoom names }
     ensures { IfOk result (λ made. (faults : List FaultRow) → Makes queues number names made.1 (line.Inbox word faults plan.now) (planned_object made.0 ∷ [])) }
 {
     let object = ObjectId::Inbox(InboxId {
         client: number,
         number: names.inboxes,
     });
-    let (queue, after) = names.queue_of(queues, word)?;
-    let mut after = after;
-    after.inboxes = one_more(names.inboxes)?;
+    let (queue, mut after) = names.queue_of(queues, word);
+    after.inboxes = names.inboxes + 1;
     Ok((planned(alloc, object, queue, plan)?, after))
 }
 

@@ -2,7 +2,7 @@ ghost use Rattle.std.specs.Prelude.{◌≡◌, ◌++◌, ◌∷◌, [], List, le
 ghost use Rattle.mama_rules_rounds.specs.World.{plan_in, rows_of};
 ghost use Rattle.mama_journal.specs.Journal.{first_said};
 ghost use Rattle.mama_event.specs.declared.ids.ObjectId.{ObjectId};
-ghost use Rattle.mama_plans.specs.Plans.{planned_objects};
+ghost use Rattle.mama_plans.specs.Plans.{planned_objects, AreFew};
 ghost use Rattle.mama_plans.specs.Places.{objects_in, ArePlaced};
 
 use indexmap::IndexMap;
@@ -34,20 +34,28 @@ impl Model for Plans {
     ghost Value = { List Planned };
 
     ghost use Rattle.mama_plans.specs.Plans.{planned_objects};
-    ghost use Rattle.mama_plans.specs.Places.{objects_in, ArePlaced};
+    ghost use Rattle.mama_plans.specs.Places.{ArePlans};
 
     ghost view = { λ p. planned_objects p.objects.items };
 
-    ghost invariant = { λ p. ArePlaced p.places (objects_in p.objects.items) };
+    ghost invariant = { λ p. ArePlans p.objects.items p.places };
 }
 
 impl Plans {
     /// The plans of these objects. Of objects that are one the first counts.
-    pub fn new(alloc: Global, objects: Vec<PlannedObject>) -> Result<Plans, OutOfMemory>
+    pub(crate) fn new(alloc: Global, objects: Vec<PlannedObject>) -> Result<Plans, OutOfMemory>
+        requires { AreFew (planned_objects objects.items) }
         ensures { IfOk result (λ plans. plans ≡ planned_objects objects.items) }
     {
         let places = places_of(alloc, &objects)?;
         Ok(Plans { objects, places })
+    }
+
+    /// A fact about any plans: each has at most 8 orders for a call.
+    pub fn are_few(&self)
+        ensures { AreFew self.now }
+    {
+        let _ = &self.objects;
     }
 
     /// The objects in their order.

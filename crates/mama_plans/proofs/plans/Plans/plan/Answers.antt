@@ -19,7 +19,7 @@ returns-in-None c =
     no_plan o ps
     (subst (IsPlaceOf o (objects_in ps))
     (sym (lookup_same (eq-value.it o) (same_object o) places.entries (same_ids o)) ∙ sym (c.get.ensures.value) ∙ ap option_copied c.in-None.is)
-    (c.self.invariant.each o))
+    (c.self.invariant.placed.each o))
     ∙ ap (λ (qs : List Planned). rows_of (first_said (plan_in o) qs)) c.self.view_is
 
 pub index-requires : goal.index-requires
@@ -30,7 +30,7 @@ index-requires c =
     let within : c.in-Some.place.now < length ps = within_ids c.in-Some.place.now ps
     (subst (IsPlaceOf o (objects_in ps))
     (sym (lookup_same (eq-value.it o) (same_object o) places.entries (same_ids o)) ∙ sym (c.get.ensures.value) ∙ ap option_copied c.in-Some.is)
-    (c.self.invariant.each o)).0 in
+    (c.self.invariant.placed.each o)).0 in
     omega (arith, within, c.self.inside.objects.ok.0)
 
 pub returns-in-Some : goal.returns-in-Some
@@ -42,5 +42,5 @@ returns-in-Some c =
     ∙ plan_at o c.in-Some.place.now ps c.index.result.now
     (subst (IsPlaceOf o (objects_in ps))
     (sym (lookup_same (eq-value.it o) (same_object o) places.entries (same_ids o)) ∙ sym (c.get.ensures.value) ∙ ap option_copied c.in-Some.is)
-    (c.self.invariant.each o))
+    (c.self.invariant.placed.each o))
     ∙ ap (λ (qs : List Planned). rows_of (first_said (plan_in o) qs)) c.self.view_is
