@@ -22,7 +22,7 @@ pub struct BridgePuts {
     pub to_timers: Vec<(usize, TimersNote)>,
 }
 
-/// What the bridge of a shape put by its journal. The error is want of memory, or a number that cannot grow further.
+/// What the bridge of a shape put by its journal. The error is want of memory, as of [`Bridge::take`].
 pub fn puts_of_bridge(
     alloc: Global,
     shape: &Shape,
@@ -59,7 +59,8 @@ fn taken(
     let mut out = Outbox::new(alloc);
     match bridge.take(port, event, &mut out) {
         Ok(_) => Ok(out),
-        Err(_) => Err(OutOfMemory),
+        // An event is given back for want of memory alone.
+        Err(_event) => Err(OutOfMemory),
     }
 }
 

@@ -25,8 +25,7 @@ pub struct ClientPuts {
 
 /// What the client of a number put by its lines, where there are so many queues and its clock told these moments. Lines
 /// are counted from 0; a pause is one that puts nothing, and the one after the last puts that the client is done. The error
-/// is want of memory, a number of an object that cannot grow further, or the next of no queues: no accepted script comes to
-/// the last two.
+/// is want of memory, and comes also where [`Names::line`] finds no number left.
 pub fn puts_of_client(
     alloc: Global,
     number: u32,

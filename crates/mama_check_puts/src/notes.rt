@@ -6,8 +6,8 @@ ghost use Rattle.mama_event.specs.ToTimers.{note_of as timers_note_of};
 ghost use Rattle.mama_check_puts.specs.Dealing.{own_tag};
 
 use mama_event::{
-    BridgeNote, ObjectId, PublisherNote, QueueNote, TimersNote, ToBridge, ToPublisher, ToQueue,
-    ToTimers,
+    BridgeNote, ObjectId, PublisherNote, QueueNote, Stream, TimersNote, ToBridge, ToPublisher,
+    ToQueue, ToTimers,
 };
 use mama_memory::{Duplicate, OutOfMemory};
 
@@ -71,24 +71,7 @@ pub(crate) fn queue_note(event: ToQueue<ObjectId>) -> QueueNote
 pub(crate) fn timers_note(event: ToTimers<ObjectId>) -> TimersNote
     ensures { result ≡ timers_note_of own_tag event }
 {
-    match event {
-        ToTimers::Arm {
-            timer,
-            queue,
-            interval,
-            listener,
-        } => TimersNote::Arm {
-            timer,
-            queue,
-            interval,
-            tag: listener,
-        },
-        ToTimers::Disarm { timer } => TimersNote::Disarm { timer },
-        ToTimers::Now { moment } => TimersNote::Now { moment },
-        ToTimers::ClientDone => TimersNote::ClientDone,
-        ToTimers::Bye => TimersNote::Bye,
-        ToTimers::Fin => TimersNote::Fin,
-    }
+    event.note().unwrap()
 }
 
 /// The event of a note to a publisher.
@@ -107,12 +90,7 @@ pub(crate) fn publisher_event(note: PublisherNote) -> ToPublisher
 pub(crate) fn publisher_note(event: ToPublisher) -> PublisherNote
     ensures { result ≡ publisher_note_of event }
 {
-    match event {
-        ToPublisher::Want { sub, kind } => PublisherNote::Want { sub, kind },
-        ToPublisher::Ask { inbox, fids } => PublisherNote::Ask { inbox, fids },
-        ToPublisher::Settle => PublisherNote::Settle,
-        ToPublisher::Fin => PublisherNote::Fin,
-    }
+    event.note().unwrap()
 }
 
 /// A copy of a note to the bridge as an event, whose listener is the tag itself.

@@ -15,15 +15,16 @@ use mama_event::{BridgeNote, MsgKind, ObjectId, PublisherEntry, PublisherNote, T
 use mama_memory::{Duplicate, OutOfMemory, Outbox};
 use mama_msg::Msg;
 use mama_publisher::{
-    Publisher, a_new_publisher_has_its_base, sending_a_recap, sending_an_update, taking_an_event,
-    telling_the_end_of_sends,
+    Publisher, SendFault, a_new_publisher_has_its_base, sending_a_recap, sending_an_update,
+    taking_an_event, telling_the_end_of_sends,
 };
 use mama_script::PublisherLine;
 use std::alloc::Global;
 
 /// What the publisher of a number, with this base and these lines, put by its journal, each event with the number of the
-/// entry that put it, counted from 0. The error is want of memory, or a number, a base or a record past its limit, which
-/// no accepted script reaches.
+/// entry that put it, counted from 0. The error is want of memory. It also comes where no [`Publisher`] can stand so: of
+/// the number 2^32 - 1, with a base or a record of more than 64 fields, neither of which an accepted script has, or with
+/// the 2^32nd update.
 pub fn puts_of_publisher(
     alloc: Global,
     number: u32,
@@ -55,7 +56,8 @@ fn first(alloc: Global, number: u32, base: &Msg) -> Result<Publisher, OutOfMemor
     }
     match Publisher::new(alloc, number, base.try_clone()?) {
         Ok(publisher) => Ok(publisher),
-        Err(_) => Err(OutOfMemory),
+        // A base of more than 64 fields.
+        Err(_base) => Err(OutOfMemory),
     }
 }
 
@@ -143,7 +145,9 @@ impl<'a> Sender<'a> {
                 self.left = rest;
                 Ok(BridgeNote::Publish { msg })
             }
-            Err(_) => Err(OutOfMemory),
+            Err(SendFault::OutOfMemory | SendFault::NumbersSpent | SendFault::RecordFull) => {
+                Err(OutOfMemory)
+            }
         }
     }
 
@@ -170,7 +174,8 @@ impl<'a> Sender<'a> {
         let mut out: Outbox<ToBridge<ObjectId>> = Outbox::new(alloc);
         match self.publisher.take(publisher_event(note), &mut out) {
             Ok(_) => Ok(first_note(out)),
-            Err(_) => Err(OutOfMemory),
+            // An event is given back for want of memory alone.
+            Err(_event) => Err(OutOfMemory),
         }
     }
 }

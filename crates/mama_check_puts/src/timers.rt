@@ -15,7 +15,7 @@ use mama_timer::{TimerOut, Timers};
 use std::alloc::Global;
 
 /// What the timer service of a shape put to each queue by its journal, each event with the number of the entry that put
-/// it, counted from 0. The error is want of memory, or a number that cannot grow further.
+/// it, counted from 0. The error is want of memory, as of [`Timers::take`].
 pub fn puts_of_timers(
     alloc: Global,
     shape: &Shape,
@@ -45,7 +45,8 @@ fn taken(
     let mut out = Outbox::new(alloc);
     match timers.take(port, timers_event(note), &mut out) {
         Ok(_) => Ok(out),
-        Err(_) => Err(OutOfMemory),
+        // An event is given back for want of memory alone.
+        Err(_event) => Err(OutOfMemory),
     }
 }
 
