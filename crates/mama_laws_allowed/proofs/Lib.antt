@@ -1,0 +1,4 @@
+pub mod Following
+pub mod Clients
+pub mod Queues
+pub mod Publishers
