@@ -1,0 +1,26 @@
+//! Tests of plain data and of what moves it: outboxes, slots, sources and sinks, messages and their payloads, links,
+//! events, publishers and clients.
+//!
+//! Each table is one text, and each of its lines a row.
+#![tactic(auto)]
+
+#[cfg(test)]
+mod clients;
+#[cfg(test)]
+mod edges;
+#[cfg(test)]
+mod events;
+#[cfg(test)]
+mod links;
+#[cfg(test)]
+mod messages;
+#[cfg(test)]
+mod payloads;
+#[cfg(test)]
+mod publishers;
+#[cfg(test)]
+mod rows;
+#[cfg(test)]
+mod slots;
+#[cfg(test)]
+mod vectors;
