@@ -34,15 +34,15 @@ use Rattle.mama_script.proofs.Naming.{script_named}
 
 -- ---- tests that found nothing
 
-flaw_none : (test : Bool) (f : Flaw) (rest : Option Flaw) → flaw_if test f rest ≡ None → (test ≡ false) × (rest ≡ None)
+pub flaw_none : (test : Bool) (f : Flaw) (rest : Option Flaw) → flaw_if test f rest ≡ None → (test ≡ false) × (rest ≡ None)
 flaw_none true f rest e = absurd cc
 flaw_none false f rest e = (refl, e)
 
-first_none : (a b : Option Flaw) → first_flaw a b ≡ None → (a ≡ None) × (b ≡ None)
+pub first_none : (a b : Option Flaw) → first_flaw a b ≡ None → (a ≡ None) × (b ≡ None)
 first_none None b e = (refl, e)
 first_none (Some f) b e = absurd cc
 
-topic_declared : (topic : ℕ) (b : Before) → topic_flaw topic b ≡ None → topic < b.topics
+pub topic_declared : (topic : ℕ) (b : Before) → topic_flaw topic b ≡ None → topic < b.topics
 topic_declared topic b e = leb-false b.topics topic (flaw_none (leb b.topics topic) (Fault 9) None e).0
 
 queue_declared : (q : QueueWord) (b : Before) → queue_flaw (queue_name q) b ≡ None → IsQueueWithin b.queues q
@@ -55,7 +55,7 @@ order_declared (orders.Disarm id) b e = tt
 order_declared (orders.Close id) b e = tt
 order_declared (orders.Ask id topic fids) b e = topic_declared topic b e
 
-object_below : (b : Before) → object_flaw b ≡ None → b.objects < 1024
+pub object_below : (b : Before) → object_flaw b ≡ None → b.objects < 1024
 object_below b e = leb-false 1024 b.objects (flaw_none (leb 1024 b.objects) (Limit 7) None e).0
 
 -- ---- lines of a client's section, behind which the rest fits

@@ -11,3 +11,5 @@ pub mod Firsts
 pub mod Counts
 pub mod Naming
 pub mod Keeping
+pub mod Counted
+pub mod Standing

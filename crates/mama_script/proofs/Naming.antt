@@ -89,7 +89,7 @@ made_lines s =
 
 -- ---- each line names what is there
 
-abbrev AllNamed : List Made → List Line → Type 0
+abbrev pub AllNamed : List Made → List Line → Type 0
 AllNamed made [] = Unit {0}
 AllNamed made (l ∷ ls) = (is_named made l ≡ true) × AllNamed made ls
 
@@ -97,7 +97,7 @@ named_test : (b : Bool) (k : ℕ) (rest : Option ℕ) → cond b rest (Some k) �
 named_test true k rest e = (refl, e)
 named_test false k rest e = absurd cc
 
-all_named : (made : List Made) (k : ℕ) (ls : List Line) → unnamed_from made k ls ≡ None → AllNamed made ls
+pub all_named : (made : List Made) (k : ℕ) (ls : List Line) → unnamed_from made k ls ≡ None → AllNamed made ls
 all_named made k [] e = tt
 all_named made k (l ∷ ls) e = let p = named_test (is_named made l) k (unnamed_from made (suc k) ls) e in (p.0, all_named made (suc k) ls p.1)
 

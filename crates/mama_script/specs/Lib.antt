@@ -17,3 +17,5 @@ pub mod Text
 pub mod First
 pub mod Within
 pub mod Rows
+pub mod Standing
+pub mod Counted

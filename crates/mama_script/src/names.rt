@@ -1,5 +1,6 @@
 //! The second look: whether the objects that lines name are in the script.
-ghost use Rattle.std.specs.Prelude.{◌≡◌, ◌<◌, ◌+◌, ◌^◌, length, IfOk, OnOk, OnErr, slice_get};
+ghost use Rattle.std.specs.Prelude.{◌≡◌, ◌<◌, ◌+◌, ◌-◌, ◌^◌, length, IfOk, OnOk, OnErr, slice_get};
+ghost use Rattle.mama_script.specs.Counted.{AreCounted};
 ghost use Rattle.mama_script.specs.Names as names;
 
 use crate::line::Line;
@@ -50,6 +51,7 @@ fn made_by(alloc: Global, lines: &[Line]) -> Result<Vec<Made>, OutOfMemory>
 
 // What each client makes, with one line more.
 fn make(made: &mut Vec<Made>, line: &Line) -> Result<(), OutOfMemory>
+    requires { AreCounted (2 ^ 64 - 2) (2 ^ 64 - 2) (2 ^ 64 - 2) made.now.items }
     ensures { OnOk result (made.new.items ≡ names.made_with made.old.items line.now) }
 {
     match line {
@@ -74,14 +76,14 @@ fn make(made: &mut Vec<Made>, line: &Line) -> Result<(), OutOfMemory>
     }
 }
 
-#[tactic(auto, using(crate::proofs::Made::at_last_push))]
+#[tactic(auto, using(crate::proofs::Made::at_last_push, crate::proofs::Counted::room_for_sub))]
 fn add_sub(made: &mut Vec<Made>) -> Result<(), OutOfMemory>
+    requires { AreCounted (2 ^ 64 - 2) (2 ^ 64 - 2) (2 ^ 64 - 2) made.now.items }
     ensures { OnOk result (made.new.items ≡ names.at_last names.with_sub made.old.items) }
 {
     if let Some(last) = made.pop() {
-        let subs = last.subs.checked_add(1).ok_or(OutOfMemory)?;
         made.push(Made {
-            subs,
+            subs: last.subs + 1,
             timers: last.timers,
             inboxes: last.inboxes,
         })?;
@@ -89,31 +91,31 @@ fn add_sub(made: &mut Vec<Made>) -> Result<(), OutOfMemory>
     Ok(())
 }
 
-#[tactic(auto, using(crate::proofs::Made::at_last_push))]
+#[tactic(auto, using(crate::proofs::Made::at_last_push, crate::proofs::Counted::room_for_timer))]
 fn add_timer(made: &mut Vec<Made>) -> Result<(), OutOfMemory>
+    requires { AreCounted (2 ^ 64 - 2) (2 ^ 64 - 2) (2 ^ 64 - 2) made.now.items }
     ensures { OnOk result (made.new.items ≡ names.at_last names.with_timer made.old.items) }
 {
     if let Some(last) = made.pop() {
-        let timers = last.timers.checked_add(1).ok_or(OutOfMemory)?;
         made.push(Made {
             subs: last.subs,
-            timers,
+            timers: last.timers + 1,
             inboxes: last.inboxes,
         })?;
     }
     Ok(())
 }
 
-#[tactic(auto, using(crate::proofs::Made::at_last_push))]
+#[tactic(auto, using(crate::proofs::Made::at_last_push, crate::proofs::Counted::room_for_inbox))]
 fn add_inbox(made: &mut Vec<Made>) -> Result<(), OutOfMemory>
+    requires { AreCounted (2 ^ 64 - 2) (2 ^ 64 - 2) (2 ^ 64 - 2) made.now.items }
     ensures { OnOk result (made.new.items ≡ names.at_last names.with_inbox made.old.items) }
 {
     if let Some(last) = made.pop() {
-        let inboxes = last.inboxes.checked_add(1).ok_or(OutOfMemory)?;
         made.push(Made {
             subs: last.subs,
             timers: last.timers,
-            inboxes,
+            inboxes: last.inboxes + 1,
         })?;
     }
     Ok(())

@@ -1,17 +1,21 @@
 //! Lines to the sections of a script.
-ghost use Rattle.std.specs.Prelude.{◌≡◌, ◌∷◌, ◌++◌, [], length, map, IfOk};
+ghost use Rattle.std.specs.Prelude.{◌≡◌, ◌<◌, ◌^◌, ◌∷◌, ◌++◌, [], length, map, None, IfOk, OnOk};
 ghost use Rattle.std.specs.List.{flat_map};
 ghost use Rattle.mama_words.specs.Order.{word_of};
 ghost use Rattle.mama_words.specs.Id.{sub_word, timer_word, inbox_word};
 ghost use Rattle.mama_script.specs.Tree as tree;
 ghost use Rattle.mama_script.specs.Taken as taken;
+ghost use Rattle.mama_link.specs.Faults.{first_fault};
+ghost use Rattle.mama_script.specs.Reading.{AreAccepted};
+ghost use Rattle.mama_script.specs.Standing as standing;
 
 use crate::client::{ClientLine, ClientLines, QueueWord};
+use crate::head::Place;
 use crate::line::{Line, QueueName};
 use crate::plan::Plan;
 use crate::publisher::{PublisherLine, PublisherLines, PublisherPart};
 use mama_event::{Bounds, InboxId, Order, PlanRow, Shape, SubId, TimerId, Topics};
-use mama_link::Faults;
+use mama_link::{FaultRow, Faults, FaultsFault};
 use mama_memory::OutOfMemory;
 use mama_msg::{Msg, TextValue};
 use mama_words::{IdWord, OrderWord};
@@ -27,14 +31,15 @@ pub struct Parts {
     pub clients: Vec<ClientLines>,
 }
 
-/// The parts of the script that has these lines. Lines that no script has get the answer of want of memory too; those of
-/// an accepted text are a script's.
+/// The parts of the script that has these lines.
+#[tactic(auto, using(crate::proofs::Standing::accepted_stand, crate::proofs::Standing::few_topics, crate::proofs::Standing::few_clients))]
 pub fn parts_of(alloc: Global, lines: Vec<Line>) -> Result<Parts, OutOfMemory>
+    requires { AreAccepted lines.items }
     ensures lines { IfOk result (λ parts. taken.parts_lines parts ≡ lines.items) }
     ensures shaped { IfOk result (λ parts. tree.IsShaped (taken.script_of_parts parts)) }
 {
     let mut lines = VecDeque::from(lines);
-    let queues = take_queues(&mut lines)?;
+    let queues = take_queues(&mut lines);
     let topics = take_topics(alloc, &mut lines)?;
     let publishers = take_publishers(alloc, &mut lines)?;
     let clients = take_clients(alloc, &mut lines)?;
@@ -47,15 +52,6 @@ pub fn parts_of(alloc: Global, lines: Vec<Line>) -> Result<Parts, OutOfMemory>
     })
 }
 
-fn small(number: u64) -> Result<u32, OutOfMemory>
-    ensures { IfOk result (λ n. n ≡ number) }
-{
-    match u32::try_from(number) {
-        Ok(number) => Ok(number),
-        Err(_) => Err(OutOfMemory),
-    }
-}
-
 fn shape_of(
     alloc: Global,
     queues: u32,
@@ -63,18 +59,21 @@ fn shape_of(
     publishers: &[PublisherPart],
     clients: &[ClientLines],
 ) -> Result<Shape, OutOfMemory>
+    requires few_topics { length topics.now < 2 ^ 32 }
+    requires few_clients { length clients.now < 2 ^ 32 }
     ensures queues { IfOk result (λ shape. shape.bounds.queues ≡ queues) }
     ensures topics { IfOk result (λ shape. shape.bounds.topics ≡ length topics.now) }
     ensures publishers { IfOk result (λ shape. shape.publisher_topics ≡ map tree.topic_of_part publishers.now) }
     ensures clients { IfOk result (λ shape. shape.clients ≡ length clients.now) }
 {
     let publisher_topics = topics_of(alloc, publishers)?;
-    let topics = small(topics.len() as u64)?;
-    let clients = small(clients.len() as u64)?;
     Ok(Shape {
-        clients,
+        clients: clients.len() as u32,
         publisher_topics: Topics::new(publisher_topics),
-        bounds: Bounds { topics, queues },
+        bounds: Bounds {
+            topics: topics.len() as u32,
+            queues,
+        },
     })
 }
 
@@ -88,17 +87,21 @@ fn topics_of(alloc: Global, publishers: &[PublisherPart]) -> Result<Vec<u32>, Ou
     Ok(topics)
 }
 
-fn take_queues(lines: &mut VecDeque<Line>) -> Result<u32, OutOfMemory>
-    ensures { IfOk result (λ queues. lines.old.items ≡ Line.Queues queues ∷ lines.new.items) }
+fn take_queues(lines: &mut VecDeque<Line>) -> u32
+    requires { standing.Stand Place.Start [] lines.now.items }
+    ensures lines { lines.old.items ≡ Line.Queues result ∷ lines.new.items }
+    ensures rest { standing.Stand Place.Topics [] lines.new.items }
 {
     match lines.pop_front() {
-        Some(Line::Queues(queues)) => small(queues),
-        _ => Err(OutOfMemory),
+        Some(Line::Queues(queues)) => queues as u32,
+        _ => unreachable!(),
     }
 }
 
 fn take_topics(alloc: Global, lines: &mut VecDeque<Line>) -> Result<Vec<TextValue>, OutOfMemory>
-    ensures { IfOk result (λ topics. lines.old.items ≡ map tree.topic_line topics.items ++ lines.new.items) }
+    requires { standing.Stand Place.Topics [] lines.now.items }
+    ensures lines { IfOk result (λ topics. lines.old.items ≡ map tree.topic_line topics.items ++ lines.new.items) }
+    ensures rest { OnOk result (standing.AreSections lines.new.items) }
 {
     let mut topics = Vec::new(alloc);
     while let Some(line) = lines.pop_front() {
@@ -117,7 +120,9 @@ fn take_publishers(
     alloc: Global,
     lines: &mut VecDeque<Line>,
 ) -> Result<Vec<PublisherPart>, OutOfMemory>
-    ensures { IfOk result (λ parts. lines.old.items ≡ flat_map tree.publisher_lines parts.items ++ lines.new.items) }
+    requires { standing.AreSections lines.now.items }
+    ensures lines { IfOk result (λ parts. lines.old.items ≡ flat_map tree.publisher_lines parts.items ++ lines.new.items) }
+    ensures rest { OnOk result (standing.AreClients lines.new.items) }
 {
     let mut parts = Vec::new(alloc);
     while let Some(line) = lines.pop_front() {
@@ -140,19 +145,23 @@ fn take_publisher(
     base: Msg,
     lines: &mut VecDeque<Line>,
 ) -> Result<PublisherPart, OutOfMemory>
-    ensures { IfOk result (λ part. Line.Publisher topic base ∷ lines.old.items ≡ tree.publisher_lines part ++ lines.new.items) }
+    requires small { topic < 2 ^ 32 }
+    requires stand { standing.Stand Place.Publisher [] lines.now.items }
+    ensures lines { IfOk result (λ part. Line.Publisher topic base ∷ lines.old.items ≡ tree.publisher_lines part ++ lines.new.items) }
+    ensures rest { OnOk result (standing.AreSections lines.new.items) }
 {
-    let topic = small(topic)?;
     let sends = take_sends(alloc, lines)?;
     Ok(PublisherPart {
-        topic,
+        topic: topic as u32,
         base,
         lines: PublisherLines::new(sends),
     })
 }
 
 fn take_sends(alloc: Global, lines: &mut VecDeque<Line>) -> Result<Vec<PublisherLine>, OutOfMemory>
-    ensures { IfOk result (λ sends. lines.old.items ≡ map tree.publisher_line sends.items ++ lines.new.items) }
+    requires { standing.Stand Place.Publisher [] lines.now.items }
+    ensures lines { IfOk result (λ sends. lines.old.items ≡ map tree.publisher_line sends.items ++ lines.new.items) }
+    ensures rest { OnOk result (standing.AreSections lines.new.items) }
 {
     let mut sends = Vec::new(alloc);
     while let Some(line) = lines.pop_front() {
@@ -170,13 +179,14 @@ fn take_sends(alloc: Global, lines: &mut VecDeque<Line>) -> Result<Vec<Publisher
 }
 
 fn take_clients(alloc: Global, lines: &mut VecDeque<Line>) -> Result<Vec<ClientLines>, OutOfMemory>
+    requires { standing.AreClients lines.now.items }
     ensures { IfOk result (λ clients. lines.old.items ≡ flat_map tree.client_lines clients.items) }
 {
     let mut clients = Vec::new(alloc);
     while let Some(line) = lines.pop_front() {
         match line {
             Line::Client => clients.push(ClientLines::new(take_steps(alloc, lines)?))?,
-            _ => return Err(OutOfMemory),
+            _ => unreachable!(),
         }
     }
     Ok(clients)
@@ -190,7 +200,9 @@ enum Taken {
 }
 
 fn take_steps(alloc: Global, lines: &mut VecDeque<Line>) -> Result<Vec<ClientLine>, OutOfMemory>
-    ensures { IfOk result (λ steps. lines.old.items ≡ flat_map tree.step_lines steps.items ++ lines.new.items) }
+    requires { standing.Stand Place.Client [] lines.now.items }
+    ensures lines { IfOk result (λ steps. lines.old.items ≡ flat_map tree.step_lines steps.items ++ lines.new.items) }
+    ensures rest { OnOk result (standing.AreClients lines.new.items) }
 {
     let mut steps = Vec::new(alloc);
     while let Some(line) = lines.pop_front() {
@@ -206,7 +218,9 @@ fn take_steps(alloc: Global, lines: &mut VecDeque<Line>) -> Result<Vec<ClientLin
 }
 
 fn take_step(alloc: Global, line: Line, lines: &mut VecDeque<Line>) -> Result<Taken, OutOfMemory>
-    ensures { IfOk result (λ t. line ∷ lines.old.items ≡ taken.taken_lines t ++ lines.new.items) }
+    requires { standing.Stand Place.Client [] (line ∷ lines.now.items) }
+    ensures lines { IfOk result (λ t. line ∷ lines.old.items ≡ taken.taken_lines t ++ lines.new.items) }
+    ensures rest { IfOk result (λ t. standing.StandBehind t lines.new.items) }
 {
     match line {
         Line::Sub {
@@ -216,14 +230,12 @@ fn take_step(alloc: Global, line: Line, lines: &mut VecDeque<Line>) -> Result<Ta
             cache,
             recaps,
         } => {
-            let topic = small(topic)?;
-            let queue = queue_of(queue)?;
             let faults = take_faults(alloc, lines)?;
             let plan = take_plan(alloc, lines)?;
             Ok(Taken::Step(ClientLine::Sub {
-                topic,
+                topic: topic as u32,
                 kind,
-                queue,
+                queue: queue_of(queue),
                 cache,
                 recaps,
                 faults,
@@ -231,28 +243,23 @@ fn take_step(alloc: Global, line: Line, lines: &mut VecDeque<Line>) -> Result<Ta
             }))
         }
         Line::Timer { queue, interval } => {
-            let queue = queue_of(queue)?;
             let plan = take_plan(alloc, lines)?;
             Ok(Taken::Step(ClientLine::Timer {
-                queue,
+                queue: queue_of(queue),
                 interval,
                 plan,
             }))
         }
         Line::Inbox { queue } => {
-            let queue = queue_of(queue)?;
             let faults = take_faults(alloc, lines)?;
             let plan = take_plan(alloc, lines)?;
             Ok(Taken::Step(ClientLine::Inbox {
-                queue,
+                queue: queue_of(queue),
                 faults,
                 plan,
             }))
         }
-        Line::Order(order) => {
-            let order = order_of(order)?;
-            Ok(Taken::Step(ClientLine::Order(order)))
-        }
+        Line::Order(order) => Ok(Taken::Step(ClientLine::Order(order_of(order)))),
         Line::Now(moment) => Ok(Taken::Step(ClientLine::Now(moment))),
         Line::NowClock => Ok(Taken::Step(ClientLine::NowClock)),
         Line::Pause(rounds) => Ok(Taken::Step(ClientLine::Pause(rounds))),
@@ -261,7 +268,9 @@ fn take_step(alloc: Global, line: Line, lines: &mut VecDeque<Line>) -> Result<Ta
 }
 
 fn take_faults(alloc: Global, lines: &mut VecDeque<Line>) -> Result<Faults, OutOfMemory>
-    ensures { IfOk result (λ faults. lines.old.items ≡ map tree.fault_line faults ++ lines.new.items) }
+    requires { standing.Stand Place.Linked [] lines.now.items }
+    ensures lines { IfOk result (λ faults. lines.old.items ≡ map tree.fault_line faults ++ lines.new.items) }
+    ensures rest { OnOk result (standing.Stand Place.Planned [] lines.new.items) }
 {
     let mut rows = Vec::new(alloc);
     while let Some(line) = lines.pop_front() {
@@ -273,22 +282,32 @@ fn take_faults(alloc: Global, lines: &mut VecDeque<Line>) -> Result<Faults, OutO
             }
         }
     }
+    faults_of(alloc, rows)
+}
+
+fn faults_of(alloc: Global, rows: Vec<FaultRow>) -> Result<Faults, OutOfMemory>
+    requires { first_fault rows.items ≡ None }
+    ensures { IfOk result (λ faults. faults ≡ rows.items) }
+{
     match Faults::new(alloc, rows) {
         Ok(faults) => Ok(faults),
-        Err(_) => Err(OutOfMemory),
+        Err(FaultsFault::OutOfMemory) => Err(OutOfMemory),
+        Err(_) => unreachable!(),
     }
 }
 
 fn take_plan(alloc: Global, lines: &mut VecDeque<Line>) -> Result<Plan, OutOfMemory>
-    ensures { IfOk result (λ plan. lines.old.items ≡ map tree.plan_line plan ++ lines.new.items) }
+    requires { standing.Stand Place.Planned [] lines.now.items }
+    ensures lines { IfOk result (λ plan. lines.old.items ≡ map tree.plan_line plan ++ lines.new.items) }
+    ensures rest { OnOk result (standing.Stand Place.Client [] lines.new.items) }
 {
     let mut rows = Vec::new(alloc);
     while let Some(line) = lines.pop_front() {
         match line {
-            Line::At { call, order } => {
-                let order = order_of(order)?;
-                rows.push(PlanRow { call, order })?
-            }
+            Line::At { call, order } => rows.push(PlanRow {
+                call,
+                order: order_of(order),
+            })?,
             other => {
                 lines.push_front(other)?;
                 break;
@@ -298,62 +317,58 @@ fn take_plan(alloc: Global, lines: &mut VecDeque<Line>) -> Result<Plan, OutOfMem
     Ok(Plan::new(rows))
 }
 
-fn queue_of(queue: QueueName) -> Result<QueueWord, OutOfMemory>
-    ensures { IfOk result (λ word. tree.queue_name word ≡ queue) }
+fn queue_of(queue: QueueName) -> QueueWord
+    requires { standing.IsSmallQueue queue }
+    ensures { tree.queue_name result ≡ queue }
 {
     match queue {
-        QueueName::Number(queue) => {
-            let queue = small(queue)?;
-            Ok(QueueWord::Number(queue))
-        }
-        QueueName::Any => Ok(QueueWord::Any),
+        QueueName::Number(queue) => QueueWord::Number(queue as u32),
+        QueueName::Any => QueueWord::Any,
     }
 }
 
-fn sub_of(id: IdWord) -> Result<SubId, OutOfMemory>
-    ensures { IfOk result (λ sub. sub_word sub ≡ id) }
+fn sub_of(id: IdWord) -> SubId
+    requires { standing.IsSmallId id }
+    ensures { sub_word result ≡ id }
 {
-    let client = small(id.client)?;
-    let number = small(id.number)?;
-    Ok(SubId { client, number })
+    SubId {
+        client: id.client as u32,
+        number: id.number as u32,
+    }
 }
 
-fn timer_of(id: IdWord) -> Result<TimerId, OutOfMemory>
-    ensures { IfOk result (λ timer. timer_word timer ≡ id) }
+fn timer_of(id: IdWord) -> TimerId
+    requires { standing.IsSmallId id }
+    ensures { timer_word result ≡ id }
 {
-    let client = small(id.client)?;
-    let number = small(id.number)?;
-    Ok(TimerId { client, number })
+    TimerId {
+        client: id.client as u32,
+        number: id.number as u32,
+    }
 }
 
-fn inbox_of(id: IdWord) -> Result<InboxId, OutOfMemory>
-    ensures { IfOk result (λ inbox. inbox_word inbox ≡ id) }
+fn inbox_of(id: IdWord) -> InboxId
+    requires { standing.IsSmallId id }
+    ensures { inbox_word result ≡ id }
 {
-    let client = small(id.client)?;
-    let number = small(id.number)?;
-    Ok(InboxId { client, number })
+    InboxId {
+        client: id.client as u32,
+        number: id.number as u32,
+    }
 }
 
-fn order_of(order: OrderWord) -> Result<Order, OutOfMemory>
-    ensures { IfOk result (λ o. word_of o ≡ order) }
+fn order_of(order: OrderWord) -> Order
+    requires { standing.IsSmallOrder order }
+    ensures { word_of result ≡ order }
 {
     match order {
-        OrderWord::Stop(id) => {
-            let id = sub_of(id)?;
-            Ok(Order::Stop(id))
-        }
-        OrderWord::Disarm(id) => {
-            let id = timer_of(id)?;
-            Ok(Order::Disarm(id))
-        }
-        OrderWord::Close(id) => {
-            let id = inbox_of(id)?;
-            Ok(Order::Close(id))
-        }
-        OrderWord::Ask { inbox, topic, fids } => {
-            let inbox = inbox_of(inbox)?;
-            let topic = small(topic)?;
-            Ok(Order::Ask { inbox, topic, fids })
-        }
+        OrderWord::Stop(id) => Order::Stop(sub_of(id)),
+        OrderWord::Disarm(id) => Order::Disarm(timer_of(id)),
+        OrderWord::Close(id) => Order::Close(inbox_of(id)),
+        OrderWord::Ask { inbox, topic, fids } => Order::Ask {
+            inbox: inbox_of(inbox),
+            topic: topic as u32,
+            fids,
+        },
     }
 }

@@ -1,9 +1,14 @@
-use Rattle.std.proofs.Common.{◌≡◌, ◌++◌, map, length}
+use Rattle.std.proofs.Common.{◌≡◌, ◌++◌, [], map, length}
+use Rattle.mama_script.specs.declared.head.Place.TheVariants as places
 use Rattle.mama_script.specs.Tree.{plan_line}
+use Rattle.mama_script.specs.Standing.{Stand}
 use Rattle.mama_script.proofs.tree.take_plan.Given as goal
 
 abbrev pub invariant-loop-line : goal.invariant-loop-line
-invariant-loop-line l = l.fn.lines.items ≡ map plan_line l.rows.items ++ l.lines.items
+invariant-loop-line l = record {
+  lines : l.fn.lines.items ≡ map plan_line l.rows.items ++ l.lines.items;
+  stand : Stand places.Planned [] l.lines.items;
+}
 
 abbrev pub decreases-loop-line : goal.decreases-loop-line
 decreases-loop-line l = length l.lines.items

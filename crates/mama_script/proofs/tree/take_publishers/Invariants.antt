@@ -1,10 +1,14 @@
 use Rattle.std.proofs.Common.{◌≡◌, ◌++◌, length}
 use Rattle.std.specs.List.{flat_map}
 use Rattle.mama_script.specs.Tree.{publisher_lines}
+use Rattle.mama_script.specs.Standing.{AreSections}
 use Rattle.mama_script.proofs.tree.take_publishers.Given as goal
 
 abbrev pub invariant-loop-line : goal.invariant-loop-line
-invariant-loop-line l = l.fn.lines.items ≡ flat_map publisher_lines l.parts.items ++ l.lines.items
+invariant-loop-line l = record {
+  lines : l.fn.lines.items ≡ flat_map publisher_lines l.parts.items ++ l.lines.items;
+  sections : AreSections l.lines.items;
+}
 
 abbrev pub decreases-loop-line : goal.decreases-loop-line
 decreases-loop-line l = length l.lines.items
