@@ -1,7 +1,5 @@
 -- Kinds, qualities, types and orders: the word that is read is the word of what it stands for.
-use Rattle.std.proofs.Common.{◌≡◌, ℕ, Bool, true, false, cond, List, Option, Some, None, refl, sym, ap, subst, ◌∙◌, inl, inr}
-use Rattle.std.specs.Prelude.{◌⊎◌, codes, if◌then◌else◌}
-use Rattle.std.specs.Str.{bytes_eq}
+use Rattle.std.proofs.Common.{◌≡◌, ℕ, List, [], ◌∷◌, Option, Some, refl, ◌∙◌}
 use Rattle.mama_event.specs.declared.market.SubKind.{SubKind}
 use Rattle.mama_event.specs.declared.market.SubKind.TheVariants.{Market, Snapshot, Basic}
 use Rattle.mama_event.specs.declared.market.MsgKind.{MsgKind}
@@ -17,18 +15,8 @@ use Rattle.mama_words.specs.KindIn.{msg_kind_in, quality_in}
 use Rattle.mama_words.specs.Value.{type_text, type_in}
 use Rattle.mama_words.specs.Order.{order_kind_in}
 use Rattle.mama_words.specs.OrderKindText.{order_kind_text}
-use Rattle.mama_words.proofs.Choices.{some_is, chosen, same_text}
-
--- one word of a list of words: the word is this one, or the rest decides
-one_of : {K : Type 0} (text : K → List ℕ) (word : List ℕ) (k x : K) (rest : Option K) → (rest ≡ Some x → word ≡ text x) → cond (bytes_eq word (text k)) (Some k) rest ≡ Some x → word ≡ text x
-one_of {K} text word k x rest more e =
-    elim (chosen (bytes_eq word (text k)) (Some k) rest (Some x) e) [
-      | inl p ↦ subst (λ (y : K). word ≡ text y) (some_is k x p.1) (same_text word (text k) p.0)
-      | inr p ↦ more p.1
-    ]
-
-none_of : {K : Type 0} (text : K → List ℕ) (word : List ℕ) (x : K) → None ≡ Some x → word ≡ text x
-none_of text word x e = absurd cc
+use Rattle.mama_words.specs.Named.{named_in}
+use Rattle.mama_words.proofs.Named.{named_found}
 
 pub sub_kind_again : (k : SubKind) → sub_kind_in (sub_kind_text k) ≡ Some k
 sub_kind_again Market = refl
@@ -36,7 +24,7 @@ sub_kind_again Snapshot = refl
 sub_kind_again Basic = refl
 
 pub sub_kind_found : (word : List ℕ) (k : SubKind) → sub_kind_in word ≡ Some k → word ≡ sub_kind_text k
-sub_kind_found word k = one_of sub_kind_text word Market k _ (one_of sub_kind_text word Snapshot k _ (one_of sub_kind_text word Basic k _ (none_of sub_kind_text word k)))
+sub_kind_found word k = named_found sub_kind_text word (Market ∷ Snapshot ∷ Basic ∷ []) k
 
 pub msg_kind_again : (k : MsgKind) → msg_kind_in (msg_kind_text k) ≡ Some k
 msg_kind_again Initial = refl
@@ -44,14 +32,14 @@ msg_kind_again Update = refl
 msg_kind_again Recap = refl
 
 pub msg_kind_found : (word : List ℕ) (k : MsgKind) → msg_kind_in word ≡ Some k → word ≡ msg_kind_text k
-msg_kind_found word k = one_of msg_kind_text word Initial k _ (one_of msg_kind_text word Update k _ (one_of msg_kind_text word Recap k _ (none_of msg_kind_text word k)))
+msg_kind_found word k = named_found msg_kind_text word (Initial ∷ Update ∷ Recap ∷ []) k
 
 pub quality_again : (q : Quality) → quality_in (quality_text q) ≡ Some q
 quality_again Good = refl
 quality_again Stale = refl
 
 pub quality_found : (word : List ℕ) (q : Quality) → quality_in word ≡ Some q → word ≡ quality_text q
-quality_found word q = one_of quality_text word Good q _ (one_of quality_text word Stale q _ (none_of quality_text word q))
+quality_found word q = named_found quality_text word (Good ∷ Stale ∷ []) q
 
 pub order_kind_again : (k : OrderKind) → order_kind_in (order_kind_text k) ≡ Some k
 unfolding order_kind_in
@@ -62,8 +50,7 @@ order_kind_again kinds.Ask = refl
 
 pub order_kind_found : (word : List ℕ) (k : OrderKind) → order_kind_in word ≡ Some k → word ≡ order_kind_text k
 unfolding order_kind_in
-order_kind_found word k =
-    one_of order_kind_text word kinds.Stop k _ (one_of order_kind_text word kinds.Disarm k _ (one_of order_kind_text word kinds.Close k _ (one_of order_kind_text word kinds.Ask k _ (none_of order_kind_text word k))))
+order_kind_found word k = named_found order_kind_text word (kinds.Stop ∷ kinds.Disarm ∷ kinds.Close ∷ kinds.Ask ∷ []) k
 
 pub type_again : (t : ValueType) → type_in (type_text t) ≡ Some t
 unfolding type_in
@@ -82,10 +69,14 @@ type_again types.Bytes = refl
 type_again types.Price = refl
 type_again types.Moment = refl
 
-pub type_found : (word : List ℕ) (t : ValueType) → type_in word ≡ Some t → word ≡ type_text t
+abbrev pub all_types : List ValueType
+all_types =
+    types.Bool ∷ types.Char ∷ types.I8 ∷ types.I16 ∷ types.I32 ∷ types.I64 ∷ types.U8 ∷ types.U16 ∷ types.U32 ∷ types.U64 ∷ types.Text ∷ types.Bytes ∷ types.Price ∷ types.Moment ∷ []
+
+-- reading is looking for the first type that has the word
+pub type_named : (word : List ℕ) → named_in type_text word all_types ≡ type_in word
 unfolding type_in
-type_found word t =
-    one_of type_text word types.Bool t _ (one_of type_text word types.Char t _ (one_of type_text word types.I8 t _ (one_of type_text word types.I16 t _
-    (one_of type_text word types.I32 t _ (one_of type_text word types.I64 t _ (one_of type_text word types.U8 t _ (one_of type_text word types.U16 t _
-    (one_of type_text word types.U32 t _ (one_of type_text word types.U64 t _ (one_of type_text word types.Text t _ (one_of type_text word types.Bytes t _
-    (one_of type_text word types.Price t _ (one_of type_text word types.Moment t _ (none_of type_text word t))))))))))))))
+type_named word = refl
+
+pub type_found : (word : List ℕ) (t : ValueType) → type_in word ≡ Some t → word ≡ type_text t
+type_found word t e = named_found type_text word all_types t (type_named word ∙ e)

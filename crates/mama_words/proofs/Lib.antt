@@ -10,6 +10,7 @@ pub mod Distinct
 pub mod Spaced
 pub mod Cutting
 pub mod IdLaws
+pub mod Named
 pub mod KindLaws
 pub mod ValueLaws
 pub mod FieldLaws

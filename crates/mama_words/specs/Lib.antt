@@ -14,3 +14,4 @@ pub mod Field
 pub mod Lower
 pub mod Order
 pub mod OrderKindText
+pub mod Named
