@@ -260,3 +260,14 @@ counting_ends text left rest number few h lines plain e =
     let c = h.counts lines plain e in
     let none = none_behind left rest c.behind few c.spelled in
     omega (arith, none, c.all, c.counted)
+
+-- a line feed stands in what is left
+feed_left : (left rest : List ℕ) (behind : List (List ℕ)) → ArePlain behind → length rest < length left → left ≡ lines_text behind ++ rest → None ≡ cut_at 10 left → ⊥
+feed_left left rest [] plain more e none = omega (arith, more, ap length e)
+feed_left left rest (l ∷ ls) plain more e none =
+    no_cut (l, lines_text ls ++ rest) (none ∙ ap (cut_at 10) (e ∙ first_line l ls rest) ∙ cut_at_again 10 l (lines_text ls ++ rest) plain.0)
+
+pub counting_stops : (text left rest : List ℕ) (number : ℕ) → length rest < length left → None ≡ cut_at 10 left → IsCounting text left rest number → (lines : List (List ℕ)) → All IsPlain lines → text ≡ lines_text lines ++ rest → number ≡ suc (length lines)
+counting_stops text left rest number more none h lines plain e =
+    let c = h.counts lines plain e in
+    absurd (feed_left left rest c.behind c.plain more c.spelled none)

@@ -1,4 +1,4 @@
-ghost use Rattle.std.specs.Prelude.{◌≡◌, ℕ, [], ◌∷◌, ◌++◌, ◌+◌, suc, false, length, take, drop, List, IfOk, IfErr, IfSome, IfNone, MatchOption};
+ghost use Rattle.std.specs.Prelude.{◌≡◌, ℕ, [], ◌∷◌, ◌++◌, suc, false, length, take, drop, List, IfOk, IfErr, IfSome, IfNone, MatchOption};
 ghost use Rattle.std.specs.List.{All};
 ghost use Rattle.mama_rules_legal.specs.Form.{objects_of};
 ghost use Rattle.mama_record.specs.RunData.{RunData};
@@ -42,29 +42,20 @@ fn behind_head<'a>(
     }
 }
 
-fn one_more(number: u64) -> Result<u64, OutOfMemory>
-    ensures { IfOk result (λ next. next ≡ number + 1) }
-{
-    match number.checked_add(1) {
-        Some(next) => Ok(next),
-        None => Err(OutOfMemory),
-    }
-}
-
 // The number of the line that a text is read up to.
-fn line_number(text: &[u8], rest: &[u8]) -> Result<u64, OutOfMemory>
-    ensures { IfOk result (λ number. (lines : List (List ℕ)) → All (λ line. log.has_feed line ≡ false) lines → text.now ≡ lines_text lines ++ rest.now → number ≡ suc (length lines)) }
+fn line_number(text: &[u8], rest: &[u8]) -> u64
+    ensures { (lines : List (List ℕ)) → All (λ line. log.has_feed line ≡ false) lines → text.now ≡ lines_text lines ++ rest.now → result ≡ suc (length lines) }
 {
     let mut number = 1u64;
     let mut left = text;
     while left.len() > rest.len() {
         match cut_at(b'\n', left) {
             Some((_, after)) => left = after,
-            None => return Err(OutOfMemory),
+            None => return number,
         }
-        number = one_more(number)?;
+        number += 1;
     }
-    Ok(number)
+    number
 }
 
 // The record of the sections of a log, read one after the other to the end of a text.
@@ -83,13 +74,13 @@ fn read_sections(
         match behind_head(alloc, *section, rest)? {
             Some(entries) => rest = built.read(alloc, names, objects, *section, entries)?,
             None => {
-                let line = line_number(text, rest)?;
+                let line = line_number(text, rest);
                 return Err(LogFault::Bad { line });
             }
         }
     }
     if !rest.is_empty() {
-        let line = line_number(text, rest)?;
+        let line = line_number(text, rest);
         return Err(LogFault::Bad { line });
     }
     Ok(built.finish())

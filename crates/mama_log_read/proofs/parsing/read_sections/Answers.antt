@@ -16,13 +16,13 @@ loop-section-preserved c =
 
 pub returns-in-None : goal.returns-in-None
 returns-in-None c =
-    stuck_head c.args.names.now c.args.objects.now c.args.sections.now c.loop-section.section-index _ c.args.text.now c.loop-section.built c.loop-section.rest.now c.in_ok-line-in-None.line c.loop-section-test.true c.loop-section.invariant
-    (rw c.in-None.is at c.in_ok-entries.ensures.none) c.in_ok-line-in-None.ensures
+    stuck_head c.args.names.now c.args.objects.now c.args.sections.now c.loop-section.section-index _ c.args.text.now c.loop-section.built c.loop-section.rest.now c.line_number-line.result c.loop-section-test.true c.loop-section.invariant
+    (rw c.in-None.is at c.in_ok-entries.ensures.none) c.line_number-line.ensures
 
 pub returns-then-not-is_empty : goal.returns-then-not-is_empty
 returns-then-not-is_empty c =
-    stuck_end c.args.names.now c.args.objects.now c.args.sections.now c.loop-section.section-index c.args.text.now c.loop-section.built c.loop-section.rest.now c.in_ok-line.line c.loop-section-test.false
-    (some_left c.loop-section.rest.now c.if-not-is_empty.ensures) c.loop-section.invariant c.in_ok-line.ensures
+    stuck_end c.args.names.now c.args.objects.now c.args.sections.now c.loop-section.section-index c.args.text.now c.loop-section.built c.loop-section.rest.now c.line_number-line-then-not-is_empty.result c.loop-section-test.false
+    (some_left c.loop-section.rest.now c.if-not-is_empty.ensures) c.loop-section.invariant c.line_number-line-then-not-is_empty.ensures
 
 pub returns : goal.returns
 returns c =
