@@ -2,3 +2,4 @@ pub mod Following
 pub mod Clients
 pub mod Queues
 pub mod Publishers
+pub mod SentOut

@@ -1,5 +1,5 @@
 -- believed: What a client, a queue and a publisher put is what their ports may put.
-use Rattle.std.specs.Prelude.{◌≡◌, ℕ, ◌<◌, ◌≤◌, Bool, true, not, ◌&&◌, List, [], length, slice_index_or}
+use Rattle.std.specs.Prelude.{◌≡◌, ℕ, ◌<◌, ◌≤◌, Bool, true, not, ◌&&◌, List, [], ◌∷◌, ◌++◌, length, map, slice_index_or}
 use Rattle.std.specs.List.{All, flat_map, list_any}
 use Rattle.mama_journal.specs.Lane.{by_port}
 use Rattle.mama_event.specs.Lawful.{each_fits, IsLawful}
@@ -7,20 +7,22 @@ use Rattle.mama_event.specs.ToBridge as bridge
 use Rattle.mama_event.specs.ToTimers as timers
 use Rattle.mama_event.specs.ToQueue as queue
 use Rattle.mama_event.specs.Ports.{queues_of, queue_port_of_timers}
-use Rattle.mama_event.specs.Publisher.{PublisherScript, publisher_puts}
+use Rattle.mama_event.specs.Publisher.{PublisherScript, SendLine, publisher_puts}
 use Rattle.mama_event.specs.declared.shape.Bounds.{Bounds}
 use Rattle.mama_event.specs.declared.to_queue.QueueNote.{QueueNote}
 use Rattle.mama_event.specs.declared.to_publisher.PublisherNote.TheVariants.{Settle, Fin}
 use Rattle.mama_event.specs.declared.publisher_entry.PublisherEntry.{PublisherEntry}
-use Rattle.mama_event.specs.declared.publisher_entry.PublisherEntry.TheVariants.{Took}
+use Rattle.mama_event.specs.declared.publisher_entry.PublisherEntry.TheVariants.{Send, Done, Took}
+use Rattle.mama_rules_services.specs.Bridge.{heard, has_ending}
 use Rattle.mama_script.specs.Script.{ScriptData}
 use Rattle.mama_script.specs.Tree.{IsShaped}
 use Rattle.mama_script.specs.Within.{IsWithin}
+use Rattle.mama_record.specs.RunData.{RunData}
 use Rattle.mama_rules_queue.specs.Queue.{QueuePut}
 use Rattle.mama_rules_rounds.specs.Client.{client_steps, bridge_part, timers_part}
 use Rattle.mama_rules_rounds.specs.World.{Setting}
-use Rattle.mama_rules_legal.specs.Edges.{all_steps, client_puts, queue_puts}
-use Rattle.mama_rules_legal.specs.Lines.{is_done, takes_settle}
+use Rattle.mama_rules_legal.specs.Edges.{all_steps, client_puts, queue_puts, AreEdges}
+use Rattle.mama_rules_legal.specs.Lines.{is_done, takes_settle, IsSentOut}
 
 -- what a client or a queue puts: its part for each of the two lanes may be put there
 pub record ArePutsLawful (bounds : Bounds) (puts : List QueuePut) : Type 0 where
@@ -58,3 +60,19 @@ pub record StopsInTime (journal : List PublisherEntry) : Type 0 where
 
 abbrev pub PublisherPutsAreLawful : Type 0
 PublisherPutsAreLawful = (script : PublisherScript) (bounds : Bounds) (journal : List PublisherEntry) → StopsInTime journal → IsLawful bridge.is_last (bridge.fits bounds) (publisher_puts script journal)
+
+-- what an entry of a publisher is of its own accord, not taken
+abbrev pub own_in : PublisherEntry → List PublisherEntry
+own_in Send = Send ∷ []
+own_in Done = Done ∷ []
+own_in (Took note) = []
+
+abbrev pub own_by : List PublisherEntry → List PublisherEntry
+own_by journal = flat_map own_in journal
+
+-- Where every edge is whole and the ending came, a publisher that stops in time, and sent so many lines of its own accord
+-- and then was done, has a journal as one has that sent all its lines.
+abbrev pub StoppedPublishersSentOut : Type 0
+StoppedPublishersSentOut = (script : ScriptData) (run : RunData) → IsShaped script → AreEdges script run → has_ending script.shape (heard script.shape run.bridge) ≡ true
+    → (p : ℕ) → p < length script.publishers → (lines : List SendLine) → own_by (slice_index_or run.publishers p []) ≡ map (λ l. Send) lines ++ Done ∷ []
+    → StopsInTime (slice_index_or run.publishers p []) → IsSentOut (length lines) (slice_index_or run.publishers p [])
