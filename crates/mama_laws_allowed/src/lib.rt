@@ -3,7 +3,10 @@
 //! Laws of the definitions, with no code: what a client puts by its lines, whatever moments it reads
 //! ([`client_puts_are_lawful`]); what a queue puts by its journal, where what it took is lawful
 //! ([`queue_puts_are_lawful`]); and what a publisher puts by its journal, where it stops in time
-//! ([`publisher_puts_are_lawful`]); so it has sent all its lines in the end ([`stopped_publishers_sent_out`]). Every beginning of a lawful list is lawful, so each single put may be made.
+//! ([`publisher_puts_are_lawful`]). Every beginning of a lawful list is lawful, so each single put may be made.
+//!
+//! A publisher that stops in time has sent all its lines once every edge is whole and the ending came
+//! ([`stopped_publishers_sent_out`]).
 #![tactic(auto)]
 
 mod laws;
