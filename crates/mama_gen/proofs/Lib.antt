@@ -1,0 +1,5 @@
+pub mod Each
+pub mod Written
+pub mod Fitting
+pub mod Weights
+pub mod Accepted
