@@ -1,5 +1,5 @@
 -- The lines that are drawn from a seed are accepted.
-use Rattle.std.proofs.Common.{◌≡◌, ℕ, zero, suc, ◌+◌, ◌*◌, ◌/◌, ◌%◌, ◌^◌, ◌<◌, ◌≤◌, Bool, true, false, cond, List, [], ◌∷◌, ◌++◌, length, map, Option, None, Some, refl, sym, ap, subst, ◌∙◌, arith}
+use Rattle.std.proofs.Common.{◌≡◌, ℕ, zero, suc, ◌+◌, ◌*◌, ◌/◌, ◌%◌, ◌^◌, ◌<◌, ◌≤◌, Bool, true, false, cond, List, [], ◌∷◌, ◌++◌, length, map, Option, None, refl, sym, ap, subst, arith}
 use Rattle.std.specs.Prelude.{◌==◌, nat_le, nat_lt}
 use Rattle.std.specs.List.{flat_map, range_with_len}
 use Rattle.std.proofs.lemmas.Bool.{lt-leb, le-leb, le-ltb, and_from, cond_both}
@@ -21,18 +21,15 @@ use Rattle.mama_event.specs.declared.market.SubKind.TheVariants.{Market}
 use Rattle.mama_script.specs.declared.line.QueueName.TheVariants.{Any}
 use Rattle.mama_script.specs.declared.line.Line.{Line}
 use Rattle.mama_script.specs.declared.line.Line.TheVariants as lines
-use Rattle.mama_script.specs.declared.names.Made.{Made}
-use Rattle.mama_script.specs.declared.publisher.PublisherLine.{PublisherLine}
-use Rattle.mama_script.specs.declared.publisher.PublisherPart.{PublisherPart}
 use Rattle.mama_script.specs.Head.{allows, may_end}
 use Rattle.mama_script.specs.Line.{IsFault}
-use Rattle.mama_script.specs.Before.{Before, start, after, flaw, number_at, heavier, flaw_if, first_flaw, topic_flaw, weight_with}
+use Rattle.mama_script.specs.Before.{Before, start, after, number_at, heavier, flaw_if, first_flaw, topic_flaw, weight_with}
 use Rattle.mama_script.specs.Reading.{Fits}
 use Rattle.mama_script.specs.Tree.{lines_of, topic_line, publisher_line, publisher_lines, step_lines, client_lines, topic_of_part, IsShaped, IsScript}
-use Rattle.mama_gen.specs.Draws.{Drawn, next, each}
+use Rattle.mama_gen.specs.Draws.{Drawn, next}
 use Rattle.mama_gen.specs.Generated.{topic_name, bid, ask, size, field, value, base, update, publisher, fault, row, subscription, client, script, script_of_seed}
 use Rattle.mama_gen.proofs.Each.{made, behind, made_length, numbers_of}
-use Rattle.mama_gen.proofs.Fitting.{IsFree, Goes, goes_then, goes_both, goes_each, accepted}
+use Rattle.mama_gen.proofs.Fitting.{Goes, goes_then, goes_both, goes_each, accepted}
 use Rattle.mama_gen.proofs.Weights.{AreAtMost, at_most_more, number_at_most, insert_at_most, AreBelow, below_more, insert_below, above_is_new}
 
 -- what was counted behind so many topics, publishers, updates, clients and subscriptions

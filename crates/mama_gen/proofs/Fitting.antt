@@ -1,5 +1,5 @@
 -- Lines that fit where they stand and name no object.
-use Rattle.std.proofs.Common.{◌≡◌, ℕ, zero, suc, ◌+◌, ◌<◌, ◌≤◌, true, List, [], ◌∷◌, ◌++◌, length, map, None, refl, sym, ap, subst, ◌∙◌, append-nil, arith}
+use Rattle.std.proofs.Common.{◌≡◌, ℕ, zero, suc, ◌<◌, ◌≤◌, true, List, [], ◌∷◌, ◌++◌, None, refl, sym, ap, subst, ◌∙◌, append-nil, arith}
 use Rattle.std.specs.List.{flat_map}
 use Rattle.std.proofs.lemmas.List.Concat.{flat_map-append}
 use Rattle.mama_script.specs.declared.names.Made.{Made}
@@ -8,7 +8,7 @@ use Rattle.mama_script.specs.Head.{may_end}
 use Rattle.mama_script.specs.Before.{Before, start, after}
 use Rattle.mama_script.specs.Names.{is_named, made_by, unnamed_from}
 use Rattle.mama_script.specs.Reading.{Fits, FitFrom, AreAccepted}
-use Rattle.mama_gen.specs.Draws.{Drawn, each}
+use Rattle.mama_gen.specs.Draws.{Drawn}
 use Rattle.mama_gen.proofs.Each.{made, behind, one, made_none, made_more}
 
 abbrev pub IsFree : Line → Type 0
