@@ -2,3 +2,4 @@ pub mod StandLemmas
 pub mod ReadingLemmas
 pub mod MomentRows
 pub mod SenderLemmas
+pub mod PastLemmas

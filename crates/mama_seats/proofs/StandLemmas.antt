@@ -11,7 +11,8 @@ use Rattle.mama_rules_rounds.specs.Client.{steps_from, reads_clock}
 use Rattle.mama_plans.specs.declared.names.Names.{Names}
 use Rattle.mama_plans.specs.Names.{DoesLine}
 use Rattle.mama_seats.specs.Sender.{first_step, later_steps}
-use Rattle.mama_seats.specs.Stand.{Stand, standing_in, left_after, reads_next, BeginsWith, IsStep}
+use Rattle.mama_seats.specs.Past.{past, is_empty_line}
+use Rattle.mama_seats.specs.Stand.{Stand, standing_in, left_after, reads_first, reads_next, BeginsWith, IsStep}
 
 apart : {b : Bool} → b ≡ false → b ≡ true → ⊥
 apart untrue holds = cc
@@ -155,18 +156,17 @@ pub reads_paused : (s old : Stand) → s ≡ old → s.over ≡ false → 0 < s.
 reads_paused s old is over pause =
     subst (λ (o : Stand). false ≡ reads_next o) is (reads_paused_by s (s.pause - 1) over (let e : s.pause ≡ suc (s.pause - 1) = omega arith in e))
 
-reads_by : (s : Stand) (l : ClientLine) (rest : List ClientLine) → s.over ≡ false → s.pause ≡ 0 → s.lines ≡ l ∷ rest → reads_clock l ≡ reads_next s
-reads_by s l rest over pause lines = rw (over, pause, lines) refl
+-- the first of the lines that take a step is what it does next
+reads_so : (s : Stand) (next : List ClientLine) → s.over ≡ false → s.pause ≡ 0 → next ≡ past is_empty_line s.lines → reads_first next ≡ reads_next s
+reads_so s next over pause is = ap reads_first is ∙ rw (over, pause) refl
 
-reads_past : (s : Stand) → s.over ≡ false → s.pause ≡ 0 → s.lines ≡ [] → false ≡ reads_next s
-reads_past s over pause lines = rw (over, pause, lines) refl
+pub reads_at_end : (s old : Stand) (whole : List ClientLine) (at : ℕ) → s ≡ old → s.over ≡ false → s.pause ≤ 0 → drop at whole ≡ past is_empty_line s.lines → length whole ≤ at → false ≡ reads_next old
+reads_at_end s old whole at is over pause next end =
+    subst (λ (o : Stand). false ≡ reads_next o) is
+    (ap reads_first (sym (drop_all at whole end)) ∙ reads_so s (drop at whole) over (let e : s.pause ≡ 0 = omega arith in e) next)
 
-pub reads_at_end : (s old : Stand) (whole : List ClientLine) (at : ℕ) → s ≡ old → s.over ≡ false → s.pause ≤ 0 → s.lines ≡ drop at whole → length whole ≤ at → false ≡ reads_next old
-reads_at_end s old whole at is over pause own past =
-    subst (λ (o : Stand). false ≡ reads_next o) is (reads_past s over (let e : s.pause ≡ 0 = omega arith in e) (own ∙ drop_all at whole past))
-
-pub reads_at_line : (s old : Stand) (whole : List ClientLine) (at : ℕ) (r : ClientLine) → s ≡ old → s.over ≡ false → s.pause ≤ 0 → s.lines ≡ drop at whole → at < length whole → r ≡ get_or whole at r
+pub reads_at_line : (s old : Stand) (whole : List ClientLine) (at : ℕ) (r : ClientLine) → s ≡ old → s.over ≡ false → s.pause ≤ 0 → drop at whole ≡ past is_empty_line s.lines → at < length whole → r ≡ get_or whole at r
     → reads_clock r ≡ reads_next old
-reads_at_line s old whole at r is over pause own within read =
+reads_at_line s old whole at r is over pause next within read =
     subst (λ (o : Stand). reads_clock r ≡ reads_next o) is
-    (reads_by s r (drop (at + 1) whole) over (let e : s.pause ≡ 0 = omega arith in e) (own ∙ next_line whole at r r within read refl))
+    (ap reads_first (sym (next_line whole at r r within read refl)) ∙ reads_so s (drop at whole) over (let e : s.pause ≡ 0 = omega arith in e) next)

@@ -1,5 +1,6 @@
 pub mod Sender
 pub mod Moments
+pub mod Past
 pub mod Stand
 pub mod Said
 pub mod Server

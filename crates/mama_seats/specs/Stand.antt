@@ -6,6 +6,7 @@ use Rattle.mama_rules_rounds.specs.Client.{Standing, steps_from, reads_clock, cl
 use Rattle.mama_plans.specs.declared.names.Names.{Names}
 use Rattle.mama_plans.specs.Names.{standing_of}
 use Rattle.mama_seats.specs.Moments.{Answered, client_reads}
+use Rattle.mama_seats.specs.Past.{past, is_empty_line}
 use Rattle.mama_seats.specs.Sender.{first_step, later_steps}
 
 -- the client's number, how many queues there are, whether it is done, how many steps it still pauses, what it has
@@ -33,12 +34,16 @@ pub record Walk : Type 0 where
 abbrev pub stand_of : List ClientLine → Walk → Stand
 stand_of lines w = record { number = w.number; queues = w.queues; over = w.over; pause = w.pause; names = w.names; lines = drop w.line lines; read = w.read }
 
+-- the first of some lines reads the clock
+abbrev pub reads_first : List ClientLine → Bool
+reads_first [] = false
+reads_first (l ∷ ls) = reads_clock l
+
 -- the next step is a line that reads the clock
 abbrev pub reads_at : Bool → ℕ → List ClientLine → Bool
 reads_at true pause lines = false
 reads_at false (suc pause) lines = false
-reads_at false zero [] = false
-reads_at false zero (l ∷ ls) = reads_clock l
+reads_at false zero lines = reads_first (past is_empty_line lines)
 
 abbrev pub reads_next : Stand → Bool
 reads_next s = reads_at s.over s.pause s.lines

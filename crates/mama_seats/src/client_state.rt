@@ -5,6 +5,7 @@ ghost use Rattle.mama_plans.specs.Put.{notes_of};
 ghost use Rattle.mama_seats.specs.Stand.{stand_of, reads_next, IsStep, IsReading};
 ghost use Rattle.mama_seats.specs.Said.{notes_in};
 
+use crate::line::next_at;
 use mama_edge::Clock;
 use mama_event::{ObjectId, ToBridge, ToService, ToTimers};
 use mama_memory::{OutOfMemory, Outbox};
@@ -104,15 +105,16 @@ impl ClientState {
         if self.pause > 0 {
             return false;
         }
-        if self.line >= lines.len() {
+        let line = next_at(lines, self.line);
+        if line >= lines.len() {
             return false;
         }
-        is_reading(&lines[self.line])
+        is_reading(&lines[line])
     }
 
     /// Makes the next step, and puts what it puts at the end of the outbox: nothing during a pause and after the last
-    /// step. A line that reads the clock calls it once, and no other step calls it. The error is want of memory, or a
-    /// number or an empty pause that no accepted script has; then all is as before, and the clock was not called.
+    /// step. A line that reads the clock calls it once, and no other step calls it. The error is want of memory, and comes
+    /// also where [`Names::line`] finds no number left; then all is as before, and the clock was not called.
     pub fn step<C: Clock>(
         &mut self,
         lines: &[ClientLine],
@@ -148,32 +150,28 @@ impl ClientState {
         ensures err { OnErr result (self.new ≡ self.old) }
         ensures clock_err { OnErr result (C.left clock.new ≡ C.left clock.old) }
     {
-        if self.line >= lines.len() {
+        let line = next_at(lines, self.line);
+        if line >= lines.len() {
+            self.line = line;
             self.over = true;
             return Ok(Said::Done);
         }
-        match self
-            .names
-            .line(self.number, self.queues, &lines[self.line])?
-        {
+        match self.names.line(self.number, self.queues, &lines[line])? {
             Doing::Puts(put, names) => {
                 self.names = names;
-                self.line += 1;
+                self.line = line + 1;
                 Ok(Said::Put(put))
             }
             Doing::Pauses(steps) => {
-                if steps == 0 {
-                    return Err(OutOfMemory);
-                }
                 self.pause = steps - 1;
-                self.line += 1;
+                self.line = line + 1;
                 Ok(Said::Nothing)
             }
             Doing::ReadsClock => {
                 self.moments.reserve(1)?;
                 let moment = clock.now();
                 self.moments.push_reserved(moment);
-                self.line += 1;
+                self.line = line + 1;
                 Ok(Said::Put(ToService::Timers(ToTimers::Now { moment })))
             }
         }

@@ -9,6 +9,7 @@
 
 mod client_seat;
 mod client_state;
+mod line;
 mod listening;
 mod publisher_seat;
 mod publisher_state;

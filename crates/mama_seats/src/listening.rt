@@ -5,7 +5,6 @@ ghost use Rattle.mama_event.specs.ToQueue.{note_of};
 ghost use Rattle.mama_dispatch.specs.Hearing.{brought, ListensAs, ComesPlanned};
 ghost use Rattle.mama_plans.specs.Put.{own_tag};
 ghost use Rattle.mama_plans.specs.Orders.{orders_in};
-ghost use Rattle.mama_plans.specs.Plans.{AreFew};
 ghost use Rattle.mama_seats.specs.Listening.{tag_of, data_of};
 
 use mama_event::{Make, ObjectId, Tagged, ToQueue};
@@ -21,10 +20,10 @@ fn listener_of(
     object: &ObjectId,
     tag: ObjectId,
 ) -> Result<PlanListener, OutOfMemory>
-    requires { AreFew plans.now }
     ensures tag { IfOk result (λ listener. tag_of listener ≡ tag) }
     ensures planned { IfOk result (λ listener. ListensAs (orders_in plans.now object.now) 0 (Some (data_of listener))) }
 {
+    plans.are_few();
     let mut plan = Vec::from_slice(alloc, plans.plan(object))?;
     // In order or not, the plan has the same orders for each call.
     let _ordered = order_rows(&mut plan);
@@ -40,7 +39,6 @@ fn created(
     make: Make,
     tag: ObjectId,
 ) -> Result<ToQueue<PlanListener>, ToQueue<ObjectId>>
-    requires { AreFew plans.now }
     ensures noted { IfOk result (λ given. note_of tag_of given ≡ note.Create slot object make tag) }
     ensures planned { IfOk result (λ given. ComesPlanned (orders_in plans.now) (brought data_of given)) }
     ensures back { IfErr result (λ given. given ≡ event.Create slot object make tag) }
@@ -68,7 +66,6 @@ pub(crate) fn with_plan(
     plans: &Plans,
     event: ToQueue<ObjectId>,
 ) -> Result<ToQueue<PlanListener>, ToQueue<ObjectId>>
-    requires { AreFew plans.now }
     ensures noted { IfOk result (λ given. note_of tag_of given ≡ note_of own_tag event) }
     ensures planned { IfOk result (λ given. ComesPlanned (orders_in plans.now) (brought data_of given)) }
     ensures back { IfErr result (λ given. given ≡ event) }

@@ -9,14 +9,15 @@ ghost use Rattle.mama_publisher.specs.Laws.{StandsAt};
 ghost use Rattle.mama_seats.specs.Sender.{IsSeatedIn, IsSeatedAt, sender_in, sender_of, IsSenderStep};
 ghost use Rattle.mama_seats.specs.Said.{notes_sent};
 
+use crate::line::next_at;
 use mama_event::{
     MarketMsg, MsgKind, PublisherEntry, PublisherNote, Stream, Tagged, ToBridge, ToPublisher,
 };
 use mama_memory::{Duplicate, OutOfMemory, Outbox};
 use mama_msg::Msg;
 use mama_publisher::{
-    Publisher, a_new_publisher_has_its_base, sending_a_recap, sending_an_update, taking_an_event,
-    telling_the_end_of_sends,
+    Publisher, SendFault, a_new_publisher_has_its_base, sending_a_recap, sending_an_update,
+    taking_an_event, telling_the_end_of_sends,
 };
 use mama_script::{PublisherLine, PublisherPart};
 use std::alloc::Global;
@@ -174,8 +175,9 @@ impl PublisherState {
     }
 
     /// Makes the next step, and puts what it puts at the end of the outbox: nothing during a pause and after the last
-    /// step. The error is want of memory, or a record, a number or an empty pause that no accepted script has; then all
-    /// is as before.
+    /// step. The section is the one that it was made with. The error is want of memory, and comes also where
+    /// [`Publisher::send`] refuses an update: one that makes a record of more than 64 fields, which no accepted script has,
+    /// or the 2^32nd. Then all is as before.
     pub fn step<M: Tagged>(
         &mut self,
         part: &PublisherPart,
@@ -210,37 +212,36 @@ impl PublisherState {
         ensures err { OnErr result (self.new ≡ self.old) }
     {
         self.journal.reserve(1)?;
-        if self.line >= lines.len() {
+        let line = next_at(lines, self.line);
+        if line >= lines.len() {
             telling_the_end_of_sends();
             note_done(&mut self.journal);
+            self.line = line;
             self.over = true;
             return Ok(Sent::Done);
         }
-        match &lines[self.line] {
+        match &lines[line] {
             PublisherLine::Update(body) => {
                 let msg = match self.publisher.send(body) {
                     Ok(msg) => msg,
-                    Err(_) => return Err(OutOfMemory),
+                    Err(SendFault::OutOfMemory | SendFault::NumbersSpent | SendFault::RecordFull) =>
+                        return Err(OutOfMemory),
                 };
                 sending_an_update();
                 note_send(&mut self.journal);
-                self.line += 1;
+                self.line = line + 1;
                 Ok(Sent::Message(msg))
             }
             PublisherLine::Recap => {
                 let msg = self.publisher.image(MsgKind::Recap)?;
                 sending_a_recap();
                 note_send(&mut self.journal);
-                self.line += 1;
+                self.line = line + 1;
                 Ok(Sent::Message(msg))
             }
             PublisherLine::Pause(steps) => {
-                let steps = *steps;
-                if steps == 0 {
-                    return Err(OutOfMemory);
-                }
-                self.pause = steps - 1;
-                self.line += 1;
+                self.pause = *steps - 1;
+                self.line = line + 1;
                 Ok(Sent::Nothing)
             }
         }

@@ -7,7 +7,6 @@ ghost use Rattle.mama_rules_rounds.specs.Round.{noted};
 ghost use Rattle.mama_plans.specs.Put.{own_tag, notes_of};
 ghost use Rattle.mama_seats.specs.Server.{served, served_puts};
 ghost use Rattle.mama_plans.specs.Orders.{orders_in};
-ghost use Rattle.mama_plans.specs.Plans.{AreFew};
 ghost use Rattle.mama_plans.specs.Image.{found_image, image_of};
 
 use crate::listening::{with_plan, without_plan};
@@ -35,17 +34,18 @@ impl<'a> Model for QueueSeat<'a> {
 
     ghost Value = { Server };
 
-    ghost use Rattle.mama_seats.specs.Lane.{lane_notes, IsQueueSeat};
+    ghost use Rattle.mama_dispatch.specs.Hearing.{ArePlanned};
+    ghost use Rattle.mama_plans.specs.Orders.{orders_in};
+    ghost use Rattle.mama_seats.specs.Lane.{lane_notes};
 
     ghost view = { λ s. record { objects = s.plans.now; journal = s.serving.journal; lane = lane_notes s.lane.items } };
 
-    ghost invariant = { λ s. IsQueueSeat s.plans.now s.serving.seats };
+    ghost invariant = { λ s. ArePlanned (orders_in s.plans.now) s.serving.seats };
 }
 
 impl<'a> QueueSeat<'a> {
-    /// A queue that has done nothing yet. The plans are those of a script: see [`mama_plans::plans_are_few`].
+    /// A queue that has done nothing yet.
     pub fn new(alloc: Global, plans: &'a Plans) -> QueueSeat<'a>
-        requires { AreFew plans.now }
         ensures { result ≡ record { objects = plans.now; journal = []; lane = [] } }
     {
         QueueSeat {
@@ -137,8 +137,7 @@ fn serve(
     port: u32,
     event: ToQueue<ObjectId>,
 ) -> Result<Outbox<ToService<ObjectId>>, ToQueue<ObjectId>>
-    requires planned { ArePlanned (orders_in plans.now) serving.old.seats }
-    requires few { AreFew plans.now }
+    requires { ArePlanned (orders_in plans.now) serving.old.seats }
     ensures journal { OnOk result (serving.new.journal ≡ serving.old.journal ++ (port, note_of own_tag event) ∷ []) }
     ensures planned { ArePlanned (orders_in plans.now) serving.new.seats }
     ensures puts { IfOk result (λ out. notes_of out.items ≡ queue_puts_at (orders_in plans.now) serving.old.journal (port, note_of own_tag event)) }

@@ -1,5 +1,5 @@
 use Rattle.std.specs.Prelude.{Some}
-use Rattle.std.proofs.Common.{ℕ, List, length, ◌≤◌, refl, ap, sym, subst, ◌∙◌}
+use Rattle.std.proofs.Common.{List, length, ◌≤◌, refl, ap, sym, subst, ◌∙◌}
 use Rattle.mama_event.specs.declared.order.Order.{Order}
 use Rattle.mama_event.specs.declared.order.PlanRow.{PlanRow}
 use Rattle.mama_event.specs.Listener.{ListenerData, planned}
@@ -14,7 +14,7 @@ pub new-requires : goal.new-requires
 new-requires c = record {
   most = λ call.
       subst (λ (orders : List Order). length orders ≤ 8) (sym (c.order_rows-ordered.ensures.same.same call))
-      (subst (λ (rows : List PlanRow). IsFew rows) (sym (c.in_ok-plan.ensures.items ∙ c.plan.ensures)) (few_said c.args.object.now c.args.plans.now c.requires) call);
+      (subst (λ (rows : List PlanRow). IsFew rows) (sym (c.in_ok-plan.ensures.items ∙ c.plan.ensures)) (few_said c.args.object.now c.args.plans.now c.are_few.ensures) call);
 }
 
 pub returns-clause-planned : goal.returns-clause-planned

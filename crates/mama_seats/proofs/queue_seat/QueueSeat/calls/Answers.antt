@@ -14,6 +14,6 @@ returns c =
     let orders : ObjectId → ℕ → List Order = orders_in c.self.inside.plans.now in
     IfOk-weaker c.calls_of.result _ _
     (λ calls is.
-    is orders (c.planned_orders_fit.ensures orders c.self.invariant.planned)
+    is orders (c.planned_orders_fit.ensures orders c.self.invariant)
     ∙ ap (λ (s : Server). map noted (calls_of c.args.object.now (deeds (orders_in s.objects) s.journal))) c.self.view_is)
     c.calls_of.ensures
