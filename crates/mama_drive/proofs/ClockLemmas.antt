@@ -7,16 +7,14 @@ use Rattle.std.proofs.lemmas.List.{get_or-drop, drop-drop, length-drop}
 use Rattle.std.proofs.lemmas.List.Elements.{All-nil, All-cons}
 use Rattle.mama_edge.specs.Told.{after_first}
 use Rattle.mama_script.specs.declared.client.ClientLine.{ClientLine}
-use Rattle.mama_rules_queue.specs.Queue.{QueuePut}
 use Rattle.mama_event.specs.Ports.{queues_of}
 use Rattle.mama_script.specs.Script.{ScriptData}
 use Rattle.mama_record.specs.RunData.{RunData}
 use Rattle.mama_rules_rounds.specs.Client.{Planned}
-use Rattle.mama_rules_rounds.specs.World.{World}
 use Rattle.mama_seats.specs.Sender.{first_step, later_steps}
-use Rattle.mama_seats.specs.Stand.{Stand, left_after, BeginsWith, IsStep, IsReading, still_read}
+use Rattle.mama_seats.specs.Stand.{Stand, left_after, BeginsWith, IsReading, still_read}
 use Rattle.mama_seats.specs.Moments.{answers, remaining, Answered, client_reads, all_reads, read_in_round, read_in_rounds, AreHeard}
-use Rattle.mama_drive.specs.Scene.{Scene, Moves, Drains, Plays, IsPlayed, AreMoments, rested_stand}
+use Rattle.mama_drive.specs.Scene.{Scene, Plays, IsPlayed, AreMoments, rested_stand}
 use Rattle.mama_drive.specs.Start.{stands_from, started}
 use Rattle.mama_drive.specs.Record.{read_in, recorded}
 use Rattle.mama_drive.specs.Heard.{unread, Hears, StepRead, first_steps, after_steps, StepsRead, RoundsRead, HearsRounds}
@@ -299,15 +297,6 @@ step_heard o l cs c x new within is grows reading = record {
             ∙ ap (λ k. set (unread ms cs) c (later_steps k)) (sym now),
       );
 }
-
--- the same, told of what the calls say
-pub client_heard : (s old mid after last : Scene) (w : World) (c : ℕ) (x new : Stand) (puts : List QueuePut) (o l : Option (List ℕ)) → s ≡ old → c < length s.clients → x ≡ get_or s.clients c x
-    → IsStep x new puts → IsReading o l x new → mid ≡ record s { clients = set s.clients c new } → Moves mid after w → Drains after last
-    → Hears (StepRead c) o l old.clients last.clients
-client_heard s old mid after last w c x new puts o l is within at step reading changed moves drained =
-    let now : last.clients ≡ set s.clients c new = drained.passes.moves.clients ∙ moves.clients ∙ ap (λ (m : Scene). m.clients) changed in
-    subst (λ (b : Scene). Hears (StepRead c) o l b.clients last.clients) is
-    (subst (Hears (StepRead c) o l s.clients) (sym now) (step_heard o l s.clients c x new within at step.read reading))
 
 -- THE START
 

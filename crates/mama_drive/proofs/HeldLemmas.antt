@@ -1,6 +1,5 @@
 -- What is held, and the scene where it lies on its lanes.
 use Rattle.std.proofs.Common.{◌≡◌, ℕ, zero, suc, ◌<◌, ◌≤◌, List, [], ◌∷◌, ◌++◌, map, length, get_or, refl, sym, ◌∙◌, ap, append_assoc, arith, subst}
-use Rattle.std.specs.Prelude.{Option, None, Some}
 use Rattle.std.specs.List.{flat_map}
 use Rattle.std.proofs.Math.ListN.{set}
 use Rattle.mama_journal.specs.Lane.{from_port}
@@ -21,7 +20,7 @@ use Rattle.mama_seats.specs.Sender.{steps_in}
 use Rattle.mama_drive.specs.declared.held.Held.{Held}
 use Rattle.mama_drive.specs.declared.held.Held.TheVariants as held
 use Rattle.mama_drive.specs.Scene.{Scene, Moves, setting_in, world_in, script_in, entries_in, lane_in, journal_in, waiting_in, put_on, spread, spread_one, spread_ticks, tick_one}
-use Rattle.mama_seats.specs.Waiting.{led, waits}
+use Rattle.mama_seats.specs.Waiting.{waits}
 use Rattle.mama_drive.specs.Held.{changed_at, with_note, with_event, lay_put, lay_tick, lay_event, lay_out, lay_all, seen}
 use Rattle.mama_drive.proofs.LaneLemmas.{append_nil, spread_nil, spread_cons, ticks_nil, ticks_cons}
 use Rattle.mama_drive.proofs.SceneLemmas.{moves_none, moves_then}
@@ -131,30 +130,6 @@ outs_laid b t (queue.to_timers note ∷ outs) s =
     (append_assoc s.to_timers ((t, note) ∷ []) (from_port t (flat_map timers_part outs)))
 
 -- WHAT IS HELD MOVES TO ITS LANES
-
--- the first of what waits goes on its lane
-pub laid_more : {T V : Type 0} → (lay : V → Scene → Scene) (f : T → V) (x : T) (old new : List T) (s after whole : Scene) → old ≡ x ∷ new → after ≡ lay (f x) s
-    → lay_all lay (map f old) s ≡ whole → lay_all lay (map f new) after ≡ whole
-laid_more lay f x old new s after whole is laid before =
-    ap (lay_all lay (map f new)) laid ∙ ap (λ l. lay_all lay (map f l) s) (sym is) ∙ before
-
-led_none : {T : Type 0} → (first : Option T) (rest : List T) → first ≡ None → led first rest ≡ rest
-led_none None rest none = refl
-led_none (Some x) rest none = cc
-
--- it waits again where its lane had no room
-pub laid_back : {T V : Type 0} → (lay : V → Scene → Scene) (f : T → V) (x given : T) (old : List T) (first : Option T) (rest : List T) (s after whole : Scene)
-    → old ≡ x ∷ led first rest → first ≡ None → given ≡ x → after ≡ s → lay_all lay (map f old) s ≡ whole
-    → lay_all lay (map f (given ∷ rest)) after ≡ whole
-laid_back lay f x given old first rest s after whole is none back same before =
-    ap (lay_all lay (map f (given ∷ rest))) same
-    ∙ ap (λ (y : _). lay_all lay (map f (y ∷ rest)) s) back
-    ∙ ap (λ l. lay_all lay (map f (x ∷ l)) s) (sym (led_none first rest none))
-    ∙ ap (λ l. lay_all lay (map f l) s) (sym is) ∙ before
-
--- nothing is held
-pub none_laid : {T V : Type 0} → (lay : V → Scene → Scene) (f : T → V) (left : List T) → left ≡ [] → (s : Scene) → lay_all lay (map f left) s ≡ s
-none_laid lay f left none s = ap (λ l. lay_all lay (map f l) s) none
 
 -- the system after all is on its lanes
 pub settled : (h : Held) (s before old : Scene) → before ≡ old → seen h s ≡ before → ((t : Scene) → seen h t ≡ t) → s ≡ old

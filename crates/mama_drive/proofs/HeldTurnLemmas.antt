@@ -18,6 +18,8 @@ use Rattle.mama_seats.specs.Waiting.{Queued, waits}
 use Rattle.mama_drive.specs.Scene.{Scene, Moves, Advances, Stepped, setting_in, world_in, objects_in, spread, spread_ticks}
 use Rattle.mama_drive.specs.Heard.{Hears, StepRead}
 use Rattle.mama_drive.specs.Held.{lay_put, lay_tick, lay_event, lay_out, lay_all}
+use Rattle.mama_drive.specs.Seat.{ServiceSeat, took, took_puts}
+use Rattle.mama_drive.proofs.LaneLemmas.{spread_nil, ticks_nil}
 use Rattle.mama_drive.proofs.HeldLemmas.{puts_move, ticks_move, events_laid, outs_laid}
 use Rattle.mama_drive.proofs.SceneLemmas.{sender_turned_to, put_all_to}
 use Rattle.mama_drive.proofs.ServerLemmas.{queue_turned_to}
@@ -28,63 +30,62 @@ use Rattle.mama_drive.proofs.ClockLemmas.{step_heard}
 pub all_wait : {T V : Type 0} → (f : List T → List V) (w : Queued T) (events : List T) → w ≡ record { apart = None; rest = events } → f (waits w) ≡ f events
 all_wait {T} f w events is = ap (λ (q : Queued T). f (waits q)) is
 
--- the bridge takes the first event of its lane
-pub bridge_turned : (s old : Scene) (e : ℕ × BridgeNote) (rest journal : List (ℕ × BridgeNote)) (outs left : List BridgePut) → s ≡ old → s.to_bridge ≡ e ∷ rest
-    → journal ≡ s.bridge ++ e ∷ [] → outs ≡ bridge_puts_at s.shape s.bridge e → left ≡ outs
-    → Moves old (lay_all lay_put left (record s { bridge = journal; to_bridge = rest })) (bridge_turn (setting_in old) (world_in old))
-bridge_turned s old e rest journal outs left is first grown puts_are held =
-    let moves = puts_move left (record s { bridge = journal; to_bridge = rest }) in
-    subst (λ (o : Scene). Moves o (lay_all lay_put left (record s { bridge = journal; to_bridge = rest })) (bridge_turn (setting_in o) (world_in o))) is (record {
+-- the bridge takes the first event of its lane, if there is one
+bridge_took_at : (s : Scene) (x : ServiceSeat BridgeNote) → x.shape ≡ s.shape → x.journal ≡ s.bridge → x.lane ≡ s.to_bridge → (lane : List (ℕ × BridgeNote))
+    → spread (setting_in s) (took_puts bridge_puts_at x lane) (world_in (record s { bridge = (took x lane).journal; to_bridge = (took x lane).lane })) ≡ bridge_took (setting_in s) (world_in s) lane
+bridge_took_at s x shape journal here [] =
+    ap (λ j. spread (setting_in s) [] (world_in (record s { bridge = j; to_bridge = x.lane }))) journal
+    ∙ ap (λ l. spread (setting_in s) [] (world_in (record s { to_bridge = l }))) here
+    ∙ spread_nil (setting_in s) (world_in s)
+bridge_took_at s x shape journal here (e ∷ rest) =
+    ap (λ h. spread (setting_in s) (bridge_puts_at h x.journal e) (world_in (record s { bridge = x.journal ++ e ∷ []; to_bridge = rest }))) shape
+    ∙ ap (λ j. spread (setting_in s) (bridge_puts_at s.shape j e) (world_in (record s { bridge = j ++ e ∷ []; to_bridge = rest }))) journal
+
+pub bridge_turned : (s old : Scene) (x y : ServiceSeat BridgeNote) (outs left : List BridgePut) → s ≡ old → x.shape ≡ s.shape → x.journal ≡ s.bridge → x.lane ≡ s.to_bridge
+    → y ≡ took x x.lane → outs ≡ took_puts bridge_puts_at x x.lane → left ≡ outs
+    → Moves old (lay_all lay_put left (record s { bridge = y.journal; to_bridge = y.lane })) (bridge_turn (setting_in old) (world_in old))
+bridge_turned s old x y outs left is shape journal here changed puts_are held =
+    let moves = puts_move left (record s { bridge = y.journal; to_bridge = y.lane }) in
+    subst (λ (o : Scene). Moves o (lay_all lay_put left (record s { bridge = y.journal; to_bridge = y.lane })) (bridge_turn (setting_in o) (world_in o))) is (record {
       setting = moves.setting;
       clients = moves.clients;
       steps = moves.steps;
       sender_count = moves.sender_count;
       server_count = moves.server_count;
       now = moves.now
-          ∙ ap (λ j. spread (setting_in s) left (world_in (record s { bridge = j; to_bridge = rest }))) grown
-          ∙ ap (λ o. spread (setting_in s) o (world_in (record s { bridge = s.bridge ++ e ∷ []; to_bridge = rest }))) (held ∙ puts_are)
-          ∙ ap (bridge_took (setting_in s) (world_in s)) (sym first);
-    })
-
--- nothing is on its lane
-pub bridge_waits : (s old : Scene) → s ≡ old → s.to_bridge ≡ [] → Moves old old (bridge_turn (setting_in old) (world_in old))
-bridge_waits s old is none =
-    subst (λ (o : Scene). Moves o o (bridge_turn (setting_in o) (world_in o))) is (record {
-      setting = refl;
-      clients = refl;
-      steps = refl;
-      sender_count = refl;
-      server_count = refl;
-      now = ap (bridge_took (setting_in s) (world_in s)) (sym none);
+          ∙ ap (λ (z : ServiceSeat BridgeNote). spread (setting_in s) left (world_in (record s { bridge = z.journal; to_bridge = z.lane }))) changed
+          ∙ ap (λ o. spread (setting_in s) o (world_in (record s { bridge = (took x x.lane).journal; to_bridge = (took x x.lane).lane }))) (held ∙ puts_are)
+          ∙ bridge_took_at s x shape journal here x.lane
+          ∙ ap (bridge_took (setting_in s) (world_in s)) here;
     })
 
 -- the same of the timer service
-pub timers_turned : (s old : Scene) (e : ℕ × TimersNote) (rest journal : List (ℕ × TimersNote)) (outs left : List (ℕ × QueueNote)) → s ≡ old → s.to_timers ≡ e ∷ rest
-    → journal ≡ s.timers ++ e ∷ [] → outs ≡ timers_puts_at s.shape s.timers e → left ≡ outs
-    → Moves old (lay_all lay_tick left (record s { timers = journal; to_timers = rest })) (timers_turn (setting_in old) (world_in old))
-timers_turned s old e rest journal outs left is first grown puts_are held =
-    let moves = ticks_move left (record s { timers = journal; to_timers = rest }) in
-    subst (λ (o : Scene). Moves o (lay_all lay_tick left (record s { timers = journal; to_timers = rest })) (timers_turn (setting_in o) (world_in o))) is (record {
+timers_took_at : (s : Scene) (x : ServiceSeat TimersNote) → x.shape ≡ s.shape → x.journal ≡ s.timers → x.lane ≡ s.to_timers → (lane : List (ℕ × TimersNote))
+    → spread_ticks (took_puts timers_puts_at x lane) (world_in (record s { timers = (took x lane).journal; to_timers = (took x lane).lane })) ≡ timers_took (setting_in s) (world_in s) lane
+timers_took_at s x shape journal here [] =
+    ap (λ j. spread_ticks [] (world_in (record s { timers = j; to_timers = x.lane }))) journal
+    ∙ ap (λ l. spread_ticks [] (world_in (record s { to_timers = l }))) here
+    ∙ ticks_nil (world_in s)
+timers_took_at s x shape journal here (e ∷ rest) =
+    ap (λ h. spread_ticks (timers_puts_at h x.journal e) (world_in (record s { timers = x.journal ++ e ∷ []; to_timers = rest }))) shape
+    ∙ ap (λ j. spread_ticks (timers_puts_at s.shape j e) (world_in (record s { timers = j ++ e ∷ []; to_timers = rest }))) journal
+
+pub timers_turned : (s old : Scene) (x y : ServiceSeat TimersNote) (outs left : List (ℕ × QueueNote)) → s ≡ old → x.shape ≡ s.shape → x.journal ≡ s.timers → x.lane ≡ s.to_timers
+    → y ≡ took x x.lane → outs ≡ took_puts timers_puts_at x x.lane → left ≡ outs
+    → Moves old (lay_all lay_tick left (record s { timers = y.journal; to_timers = y.lane })) (timers_turn (setting_in old) (world_in old))
+timers_turned s old x y outs left is shape journal here changed puts_are held =
+    let moves = ticks_move left (record s { timers = y.journal; to_timers = y.lane }) in
+    subst (λ (o : Scene). Moves o (lay_all lay_tick left (record s { timers = y.journal; to_timers = y.lane })) (timers_turn (setting_in o) (world_in o))) is (record {
       setting = moves.setting;
       clients = moves.clients;
       steps = moves.steps;
       sender_count = moves.sender_count;
       server_count = moves.server_count;
       now = moves.now
-          ∙ ap (λ j. spread_ticks left (world_in (record s { timers = j; to_timers = rest }))) grown
-          ∙ ap (λ o. spread_ticks o (world_in (record s { timers = s.timers ++ e ∷ []; to_timers = rest }))) (held ∙ puts_are)
-          ∙ ap (timers_took (setting_in s) (world_in s)) (sym first);
-    })
-
-pub timers_wait : (s old : Scene) → s ≡ old → s.to_timers ≡ [] → Moves old old (timers_turn (setting_in old) (world_in old))
-timers_wait s old is none =
-    subst (λ (o : Scene). Moves o o (timers_turn (setting_in o) (world_in o))) is (record {
-      setting = refl;
-      clients = refl;
-      steps = refl;
-      sender_count = refl;
-      server_count = refl;
-      now = ap (timers_took (setting_in s) (world_in s)) (sym none);
+          ∙ ap (λ (z : ServiceSeat TimersNote). spread_ticks left (world_in (record s { timers = z.journal; to_timers = z.lane }))) changed
+          ∙ ap (λ o. spread_ticks o (world_in (record s { timers = (took x x.lane).journal; to_timers = (took x x.lane).lane }))) (held ∙ puts_are)
+          ∙ timers_took_at s x shape journal here x.lane
+          ∙ ap (timers_took (setting_in s) (world_in s)) here;
     })
 
 -- a publisher takes the first event of its lane

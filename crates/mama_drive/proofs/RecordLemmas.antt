@@ -100,10 +100,12 @@ images_same setting queues (p ∷ ps) =
 pub record_parts : (s old : Scene) (run : RunData) (m : List (List ℕ)) (e : List (List PublisherEntry)) (b : List (ℕ × BridgeNote)) (t : List (ℕ × TimersNote)) (q : List (List (ℕ × QueueNote))) (c : List ObjectCalls) (i : List LastImage)
     → s ≡ old → run ≡ record { clients = m; publishers = e; bridge = b; timers = t; queues = q; calls = c; images = i }
     → m ≡ map read_in s.clients → e ≡ map entries_in s.senders → b ≡ s.bridge → t ≡ s.timers → q ≡ map journal_in s.servers
-    → c ≡ map (calls_by s.objects (map journal_in s.servers)) s.objects → i ≡ flat_map (images_by s.objects (map journal_in s.servers)) s.objects
+    → c ≡ map (calls_by old.objects (map journal_in old.servers)) old.objects → i ≡ flat_map (images_by old.objects (map journal_in old.servers)) old.objects
     → run ≡ recorded old
-record_parts s old run m e b t q c i is put moments entries bridge timers events calls images =
+record_parts s old run m e b t q c i is put moments entries bridge timers events told left =
     let queues : List (List (ℕ × QueueNote)) = map journal_in s.servers in
+    let calls : c ≡ map (calls_by s.objects queues) s.objects = told ∙ ap (λ (o : Scene). map (calls_by o.objects (map journal_in o.servers)) o.objects) (sym is) in
+    let images : i ≡ flat_map (images_by s.objects queues) s.objects = left ∙ ap (λ (o : Scene). flat_map (images_by o.objects (map journal_in o.servers)) o.objects) (sym is) in
     let last : i ≡ flat_map (last_image (setting_in s) queues) s.objects = images ∙ images_same (setting_in s) queues s.objects in
     subst (λ (o : Scene). run ≡ recorded o) is
     (put ∙ ap (λ x. record { clients = x; publishers = e; bridge = b; timers = t; queues = q; calls = c; images = i }) moments

@@ -295,9 +295,6 @@ plays_then a b c before more = record {
       (λ setting s m t h k. rounds_after setting before.count more.count s m t h k) before.rounds more.rounds;
 }
 
-pub plays_by : (k : ℕ) (a b : Scene) → Advances (Rounds k) a b → Plays a b
-plays_by k a b rounds = record { count = k; rounds = rounds }
-
 -- IN A SYSTEM
 
 pub upto_step : {A : Type 0} → (f : A → A) (n : ℕ) (xs ys : List A) (x y : A) → ys ≡ upto f n xs → x ≡ get_or ys n x → y ≡ f x → set ys n y ≡ upto f (n + 1) xs

@@ -76,10 +76,6 @@ server_turned_to s old q x y outs is within at shared changed puts_are =
     (subst (λ (l : List QueuePut). Moves s (served_scene s q (served x x.lane) l) (queue_turn (setting_in s) q (world_in s))) (sym puts_are)
     (server_turned s q x within at (own_objects s.servers s.objects q x shared within at))))
 
-pub served_objects : (x : Server) (lane : List (ℕ × QueueNote)) → (served x lane).objects ≡ x.objects
-served_objects x [] = refl
-served_objects x (e ∷ rest) = refl
-
 pub queue_turned_to : (s old : Scene) (q bridge_port timers_port : ℕ) (x y : Server) (outs : List QueuePut) (to_bridge : List (ℕ × BridgeNote)) (to_timers : List (ℕ × TimersNote))
     → s ≡ old → q < length s.servers → x ≡ get_or s.servers q x
     → map objects_in s.servers ≡ map (λ (o : Server). s.objects) s.servers → y ≡ served x x.lane → outs ≡ served_puts x x.lane

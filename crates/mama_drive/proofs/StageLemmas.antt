@@ -1,7 +1,6 @@
 -- How a step of one seat changes the stage.
-use Rattle.std.proofs.Common.{◌≡◌, ℕ, zero, suc, ◌+◌, ◌<◌, false, List, [], ◌∷◌, ◌++◌, map, length, get_or, refl, sym, ◌∙◌, ap, append_assoc, arith, subst, add-one}
+use Rattle.std.proofs.Common.{◌≡◌, ℕ, zero, suc, ◌+◌, ◌<◌, List, [], ◌∷◌, ◌++◌, map, length, get_or, refl, sym, ◌∙◌, ap, append_assoc, arith, subst, add-one}
 use Rattle.std.specs.Prelude.{Result, Ok, Err, IfOk, OnOk}
-use Rattle.std.specs.Result.{is_err}
 use Rattle.std.proofs.Math.ListN.{set}
 use Rattle.std.proofs.lemmas.List.{map-set, map-append, get_or-map, get_or-set_same, set-get_or, set-set, length-set, length-map}
 use Rattle.std.proofs.Math.Seq.{map-set_same}
@@ -214,10 +213,6 @@ sender_stepped_to s old after p port x new puts lane is within at step from more
 pub on_ok : {T E : Type 0} {P Q : Type 0} → (r : Result T E) → (P → Q) → OnOk r P → OnOk r Q
 on_ok (Ok v) f h = f h
 on_ok (Err e) f h = h
-
-pub from_ok : {T E : Type 0} {P : Type 0} → (r : Result T E) → false ≡ is_err r → OnOk r P → P
-from_ok (Ok v) fine h = h
-from_ok (Err e) fine h = cc
 
 -- and where it gives a value
 pub if_ok : {T E : Type 0} {P Q : T → Type 0} → (r : Result T E) → ((v : T) → P v → Q v) → IfOk r P → IfOk r Q

@@ -21,6 +21,33 @@ unnot false e = cc
 
 module _ (shape bridge_shape timers_shape : Shape) (objects : List Planned) (clients : List Stand) (senders : List Sender) (servers : List Server) (publishers_wait queues_wait : Bool)
     (h : IsSystem shape bridge_shape timers_shape objects clients senders servers publishers_wait queues_wait) where
+  -- another seat of the bridge, and of the timer service, of the same shape
+  pub with_bridge : (b : Shape) → b ≡ bridge_shape → IsSystem shape b timers_shape objects clients senders servers publishers_wait queues_wait
+  with_bridge b same = record {
+    ports = h.ports;
+    same_bridge = same ∙ h.same_bridge;
+    same_timers = h.same_timers;
+    client_count = h.client_count;
+    sender_count = h.sender_count;
+    server_count = h.server_count;
+    shared = h.shared;
+    quiet_publishers = h.quiet_publishers;
+    quiet_queues = h.quiet_queues;
+  }
+
+  pub with_timers : (t : Shape) → t ≡ timers_shape → IsSystem shape bridge_shape t objects clients senders servers publishers_wait queues_wait
+  with_timers t same = record {
+    ports = h.ports;
+    same_bridge = h.same_bridge;
+    same_timers = same ∙ h.same_timers;
+    client_count = h.client_count;
+    sender_count = h.sender_count;
+    server_count = h.server_count;
+    shared = h.shared;
+    quiet_publishers = h.quiet_publishers;
+    quiet_queues = h.quiet_queues;
+  }
+
   -- another seat of a queue, which knows the same objects, and the mark that events wait
   pub with_server : (q : ℕ) (x y : Server) → x ≡ get_or servers q x → y.objects ≡ x.objects
       → IsSystem shape bridge_shape timers_shape objects clients senders (set servers q y) publishers_wait true

@@ -3,7 +3,7 @@ use Rattle.std.proofs.Common.{◌≡◌, ℕ, zero, suc, ◌+◌, true, List, []
 use Rattle.std.specs.List.{list_all}
 use Rattle.mama_event.specs.Ports.{publishers_of, queues_of}
 use Rattle.mama_rules_rounds.specs.World.{Setting, World, is_empty, in_turn, publisher_turn, publisher_took, queue_turn, queue_took, bridge_turn, timers_turn, pass, IsQuiet}
-use Rattle.mama_drive.specs.Scene.{Scene, Moves, setting_in, world_in, lane_in, waiting_in, Passes, Drains}
+use Rattle.mama_drive.specs.Scene.{Scene, Moves, setting_in, world_in, lane_in, waiting_in, Passes}
 use Rattle.mama_drive.proofs.SceneLemmas.{moves_then, moves_none}
 
 -- of empty lanes each is empty
@@ -44,9 +44,6 @@ passes_none s = record { count = 0; moves = moves_none s }
 
 pub passes_more : (a b c : Scene) → Passes a b → Moves b c (pass (setting_in b) (world_in b)) → Passes a c
 passes_more a b c before moves = record { count = suc before.count; moves = moves_then pass before.moves moves }
-
-pub drains : (a b : Scene) → Passes a b → IsQuiet (world_in b) → Drains a b
-drains a b before quiet = record { passes = before; quiet = quiet }
 
 -- the same of a system, told by what it is
 idle_moves : (s : Scene) (w : World) → w ≡ world_in s → Moves s s w

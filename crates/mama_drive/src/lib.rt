@@ -7,14 +7,18 @@
 //! actor puts is held by the run ([`held`]) until there is room for it on its lanes.
 #![tactic(auto)]
 
+mod bridge_seat;
 mod held;
 mod playing;
+mod putting;
 mod recording;
 mod resting;
 mod rounds;
 mod run;
 mod starting;
 mod system;
+mod timers_seat;
+mod turning;
 
 pub use mama_memory::OutOfMemory;
 pub use playing::serial;

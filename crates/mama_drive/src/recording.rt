@@ -1,4 +1,4 @@
-ghost use Rattle.std.specs.Prelude.{◌≡◌, ◌++◌, map, IfOk, OnOk};
+ghost use Rattle.std.specs.Prelude.{◌≡◌, ◌≤◌, [], ◌++◌, map, length, vec_capacity, IfOk, OnOk};
 ghost use Rattle.std.specs.List.{flat_map};
 ghost use Rattle.mama_rules_rounds.specs.Round.{noted};
 ghost use Rattle.mama_record.specs.RunView.{moments_of, entries_of, events_of, calls_of, images_of, calls_in};
@@ -6,10 +6,10 @@ ghost use Rattle.mama_plans.specs.Plans.{planned_object};
 ghost use Rattle.mama_seats.specs.Server.{Server};
 ghost use Rattle.mama_drive.specs.Scene.{journal_in, entries_in, objects_in};
 ghost use Rattle.mama_drive.specs.Record.{read_in, recorded, calls_by, image_by, images_by, journal_at};
+ghost use Rattle.mama_drive.specs.Parts.{ArePartsOf};
 
 use crate::run::Run;
 use crate::system::System;
-use mama_bridge::Bridge;
 use mama_event::{CallNote, ImageHead, ObjectId, PublisherEntry, QueueNote, SubId};
 use mama_memory::OutOfMemory;
 use mama_msg::Msg;
@@ -17,6 +17,16 @@ use mama_plans::{PlannedObject, Plans};
 use mama_record::RunRecord;
 use mama_seats::{ClientSeat, PublisherSeat, QueueSeat};
 use std::alloc::Global;
+
+/// The callbacks and images of a record, and empty lists with room for its journals and moments.
+#[derive(Drop)]
+pub(crate) struct Parts {
+    pub(crate) calls: Vec<(ObjectId, Vec<CallNote>)>,
+    pub(crate) images: Vec<(SubId, ImageHead, Msg)>,
+    pub(crate) moments: Vec<Vec<u64>>,
+    pub(crate) entries: Vec<Vec<PublisherEntry>>,
+    pub(crate) events: Vec<Vec<(u32, QueueNote)>>,
+}
 
 impl<'a> Run<'a> {
     /// The record of what was done.
@@ -33,71 +43,118 @@ impl<'a> System<'a> {
     fn into_record(self) -> Result<RunRecord, OutOfMemory>
         ensures { IfOk result (λ run. run ≡ recorded self.entry) }
     {
+        let parts = self.parts()?;
+        Ok(self.record_with(parts))
+    }
+
+    /// The callbacks and images of its record, and room for all journals and moments.
+    fn parts(&self) -> Result<Parts, OutOfMemory>
+        ensures { IfOk result (ArePartsOf self.now) }
+    {
+        let calls = self.calls()?;
+        let images = self.images()?;
+        let moments = Vec::with_capacity(self.alloc, self.clients.len())?;
+        let entries = Vec::with_capacity(self.alloc, self.publishers.len())?;
+        let events = Vec::with_capacity(self.alloc, self.queues.len())?;
+        Ok(Parts {
+            calls,
+            images,
+            moments,
+            entries,
+            events,
+        })
+    }
+
+    /// The record of what was done, with these parts. It takes no memory.
+    fn record_with(self, parts: Parts) -> RunRecord
+        requires { ArePartsOf self parts }
+        ensures { result ≡ recorded self.entry }
+    {
         let System {
-            alloc,
+            alloc: _,
             shape: _,
-            plans,
+            plans: _,
             clients,
             publishers,
             queues,
             bridge,
             timers,
-            to_bridge: _,
-            to_timers: _,
             publishers_wait: _,
             queues_wait: _,
         } = self;
-        let calls = all_calls(alloc, plans, queues.as_slice())?;
-        let images = all_images(alloc, plans, queues.as_slice())?;
-        Ok(RunRecord::new(
-            all_moments(alloc, clients)?,
-            all_entries(alloc, publishers)?,
-            bridge.into_journal(),
-            timers.into_journal(),
-            all_events(alloc, queues)?,
+        let Parts {
             calls,
             images,
-        ))
+            moments,
+            entries,
+            events,
+        } = parts;
+        RunRecord::new(
+            all_moments(clients, moments),
+            all_entries(publishers, entries),
+            bridge.into_journal(),
+            timers.into_journal(),
+            all_events(queues, events),
+            calls,
+            images,
+        )
+    }
+
+    /// The callbacks of each object.
+    fn calls(&self) -> Result<Vec<(ObjectId, Vec<CallNote>)>, OutOfMemory>
+        ensures { IfOk result (λ found. calls_of found.items ≡ map (calls_by self.now.objects (map journal_in self.now.servers)) self.now.objects) }
+    {
+        all_calls(self.alloc, self.plans, self.queues.as_slice())
+    }
+
+    /// The last images, in the order of the objects.
+    fn images(&self) -> Result<Vec<(SubId, ImageHead, Msg)>, OutOfMemory>
+        ensures { IfOk result (λ found. images_of found.items ≡ flat_map (images_by self.now.objects (map journal_in self.now.servers)) self.now.objects) }
+    {
+        all_images(self.alloc, self.plans, self.queues.as_slice())
     }
 }
 
-/// What each client has read.
-fn all_moments(alloc: Global, seats: Vec<ClientSeat>) -> Result<Vec<Vec<u64>>, OutOfMemory>
-    ensures { IfOk result (λ found. moments_of found.items ≡ map read_in seats.entry.items) }
+/// What each client has read, moved into a list that has room for it.
+fn all_moments(seats: Vec<ClientSeat>, room: Vec<Vec<u64>>) -> Vec<Vec<u64>>
+    requires none { room.items ≡ [] }
+    requires enough { length seats.items ≤ vec_capacity room }
+    ensures { moments_of result.items ≡ map read_in seats.entry.items }
 {
-    let mut found = Vec::new(alloc);
+    let mut found = room;
     for seat in seats {
-        found.push(seat.into_moments())?;
+        found.push_reserved(seat.into_moments());
     }
-    Ok(found)
+    found
 }
 
-/// The journal of each publisher.
+/// The journal of each publisher, moved likewise.
 fn all_entries(
-    alloc: Global,
     seats: Vec<PublisherSeat>,
-) -> Result<Vec<Vec<PublisherEntry>>, OutOfMemory>
-    ensures { IfOk result (λ found. entries_of found.items ≡ map entries_in seats.entry.items) }
+    room: Vec<Vec<PublisherEntry>>,
+) -> Vec<Vec<PublisherEntry>>
+    requires none { room.items ≡ [] }
+    requires enough { length seats.items ≤ vec_capacity room }
+    ensures { entries_of result.items ≡ map entries_in seats.entry.items }
 {
-    let mut found = Vec::new(alloc);
+    let mut found = room;
     for seat in seats {
-        found.push(seat.into_journal())?;
+        found.push_reserved(seat.into_journal());
     }
-    Ok(found)
+    found
 }
 
-/// The journal of each queue.
-fn all_events(
-    alloc: Global,
-    seats: Vec<QueueSeat>,
-) -> Result<Vec<Vec<(u32, QueueNote)>>, OutOfMemory>
-    ensures { IfOk result (λ found. events_of found.items ≡ map journal_in seats.entry.items) }
+/// The journal of each queue, moved likewise.
+fn all_events(seats: Vec<QueueSeat>, room: Vec<Vec<(u32, QueueNote)>>) -> Vec<Vec<(u32, QueueNote)>>
+    requires none { room.items ≡ [] }
+    requires enough { length seats.items ≤ vec_capacity room }
+    ensures { events_of result.items ≡ map journal_in seats.entry.items }
 {
-    let mut found = Vec::new(alloc);
+    let mut found = room;
     for seat in seats {
-        found.push(seat.into_journal())?;
+        found.push_reserved(seat.into_journal());
     }
-    Ok(found)
+    found
 }
 
 /// The callbacks of each object. The queues know the plans of these objects.

@@ -9,7 +9,8 @@ use mama_edge::Clock;
 use mama_memory::OutOfMemory;
 
 impl<'a> Run<'a> {
-    /// Passes, until nothing waits.
+    /// Passes, until nothing waits. This loop and that of [`Run::play`] end after at most 2^64 - 1 turns, which no run
+    /// reaches: that end answers want of memory too. Every other such answer is of an allocation that failed.
     fn drain(&mut self) -> Result<(), OutOfMemory>
         ensures { OnOk result (Drains self.old self.new) }
     {

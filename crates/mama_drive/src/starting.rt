@@ -4,17 +4,16 @@ ghost use Rattle.mama_script.specs.declared.publisher.PublisherPart.{PublisherPa
 ghost use Rattle.mama_plans.specs.Plans.{AreFew};
 ghost use Rattle.mama_drive.specs.Start.{stands_from, senders_from, new_servers, started};
 
+use crate::bridge_seat::BridgeSeat;
 use crate::held::Held;
 use crate::run::Run;
 use crate::system::System;
-use mama_bridge::MemoryBridge;
+use crate::timers_seat::TimersSeat;
 use mama_memory::OutOfMemory;
 use mama_plans::Plans;
 use mama_script::{ClientLines, PublisherPart, Script};
 use mama_seats::{ClientSeat, PublisherSeat, QueueSeat};
-use mama_timer::Timers;
 use std::alloc::Global;
-use std::collections::VecDeque;
 
 impl<'a> Run<'a> {
     /// The run of a script, in which nothing is done yet. These are the plans of its objects.
@@ -39,8 +38,8 @@ impl<'a> System<'a> {
         let queues = queue_seats(alloc, shape.bounds.queues, plans)?;
         let publishers = publisher_seats(alloc, script.publishers())?;
         let clients = client_seats(alloc, shape.bounds.queues, script.clients())?;
-        let bridge = MemoryBridge::new(alloc, shape)?;
-        let timers = Timers::new(alloc, shape)?;
+        let bridge = BridgeSeat::new(alloc, shape)?;
+        let timers = TimersSeat::new(alloc, shape)?;
         Ok(System {
             alloc,
             shape,
@@ -50,8 +49,6 @@ impl<'a> System<'a> {
             queues,
             bridge,
             timers,
-            to_bridge: VecDeque::new(alloc),
-            to_timers: VecDeque::new(alloc),
             publishers_wait: true,
             queues_wait: true,
         })

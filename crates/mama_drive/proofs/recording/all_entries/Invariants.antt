@@ -1,7 +1,12 @@
-use Rattle.std.proofs.Common.{◌≡◌, map}
+use Rattle.std.specs.Vec.{vec_len, vec_capacity}
+use Rattle.std.proofs.Common.{◌≡◌, ◌+◌, ◌≤◌, ◌++◌, length, map}
 use Rattle.mama_record.specs.RunView.{entries_of}
 use Rattle.mama_drive.specs.Scene.{entries_in}
 use Rattle.mama_drive.proofs.recording.all_entries.Given as goal
 
 abbrev pub invariant-loop-seat : goal.invariant-loop-seat
-invariant-loop-seat l = entries_of l.found.items ≡ map entries_in l.yielded
+invariant-loop-seat l = record {
+  moved : entries_of l.found.items ≡ map entries_in l.yielded;
+  whole : l.yielded ++ l.seat-iterator.rest.items ≡ l.fn.seats.items;
+  room : vec_len l.found + length l.seat-iterator.rest.items ≤ vec_capacity l.found;
+}

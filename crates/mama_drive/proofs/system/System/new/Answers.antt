@@ -4,10 +4,11 @@ use Rattle.std.proofs.lemmas.List.{length-map}
 use Rattle.mama_script.specs.declared.client.ClientLine.{ClientLine}
 use Rattle.mama_script.specs.declared.publisher.PublisherPart.{PublisherPart}
 use Rattle.mama_script.specs.Tree.{topic_of_part}
-use Rattle.mama_timer.specs.Service.{Service}
-use Rattle.mama_bridge.specs.Routing.{Routing}
+use Rattle.mama_event.specs.declared.to_bridge.BridgeNote.{BridgeNote}
+use Rattle.mama_event.specs.declared.to_timers.TimersNote.{TimersNote}
 use Rattle.mama_event.specs.declared.shape.Shape.{Shape}
 use Rattle.mama_event.specs.Ports.{bridge_ports, clients_of, publishers_of}
+use Rattle.mama_drive.specs.Seat.{ServiceSeat}
 use Rattle.mama_drive.proofs.SystemLemmas.{new_system}
 use Rattle.mama_drive.proofs.StartLemmas.{stands_length, senders_length, few_ports, small_bases}
 use Rattle.mama_drive.proofs.system.System.new.Goals as goal
@@ -17,7 +18,7 @@ invariant_of-result c =
     let shape = c.shape-shape.ensures in
     new_system _ _ _ c.args.plans.now c.in_ok-clients.clients.items c.in_ok-publishers.publishers.items c.in_ok-queues.queues.items
     (subst (λ (s : Shape). bridge_ports s < 2 ^ 32) (sym shape.value) (few_ports c.args.script.now shape.script shape.within))
-    (ap (λ (b : Routing). b.shape) c.in_ok-bridge.ensures) (ap (λ (t : Service). t.shape) c.in_ok-timers.ensures)
+    (ap (λ (b : ServiceSeat BridgeNote). b.shape) c.in_ok-bridge.ensures) (ap (λ (t : ServiceSeat TimersNote). t.shape) c.in_ok-timers.ensures)
     (ap length c.in_ok-clients.ensures ∙ stands_length _ 0 c.clients.result.now ∙ ap length c.clients.ensures ∙ sym shape.script.shaped.clients ∙ sym (ap clients_of shape.value))
     (ap length c.in_ok-publishers.ensures ∙ senders_length 0 c.publishers.result.now ∙ ap length c.publishers.ensures
     ∙ sym (ap length shape.script.shaped.publishers ∙ length-map c.args.script.now.publishers topic_of_part) ∙ sym (ap publishers_of shape.value))

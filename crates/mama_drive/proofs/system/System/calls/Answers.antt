@@ -1,0 +1,16 @@
+use Rattle.std.proofs.Common.{◌≡◌, ◌∙◌, sym, subst, ap, map, List}
+use Rattle.mama_seats.specs.Server.{Server}
+use Rattle.mama_drive.specs.Scene.{Scene, journal_in, objects_in}
+use Rattle.mama_drive.specs.Record.{calls_by}
+use Rattle.mama_drive.proofs.StageLemmas.{if_ok}
+use Rattle.mama_drive.proofs.system.System.calls.Goals as goal
+
+pub all_calls-requires : goal.all_calls-requires
+all_calls-requires c =
+    subst (λ (l : List Server). map objects_in l ≡ map (λ (s : Server). c.self.inside.plans.now) l) (sym c.as_slice.ensures.value) c.self.invariant.shared
+
+pub returns : goal.returns
+returns c = if_ok c.all_calls.result
+    (λ found is. is ∙ ap (λ (l : List Server). map (calls_by c.self.inside.plans.now (map journal_in l)) c.self.inside.plans.now) c.as_slice.ensures.value
+    ∙ ap (λ (s : Scene). map (calls_by s.objects (map journal_in s.servers)) s.objects) c.self.view_is)
+    c.all_calls.ensures
