@@ -8,7 +8,7 @@ use mama_check_puts::{BridgePuts, ClientPuts, puts_of_timers};
 use mama_check_queue::{ServedQueue, serve_all};
 use mama_event::{BridgeNote, QueueNote};
 use mama_memory::OutOfMemory;
-use mama_plans::{Plans, plans_are_few};
+use mama_plans::Plans;
 use mama_record::RunRecord;
 use mama_script::Script;
 use std::alloc::Global;
@@ -38,7 +38,6 @@ pub(crate) fn all_puts<'a>(
     let publishers = puts_of_publishers(alloc, script, run)?;
     let bridge = puts_of_the_bridge(alloc, script, run)?;
     let timers = puts_of_timers(alloc, script.shape(), run.timers())?;
-    plans_are_few(script);
     let queues = serve_all(alloc, plans, run.queues())?;
     Ok(AllPuts {
         clients,

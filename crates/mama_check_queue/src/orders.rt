@@ -36,9 +36,9 @@ impl<'a> Model for OrderBook<'a> {
 impl<'a> OrderBook<'a> {
     /// The orders of these plans.
     pub(crate) fn new(alloc: Global, plans: &'a Plans) -> Result<OrderBook<'a>, OutOfMemory>
-        requires { AreFew plans.now }
         ensures { IfOk result (λ book. book ≡ plans.now) }
     {
+        plans.are_few();
         let by_object = all_by_call(alloc, plans.objects())?;
         Ok(OrderBook { plans, by_object })
     }

@@ -1,7 +1,6 @@
 ghost use Rattle.std.specs.Prelude.{◌≡◌, ℕ, suc, ◌<◌, IfOk, if◌then◌else◌};
 ghost use Rattle.mama_rules_queue.specs.Queue.{is_fin};
 ghost use Rattle.mama_record.specs.RunView.{events_of};
-ghost use Rattle.mama_plans.specs.Plans.{AreFew};
 ghost use Rattle.mama_check_queue.specs.Recorded.{AreOf, journals_of};
 
 use crate::objects::Objects;
@@ -51,14 +50,12 @@ fn serve_by<'a>(
 }
 
 /// Serves the journals of all queues again, where listeners give the orders of their objects' plans. The journals may be
-/// any lists of entries. No plan may have more orders for a call than a callback can give; of the plans of a script
-/// [`mama_plans::plans_are_few`] says so.
+/// any lists of entries.
 pub fn serve_all<'a>(
     alloc: Global,
     plans: &'a Plans,
     journals: &'a [Vec<(u32, QueueNote)>],
 ) -> Result<Vec<ServedQueue<'a>>, OutOfMemory>
-    requires { AreFew plans.now }
     ensures journals { IfOk result (λ served. journals_of served.items ≡ events_of journals.now) }
     ensures objects { IfOk result (λ served. AreOf plans.now served.items) }
 {
