@@ -18,3 +18,4 @@ pub mod RowLemmas
 pub mod AnswerLemmas
 pub mod ServingLemmas
 pub mod NoteLemmas
+pub mod AppendLemmas

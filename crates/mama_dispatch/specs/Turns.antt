@@ -1,5 +1,5 @@
 -- believed: What a queue puts and answers, as plain data.
-use Rattle.std.specs.Prelude.{ℕ, List, [], ◌∷◌, Option, None, Some}
+use Rattle.std.specs.Prelude.{◌≡◌, ℕ, List, [], ◌∷◌, ◌++◌, Option, None, Some}
 use Rattle.mama_event.specs.declared.ids.ObjectId.{ObjectId}
 use Rattle.mama_event.specs.declared.ids.SubId.{SubId}
 use Rattle.mama_event.specs.declared.to_bridge.BridgeNote.TheVariants as b
@@ -18,3 +18,8 @@ put_note tagged (out.Timers event) = to_timers (timers_note_of tagged event)
 abbrev pub wished : Option (SubId × ℕ) → List QueuePut
 wished None = []
 wished (Some w) = to_bridge (b.RecapWish w.0 w.1) ∷ []
+
+-- something was put at the end, and what stood before is as it was
+pub record IsAppended {X : Type 0} (before after : List X) : Type 0 where
+  pub more : List X
+  pub is : after ≡ before ++ more

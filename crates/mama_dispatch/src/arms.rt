@@ -4,7 +4,7 @@ ghost use Rattle.mama_event.specs.Listener.{told};
 ghost use Rattle.mama_dispatch.specs.Seats.{has_seat, listener_in, is_muted_in, with_room};
 ghost use Rattle.mama_dispatch.specs.Seating.{is_plain};
 ghost use Rattle.mama_dispatch.specs.Making.{WereCalled, Created, Ended, Delivered};
-ghost use Rattle.mama_dispatch.specs.Turns.{put_note};
+ghost use Rattle.mama_dispatch.specs.Turns.{put_note, IsAppended};
 
 use crate::seats::Seats;
 use mama_dq::Calls;
@@ -29,6 +29,7 @@ impl<L: Listener> Seats<L> {
         requires { has_seat object self.old ≡ false }
         ensures ok { OnOk result (Created object make (told L.tagged L.calls L.heard L.given L.plan listener) self.old self.new (map (put_note M.tagged) out.old.items) (map (put_note M.tagged) out.new.items)) }
         ensures err { OnErr result (self.new ≡ self.old) }
+        ensures appended { OnOk result (IsAppended out.old.items out.new.items) }
         ensures puts_err { OnErr result (out.new.items ≡ out.old.items) }
         ensures back { IfErr result (λ given. given ≡ listener) }
     {
@@ -54,6 +55,7 @@ impl<L: Listener> Seats<L> {
         requires { is_some (listener_in object.now self.old) ≡ true }
         ensures ok { IfOk result (λ l. Ended object.now (told L.tagged L.calls L.heard L.given L.plan l) self.old self.new (map (put_note M.tagged) out.old.items) (map (put_note M.tagged) out.new.items)) }
         ensures err { OnErr result (map (with_room 0) self.new ≡ map (with_room 0) self.old) }
+        ensures appended { OnOk result (IsAppended out.old.items out.new.items) }
         ensures puts_err { OnErr result (out.new.items ≡ out.old.items) }
     {
         out.reserve(MOST_PUTS)?;
@@ -74,6 +76,7 @@ impl<L: Listener> Seats<L> {
         requires { is_some (listener_in (Sub sub) self.old) ≡ true }
         ensures ok { IfOk result (λ count. Delivered sub msg.now self.old self.new (map (put_note M.tagged) out.old.items) (map (put_note M.tagged) out.new.items) count) }
         ensures err { OnErr result (map (with_room 0) self.new ≡ map (with_room 0) self.old) }
+        ensures appended { OnOk result (IsAppended out.old.items out.new.items) }
         ensures puts_err { OnErr result (out.new.items ≡ out.old.items) }
     {
         let object = ObjectId::Sub(sub);
@@ -98,6 +101,7 @@ impl<L: Listener> Seats<L> {
         requires unmuted { is_muted_in object.now self.old ≡ false }
         ensures called { OnOk result (WereCalled object.now (call ∷ []) self.old self.new (map (put_note M.tagged) out.old.items) (map (put_note M.tagged) out.new.items) 1) }
         ensures err { OnErr result (map (with_room 0) self.new ≡ map (with_room 0) self.old) }
+        ensures appended { OnOk result (IsAppended out.old.items out.new.items) }
         ensures puts_err { OnErr result (out.new.items ≡ out.old.items) }
         ensures back { IfErr result (λ given. given ≡ call) }
     {

@@ -9,7 +9,7 @@ ghost use Rattle.mama_dispatch.specs.Answering.{Answers};
 ghost use Rattle.mama_event.specs.Listener.{told};
 ghost use Rattle.mama_dispatch.specs.Hearing.{brought};
 ghost use Rattle.mama_dispatch.specs.Keeping.{KeptWith};
-ghost use Rattle.mama_dispatch.specs.Turns.{put_note};
+ghost use Rattle.mama_dispatch.specs.Turns.{put_note, IsAppended};
 
 use crate::seats::Seats;
 use crate::turn::Turn;
@@ -36,6 +36,7 @@ pub(crate) fn serve_create<L: Listener, M: Tagged>(
     ensures kept { OnOk result (KeptWith (Some (object, told L.tagged L.calls L.heard L.given L.plan listener)) seats.old seats.new) }
     ensures answer { IfOk result (λ answer. Answers (told L.tagged L.calls L.heard L.given L.plan) (q.Create slot object make (L.tagged listener)) seats.old seats.new answer) }
     ensures err { OnErr result (seats.new ≡ seats.old) }
+    ensures appended { OnOk result (IsAppended out.old.items out.new.items) }
     ensures puts_err { OnErr result (out.new.items ≡ out.old.items) }
     ensures back { IfErr result (λ given. given ≡ event.Create slot object make listener) }
 {
@@ -65,6 +66,7 @@ pub(crate) fn serve_deliver<L: Listener, M: Tagged>(
     ensures kept { OnOk result (KeptWith None seats.old seats.new) }
     ensures answer { IfOk result (λ answer. Answers (told L.tagged L.calls L.heard L.given L.plan) (q.Deliver slot sub msg) seats.old seats.new answer) }
     ensures err { OnErr result (map (with_room 0) seats.new ≡ map (with_room 0) seats.old) }
+    ensures appended { OnOk result (IsAppended out.old.items out.new.items) }
     ensures puts_err { OnErr result (out.new.items ≡ out.old.items) }
     ensures back { IfErr result (λ given. given ≡ event.Deliver slot sub msg) }
 {
@@ -88,6 +90,7 @@ pub(crate) fn serve_tick<L: Listener, M: Tagged>(
     ensures kept { OnOk result (KeptWith None seats.old seats.new) }
     ensures answer { IfOk result (λ answer. Answers (told L.tagged L.calls L.heard L.given L.plan) (q.Tick slot timer moment) seats.old seats.new answer) }
     ensures err { OnErr result (map (with_room 0) seats.new ≡ map (with_room 0) seats.old) }
+    ensures appended { OnOk result (IsAppended out.old.items out.new.items) }
     ensures puts_err { OnErr result (out.new.items ≡ out.old.items) }
     ensures back { IfErr result (λ given. given ≡ event.Tick slot timer moment) }
 {
@@ -114,6 +117,7 @@ pub(crate) fn serve_gone<L: Listener, M: Tagged>(
     ensures kept { OnOk result (KeptWith None seats.old seats.new) }
     ensures answer { IfOk result (λ answer. Answers (told L.tagged L.calls L.heard L.given L.plan) (q.Gone slot object) seats.old seats.new answer) }
     ensures err { OnErr result (map (with_room 0) seats.new ≡ map (with_room 0) seats.old) }
+    ensures appended { OnOk result (IsAppended out.old.items out.new.items) }
     ensures puts_err { OnErr result (out.new.items ≡ out.old.items) }
     ensures back { IfErr result (λ given. given ≡ event.Gone slot object) }
 {
@@ -137,6 +141,7 @@ pub(crate) fn serve_reply<L: Listener, M: Tagged>(
     ensures kept { OnOk result (KeptWith None seats.old seats.new) }
     ensures answer { IfOk result (λ answer. Answers (told L.tagged L.calls L.heard L.given L.plan) (q.Reply slot inbox body) seats.old seats.new answer) }
     ensures err { OnErr result (map (with_room 0) seats.new ≡ map (with_room 0) seats.old) }
+    ensures appended { OnOk result (IsAppended out.old.items out.new.items) }
     ensures puts_err { OnErr result (out.new.items ≡ out.old.items) }
     ensures back { IfErr result (λ given. given ≡ event.Reply slot inbox body) }
 {
@@ -152,7 +157,8 @@ impl<L: Listener> Seats<L> {
     /// Serves an event: makes its callbacks one by one, and puts what follows from them. The second Fin's Byes are the
     /// caller's. Where no memory is found the event is given back, no callback was made, and nothing has changed but
     /// the room for callbacks.
-    pub fn serve<M: Tagged>(
+    #[tactic(auto, using(crate::proofs::AppendLemmas::appended_same))]
+    pub(crate) fn serve<M: Tagged>(
         &mut self,
         alloc: Global,
         event: ToQueue<L>,
@@ -163,6 +169,7 @@ impl<L: Listener> Seats<L> {
         ensures kept { OnOk result (KeptWith (brought (told L.tagged L.calls L.heard L.given L.plan) event) self.old self.new) }
         ensures answer { IfOk result (λ answer. Answers (told L.tagged L.calls L.heard L.given L.plan) (note_of L.tagged event) self.old self.new answer) }
         ensures err { OnErr result (map (with_room 0) self.new ≡ map (with_room 0) self.old) }
+        ensures appended { OnOk result (IsAppended out.old.items out.new.items) }
         ensures puts_err { OnErr result (out.new.items ≡ out.old.items) }
         ensures back { IfErr result (λ given. given ≡ event) }
     {
@@ -200,6 +207,7 @@ fn take_deliver<L: Listener, M: Tagged>(
     ensures kept { OnOk result (KeptWith None seats.old seats.new) }
     ensures answer { IfOk result (λ answer. Answers (told L.tagged L.calls L.heard L.given L.plan) (q.Deliver slot sub msg) seats.old seats.new answer) }
     ensures err { OnErr result (map (with_room 0) seats.new ≡ map (with_room 0) seats.old) }
+    ensures appended { OnOk result (IsAppended out.old.items out.new.items) }
     ensures puts_err { OnErr result (out.new.items ≡ out.old.items) }
     ensures back { IfErr result (λ given. given ≡ event.Deliver slot sub msg) }
 {
@@ -223,6 +231,7 @@ fn take_reply<L: Listener, M: Tagged>(
     ensures kept { OnOk result (KeptWith None seats.old seats.new) }
     ensures answer { IfOk result (λ answer. Answers (told L.tagged L.calls L.heard L.given L.plan) (q.Reply slot inbox body) seats.old seats.new answer) }
     ensures err { OnErr result (map (with_room 0) seats.new ≡ map (with_room 0) seats.old) }
+    ensures appended { OnOk result (IsAppended out.old.items out.new.items) }
     ensures puts_err { OnErr result (out.new.items ≡ out.old.items) }
     ensures back { IfErr result (λ given. given ≡ event.Reply slot inbox body) }
 {
@@ -246,6 +255,7 @@ fn take_tick<L: Listener, M: Tagged>(
     ensures kept { OnOk result (KeptWith None seats.old seats.new) }
     ensures answer { IfOk result (λ answer. Answers (told L.tagged L.calls L.heard L.given L.plan) (q.Tick slot timer moment) seats.old seats.new answer) }
     ensures err { OnErr result (map (with_room 0) seats.new ≡ map (with_room 0) seats.old) }
+    ensures appended { OnOk result (IsAppended out.old.items out.new.items) }
     ensures puts_err { OnErr result (out.new.items ≡ out.old.items) }
     ensures back { IfErr result (λ given. given ≡ event.Tick slot timer moment) }
 {

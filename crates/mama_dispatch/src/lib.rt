@@ -29,6 +29,5 @@ pub use mama_event::{
 };
 pub use notes::ServingNotes;
 pub use row::ImageRow;
-pub use seats::Seats;
 pub use serving::Serving;
 pub use turn::Turn;

@@ -31,7 +31,7 @@ use std::marker::Model;
 
 /// The objects that were made on a queue, in the order in which they were made. Each is found by its id.
 #[derive(Drop)]
-pub struct Seats<L: Listener> {
+pub(crate) struct Seats<L: Listener> {
     places: IndexSet<ObjectId>,
     rows: Vec<Row<L>>,
 }
@@ -69,7 +69,7 @@ fn ended_by(order: &Order) -> Option<ObjectId>
 
 impl<L: Listener> Seats<L> {
     /// No objects. It takes no memory.
-    pub fn new(alloc: Global) -> Seats<L>
+    pub(crate) fn new(alloc: Global) -> Seats<L>
         ensures { result ≡ [] }
     {
         Seats {

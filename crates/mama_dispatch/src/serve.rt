@@ -2,7 +2,7 @@ ghost use Rattle.std.specs.Prelude.{◌≡◌, ◌+◌, ◌<◌, ◌≤◌, true
 ghost use Rattle.mama_dispatch.specs.Seats.{listener_in, room_in};
 ghost use Rattle.mama_dispatch.specs.Seating.{is_plain, CalledOnce};
 ghost use Rattle.mama_dispatch.specs.Making.{MayCall, WereCalled};
-ghost use Rattle.mama_dispatch.specs.Turns.{put_note};
+ghost use Rattle.mama_dispatch.specs.Turns.{put_note, IsAppended};
 
 use crate::puts::{put_orders, put_wish};
 use crate::seats::Seats;
@@ -22,6 +22,7 @@ impl<L: Listener> Seats<L> {
         requires room { 0 < room_in object.now self.old }
         requires spare { 9 ≤ out.old.spare }
         ensures once { CalledOnce object.now call self.old self.new (map (put_note M.tagged) out.old.items) (map (put_note M.tagged) out.new.items) }
+        ensures appended { IsAppended out.old.items out.new.items }
         ensures room { room_in object.now self.new + 1 ≡ room_in object.now self.old }
         ensures spare { out.old.spare ≤ out.new.spare + 9 }
     {
@@ -44,6 +45,7 @@ impl<L: Listener> Seats<L> {
         requires spare { 9 ≤ out.old.spare }
         requires plain { is_plain call ≡ true }
         ensures called { WereCalled object.now (call ∷ []) self.old self.new (map (put_note M.tagged) out.old.items) (map (put_note M.tagged) out.new.items) result }
+        ensures appended { IsAppended out.old.items out.new.items }
         ensures here { is_some (listener_in object.now self.new) ≡ true }
         ensures room { room_in object.now self.old ≤ room_in object.now self.new + 1 }
         ensures spare { out.old.spare ≤ out.new.spare + 9 }
@@ -67,6 +69,7 @@ impl<L: Listener> Seats<L> {
         requires { MayCall object.now pending.old self.old out.old.spare }
         ensures rest { pending.new ≡ drop 1 pending.old }
         ensures called { WereCalled object.now (take 1 pending.old) self.old self.new (map (put_note M.tagged) out.old.items) (map (put_note M.tagged) out.new.items) result }
+        ensures appended { IsAppended out.old.items out.new.items }
         ensures may { MayCall object.now pending.new self.new out.new.spare }
         ensures few { result ≤ 1 }
     {
@@ -85,7 +88,8 @@ impl<L: Listener> Seats<L> {
         out: &mut Outbox<ToService<M>>,
     ) -> u64
         requires { MayCall object.now pending.old self.old out.old.spare }
-        ensures { WereCalled object.now pending.old self.old self.new (map (put_note M.tagged) out.old.items) (map (put_note M.tagged) out.new.items) result }
+        ensures called { WereCalled object.now pending.old self.old self.new (map (put_note M.tagged) out.old.items) (map (put_note M.tagged) out.new.items) result }
+        ensures appended { IsAppended out.old.items out.new.items }
     {
         let mut count = 0;
         for _i in 0..pending.len() {

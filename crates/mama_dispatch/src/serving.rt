@@ -10,7 +10,7 @@ ghost use Rattle.mama_event.specs.Listener.{told};
 ghost use Rattle.mama_rules_queue.specs.Queue.{deeds, is_fin, messages_of, to_bridge, to_timers, queue_puts_at};
 ghost use Rattle.mama_dispatch.specs.Journals.{is_live_here, may_come, notes_of, context_after, image_in, images_left};
 ghost use Rattle.mama_dispatch.specs.Seats.{Fits};
-ghost use Rattle.mama_dispatch.specs.Turns.{put_note};
+ghost use Rattle.mama_dispatch.specs.Turns.{put_note, IsAppended};
 ghost use Rattle.mama_journal.specs.Journal.{count_of};
 ghost use Rattle.mama_event.specs.Listener.{ListenerData};
 ghost use Rattle.mama_dispatch.specs.declared.turn.Turn.TheVariants as turn;
@@ -131,7 +131,9 @@ impl<L: Listener> Serving<L> {
     /// noted with its k-th callback are those that the plan has for k more than the count with which it came.
     ///
     /// All memory is taken before the first callback. Where none is found the event is given back, no callback was
-    /// made, and all is as before.
+    /// made, and all is as before. While a subscription has no image, its next message may make 4 callbacks for itself and
+    /// for each cached message, and a callback may put 9 events: where more messages are cached than there can be room
+    /// for, it is given back each time.
     pub fn turn<M: Tagged>(
         &mut self,
         port: u32,
@@ -148,6 +150,7 @@ impl<L: Listener> Serving<L> {
         ensures heard { OnOk result ((object : ObjectId) (came : ListenerData) → ComesAs object came (brought (told L.tagged L.calls L.heard L.given L.plan) event) → HeardAt object came self.old.seats → HeardAt object came self.new.seats) }
         ensures planned { OnOk result ((object : ObjectId) (f : ℕ → List Order) (count : ℕ) → ComesWith object f count (brought (told L.tagged L.calls L.heard L.given L.plan) event) → PlannedAt object f count self.old.seats → PlannedAt object f count self.new.seats) }
         ensures err { OnErr result (self.new ≡ self.old) }
+        ensures appended { OnOk result (IsAppended out.old.items out.new.items) }
         ensures puts_err { OnErr result (out.new.items ≡ out.old.items) }
         ensures back { IfErr result (λ given. given ≡ event) }
     {
@@ -178,6 +181,7 @@ impl<L: Listener> Serving<L> {
     }
 
     /// Takes a Fin.
+    #[tactic(auto, using(crate::proofs::AppendLemmas::appended_from))]
     fn finish<M: Tagged>(
         &mut self,
         port: u32,
@@ -190,6 +194,7 @@ impl<L: Listener> Serving<L> {
         ensures calls { OnOk result ((orders : ObjectId → ℕ → List Order) → Fits orders self.new.seats → (o : ObjectId) → calls_at o self.new.seats ≡ notes_of o (deeds orders self.new.journal)) }
         ensures puts { OnOk result ((orders : ObjectId → ℕ → List Order) → map (put_note M.tagged) out.new.items ≡ map (put_note M.tagged) out.old.items ++ queue_puts_at orders self.old.journal (port, note.Fin)) }
         ensures err { OnErr result (self.new ≡ self.old) }
+        ensures appended { OnOk result (IsAppended out.old.items out.new.items) }
         ensures puts_err { OnErr result (out.new.items ≡ out.old.items) }
         ensures back { IfErr result (λ given. given ≡ event.Fin) }
     {
@@ -288,9 +293,11 @@ impl<L: Listener> Serving<L> {
 }
 
 /// Says Bye to the bridge, and then to the timer service, if it is time.
+#[tactic(auto, using(crate::proofs::AppendLemmas::appended_by, crate::proofs::AppendLemmas::appended_same))]
 fn put_byes<M: Tagged>(is_time: bool, out: &mut Outbox<ToService<M>>)
     requires { 2 ≤ out.old.spare }
-    ensures { map (put_note M.tagged) out.new.items ≡ map (put_note M.tagged) out.old.items ++ (if is_time then to_bridge bridge_note.Bye ∷ to_timers timers_note.Bye ∷ [] else []) }
+    ensures appended { IsAppended out.old.items out.new.items }
+    ensures puts { map (put_note M.tagged) out.new.items ≡ map (put_note M.tagged) out.old.items ++ (if is_time then to_bridge bridge_note.Bye ∷ to_timers timers_note.Bye ∷ [] else []) }
 {
     if is_time {
         out.push_reserved(ToService::Bridge(ToBridge::Bye));

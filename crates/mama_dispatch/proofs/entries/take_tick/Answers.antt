@@ -6,6 +6,7 @@ use Rattle.mama_event.specs.declared.to_queue.QueueNote.TheVariants as q
 use Rattle.mama_dispatch.proofs.ServeLemmas.{serves_untold}
 use Rattle.mama_dispatch.proofs.AnswerLemmas.{mutes_ticked}
 use Rattle.mama_dispatch.proofs.KeepLemmas.{kept_with, kept_same}
+use Rattle.mama_dispatch.proofs.AppendLemmas.{appended_same}
 use Rattle.mama_dispatch.proofs.entries.take_tick.Goals as goal
 
 pub returns-then-is_muted-clause-ok : goal.returns-then-is_muted-clause-ok
@@ -16,3 +17,6 @@ returns-then-is_muted-clause-kept g c = kept_with c.args.seats.now c.args.seats.
 
 pub returns-then-is_muted-clause-answer : goal.returns-then-is_muted-clause-answer
 returns-then-is_muted-clause-answer g c = mutes_ticked (told g.L.Tagged.tagged g.L.Listener.calls g.L.Listener.heard g.L.Listener.given g.L.Listener.plan) c.args.slot c.args.timer c.args.moment c.args.seats.now c.requires (sym c.is_muted.ensures ∙ c.if-is_muted.true)
+
+pub returns-then-is_muted-clause-appended : goal.returns-then-is_muted-clause-appended
+returns-then-is_muted-clause-appended g c = appended_same _ _ refl

@@ -7,6 +7,7 @@ use Rattle.mama_dispatch.specs.Making.{WereCalled}
 use Rattle.mama_dispatch.specs.Turns.{put_note}
 use Rattle.mama_dispatch.proofs.CallLemmas.{nothing_made, calls_joined, next_of, drop_drop, calls_same}
 use Rattle.mama_dispatch.proofs.KeepLemmas.{kept_same, kept_then}
+use Rattle.mama_dispatch.proofs.AppendLemmas.{appended_same, appended_then}
 use Rattle.mama_dispatch.proofs.seats.Seats.call_all.Goals as goal
 
 pub loop-i-preserved : goal.loop-i-preserved
@@ -21,6 +22,7 @@ loop-i-preserved g c =
       rest = c.call_next-count.ensures.rest ∙ ap (drop 1) inv.rest ∙ drop_drop i all;
       few = omega (arith, c.call_next-count.ensures.few, inv.few);
       may = c.call_next-count.ensures.may;
+      appended = appended_then _ _ _ inv.appended c.call_next-count.ensures.appended;
       called = record {
         kept = kept_then c.args.self.now c.loop-i.self c.call_next-count.new.self inv.called.kept next.kept;
         fits = λ orders fits. inv.called.fits orders (next.fits orders fits);
@@ -34,8 +36,8 @@ loop-i-preserved g c =
       };
     }
 
-pub returns : goal.returns
-returns g c =
+pub returns-clause-called : goal.returns-clause-called
+returns-clause-called g c =
     subst (λ (calls : List Callback). WereCalled c.args.object.now calls c.args.self.now c.loop-i.self (map (put_note g.M.Tagged.tagged) c.args.out.now.items) (map (put_note g.M.Tagged.tagged) c.loop-i.out.items) c.loop-i.count)
     (take_all c.loop-i._i c.args.pending.now (omega (arith, c.len-i-end.ensures, c.loop-i-test.false))) c.loop-i.invariant.called
 
@@ -44,6 +46,7 @@ loop-i-init g c = record {
   rest = refl;
   few = omega arith;
   may = c.requires;
+  appended = appended_same _ _ refl;
   called = record {
     kept = kept_same c.args.self.now;
     fits = λ orders fits. fits;

@@ -8,6 +8,7 @@ use Rattle.mama_dispatch.specs.Making.{WereCalled}
 use Rattle.mama_dispatch.specs.Turns.{put_note}
 use Rattle.mama_dispatch.proofs.CallLemmas.{nothing_made}
 use Rattle.mama_dispatch.proofs.KeepLemmas.{kept_same}
+use Rattle.mama_dispatch.proofs.AppendLemmas.{appended_same}
 use Rattle.mama_dispatch.proofs.seats.Seats.call_next.Goals as goal
 
 pub call_unmuted-requires-clause-room : goal.call_unmuted-requires-clause-room
@@ -50,3 +51,6 @@ returns-in-None-clause-may g c =
       spare = omega (arith, ap length none);
       plain = ap (list_all is_plain) none;
     }
+
+pub returns-in-None-clause-appended : goal.returns-in-None-clause-appended
+returns-in-None-clause-appended g c = appended_same _ _ refl

@@ -5,6 +5,7 @@ use Rattle.mama_rules_queue.specs.Queue.{QueuePut, order_put}
 use Rattle.mama_dispatch.specs.Seats.{listener_in, room_in, at, called_with, muted_by_all}
 use Rattle.mama_dispatch.proofs.PlaceLemmas.{heard_is, heard_same}
 use Rattle.mama_dispatch.proofs.CallLemmas.{room_after}
+use Rattle.mama_dispatch.proofs.AppendLemmas.{appended_by, appended_then}
 use Rattle.mama_dispatch.proofs.seats.Seats.call_put.Goals as goal
 
 pub returns-clause-once : goal.returns-clause-once
@@ -26,3 +27,6 @@ pub returns-clause-room : goal.returns-clause-room
 returns-clause-room g c =
     let less = ap (room_in c.args.object.now) c.call-orders.ensures.seats ∙ room_after c.args.object.now c.args.call c.call-orders.result _ c.args.self.now in
     omega (arith, less, c.requires.room)
+
+pub returns-clause-appended : goal.returns-clause-appended
+returns-clause-appended g c = appended_then _ _ _ c.put_wish.ensures.appended (appended_by _ _ _ c.put_orders.ensures.items)

@@ -1,7 +1,8 @@
 use Rattle.std.specs.Prelude.{is_some}
-use Rattle.std.proofs.Common.{ap, sym, ◌∙◌}
+use Rattle.std.proofs.Common.{refl, ap, sym, ◌∙◌}
 use Rattle.mama_dispatch.proofs.CallLemmas.{once_fits, once_made, none_made}
 use Rattle.mama_dispatch.proofs.KeepLemmas.{kept_same, kept_once}
+use Rattle.mama_dispatch.proofs.AppendLemmas.{appended_same}
 use Rattle.mama_dispatch.proofs.seats.Seats.call_unmuted.Goals as goal
 
 pub returns-then-is_muted-clause-called : goal.returns-then-is_muted-clause-called
@@ -22,3 +23,6 @@ returns-clause-called g c = record {
 
 pub returns-clause-here : goal.returns-clause-here
 returns-clause-here g c = ap is_some c.call_put.ensures.once.here
+
+pub returns-then-is_muted-clause-appended : goal.returns-then-is_muted-clause-appended
+returns-then-is_muted-clause-appended g c = appended_same _ _ refl

@@ -14,6 +14,7 @@ use Rattle.mama_dispatch.proofs.CallLemmas.{calls_same, calls_after}
 use Rattle.mama_dispatch.specs.Turns.{put_note}
 use Rattle.mama_dispatch.proofs.ServeLemmas.{fits_change, seated_room, seated_stepped, listener_room, context_room, listener_stepped, room_stepped, same_room, on_err}
 use Rattle.mama_dispatch.proofs.KeepLemmas.{kept_then, kept_to, kept_room, kept_stepped}
+use Rattle.mama_dispatch.proofs.AppendLemmas.{appended_from}
 use Rattle.mama_dispatch.proofs.seats.Seats.deliver.Goals as goal
 
 pub returns-in_err-reserve-2-clause-err : goal.returns-in_err-reserve-2-clause-err
@@ -53,14 +54,17 @@ returns-clause-ok g c =
     record {
       kept =
           kept_then c.args.self.now c.reserve-2.new.self c.call_all.new.self (kept_to c.args.self.now _ c.reserve-2.new.self c.reserve-2.ensures.seats (kept_room o _ c.args.self.now))
-          (kept_then c.reserve-2.new.self c.step.new.self c.call_all.new.self (kept_to c.reserve-2.new.self _ c.step.new.self c.in_ok-step.ensures.ok (kept_stepped o m c.reserve-2.new.self)) c.call_all.ensures.kept);
+          (kept_then c.reserve-2.new.self c.step.new.self c.call_all.new.self (kept_to c.reserve-2.new.self _ c.step.new.self c.in_ok-step.ensures.ok (kept_stepped o m c.reserve-2.new.self)) c.call_all.ensures.called.kept);
       fits = λ orders fits.
           fits_change orders o (with_room _) c.args.self.now (λ s. refl) (λ s. refl) (subst (Fits orders) c.reserve-2.ensures.seats
-          (fits_change orders o (stepped m) c.reserve-2.new.self (λ s. refl) (λ s. refl) (subst (Fits orders) c.in_ok-step.ensures.ok (c.call_all.ensures.fits orders fits))));
+          (fits_change orders o (stepped m) c.reserve-2.new.self (λ s. refl) (λ s. refl) (subst (Fits orders) c.in_ok-step.ensures.ok (c.call_all.ensures.called.fits orders fits))));
       made = λ orders bs ds fits seated.
           calls_after orders bs (ds ++ handled c.args.sub m ∷ []) o (callbacks_of (context_in o c.args.self.now) m) c.call_all.new.self _ _ _ c.call_all.result (ap (map (put_note g.M.Tagged.tagged)) c.reserve.ensures.items)
           (calls_same orders bs (ds ++ handled c.args.sub m ∷ []) o c.step.new.pending (callbacks_of (context_in o c.args.self.now) m) c.call_all.new.self _ _ c.call_all.result pending
-          (c.call_all.ensures.made orders bs (ds ++ handled c.args.sub m ∷ []) fits
+          (c.call_all.ensures.called.made orders bs (ds ++ handled c.args.sub m ∷ []) fits
           (subst (Seated (is_live (ds ++ handled c.args.sub m ∷ [])) (ds ++ handled c.args.sub m ∷ []) bs) (sym c.in_ok-step.ensures.ok)
           (seated_stepped ds c.args.sub m bs c.reserve-2.new.self (subst (Seated (is_live ds) ds bs) (sym c.reserve-2.ensures.seats) (seated_room (is_live ds) ds o _ bs c.args.self.now seated))))));
     }
+
+pub returns-clause-appended : goal.returns-clause-appended
+returns-clause-appended g c = appended_from _ _ _ c.reserve.ensures.items c.call_all.ensures.appended

@@ -7,6 +7,7 @@ use Rattle.mama_dispatch.proofs.CallLemmas.{once_fits, once_made, calls_after}
 use Rattle.mama_dispatch.specs.Turns.{put_note}
 use Rattle.mama_dispatch.proofs.ServeLemmas.{fits_change, seated_room, listener_room, muted_room, same_room}
 use Rattle.mama_dispatch.proofs.KeepLemmas.{kept_then, kept_to, kept_room, kept_once}
+use Rattle.mama_dispatch.proofs.AppendLemmas.{appended_from}
 use Rattle.mama_dispatch.proofs.seats.Seats.tell.Goals as goal
 
 pub call_put-requires-clause-here : goal.call_put-requires-clause-here
@@ -34,3 +35,6 @@ returns-clause-called g c =
           (ap (is_muted_in o) c.reserve-2.ensures.seats ∙ muted_room o _ c.args.self.now ∙ c.requires.unmuted)
           fits (subst (Seated (is_live ds) ds bs) (sym c.reserve-2.ensures.seats) (seated_room (is_live ds) ds o _ bs c.args.self.now seated)));
     }
+
+pub returns-clause-appended : goal.returns-clause-appended
+returns-clause-appended g c = appended_from _ _ _ c.reserve.ensures.items c.call_put.ensures.appended
