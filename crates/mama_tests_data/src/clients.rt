@@ -136,19 +136,36 @@ fn asked(client: &mut Client, topic: u32) -> Result<Option<AskFault>, Fail> {
     Ok(client.ask::<ObjectId>(INBOX, topic, fids).err())
 }
 
+fn ends(client: &mut Client) -> bool {
+    client.done::<ObjectId>().is_ok()
+}
+
+// Whether a client that is done refuses what makes nothing.
+fn refuses_all(client: &mut Client) -> Result<bool, Fail> {
+    Ok(answers(client)? == [false; 4] && asked(client, 1)? == Some(AskFault::Closed))
+}
+
 #[test]
 fn a_client_that_is_done_refuses_all(rt: HostRuntime) -> Result<(), Fail> {
     let mut client = client();
     assert_eq!(rt; answers(&mut client)?, [true; 4]);
+    assert!(rt; ends(&mut client));
+    assert!(rt; !ends(&mut client));
+    assert!(rt; refuses_all(&mut client)?);
+    let made = [
+        subscribed(rt.alloc(), &mut client, 1, 1),
+        armed(&mut client, 7, 0),
+        opened(rt.alloc(), &mut client, 0),
+    ];
+    assert_eq!(rt; made, [(0, 'c'); 3]);
+    Ok(())
+}
+
+#[test]
+fn a_question_names_a_topic(rt: HostRuntime) -> Result<(), Fail> {
+    let mut client = client();
     assert_eq!(rt; asked(&mut client, 0)?, None);
     assert_eq!(rt; asked(&mut client, 1)?, Some(AskFault::BadTopic));
-    assert!(rt; client.done::<ObjectId>().is_ok());
-    assert!(rt; client.done::<ObjectId>().is_err());
-    assert_eq!(rt; answers(&mut client)?, [false; 4]);
-    assert_eq!(rt; asked(&mut client, 1)?, Some(AskFault::Closed));
-    assert_eq!(rt; subscribed(rt.alloc(), &mut client, 1, 1), (0, 'c'));
-    assert_eq!(rt; armed(&mut client, 7, 0), (0, 'c'));
-    assert_eq!(rt; opened(rt.alloc(), &mut client, 0), (0, 'c'));
     Ok(())
 }
 

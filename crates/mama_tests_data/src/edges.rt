@@ -321,19 +321,22 @@ fn is_quoted(alloc: Global, row: &str) -> Result<bool, Fail> {
         Some((spelling, text)) => {
             let read = read_quoted(alloc, spelling.as_bytes())?.ok_or("a text")?;
             let mut out = Vec::new(alloc);
-            print_quoted(text.as_bytes(), &mut out)?;
+            print_quoted(&read, &mut out)?;
             Ok(read.as_slice() == text.as_bytes() && out.as_slice() == spelling.as_bytes())
         }
     }
 }
 
 #[test]
-fn quoted_texts_are_printed_as_they_were_read(rt: HostRuntime) -> Result<(), Fail> {
+fn quoted_texts_are_read_and_printed(rt: HostRuntime) -> Result<(), Fail> {
     for row in QUOTED.lines() {
         assert!(rt; is_quoted(rt.alloc(), row)?, "{row}");
     }
     for text in [&b"\"\x1f\""[..], b"\"\x7f\"", b"\"\xc3\xa9\"", b"\"a\nb\""] {
         assert!(rt; read_quoted(rt.alloc(), text)?.is_none());
     }
+    let mut out = Vec::from_slice(rt.alloc(), b"topic ")?;
+    print_quoted(br#"a\"b "#, &mut out)?;
+    assert_eq!(rt; out.as_slice(), br#"topic "a\\\"b ""#.as_slice());
     Ok(())
 }

@@ -32,37 +32,57 @@ fn a_base_of_65_fields_is_given_back(rt: HostRuntime) -> Result<(), Fail> {
     Ok(())
 }
 
-// The fields of a record, an update, and how many fields the record then has; 0 where it would have too many.
-const SENT: [(u16, &str, usize); 4] = [
-    (64, "64::u32:5 65::u32:6", 0),
-    (64, "64::u32:5", 64),
-    (63, "63::u32:5 64::u32:6", 64),
-    (0, "", 0),
+// The fields of a record, an update, and how many fields the record then has, if those are not too many.
+const SENT: [(u16, &str, Option<usize>); 4] = [
+    (64, "64::u32:5 65::u32:6", None),
+    (64, "64::u32:5", Some(64)),
+    (63, "63::u32:5 64::u32:6", Some(64)),
+    (0, "", Some(0)),
 ];
+
+// Whether a message is the first update of publisher 3, with these fields.
+fn is_first(sent: &MarketMsg, update: &Msg) -> bool {
+    sent.kind == MsgKind::Update && sent.sender == 4 && sent.seq == 1 && sent.body == *update
+}
+
+// The number of the record's fields once an update is sent, which is the first message, if it is not refused.
+fn len_after(publisher: &mut Publisher, update: &Msg) -> Result<Option<usize>, SendFault> {
+    match publisher.send(update) {
+        Ok(sent) => {
+            if is_first(&sent, update) {
+                Ok(Some(publisher.held().len()))
+            } else {
+                Ok(None)
+            }
+        }
+        Err(SendFault::RecordFull) => Ok(None),
+        Err(fault) => Err(fault),
+    }
+}
+
+// Whether the record of so many fields then has these, and no number is given where it has not.
+fn takes(alloc: Global, count: u16, text: &str, after: Option<usize>) -> Result<bool, Fail> {
+    let mut publisher = publisher(alloc, wide(alloc, count)?)?;
+    let update = message(alloc, text)?;
+    let found = len_after(&mut publisher, &update)?;
+    Ok(found == after && (publisher.seq() == 0) == after.is_none())
+}
 
 #[test]
 fn a_record_takes_64_fields(rt: HostRuntime) -> Result<(), Fail> {
     for (count, text, after) in SENT {
-        let mut publisher = publisher(rt.alloc(), wide(rt.alloc(), count)?)?;
-        let update = message(rt.alloc(), text)?;
-        match publisher.send(&update) {
-            Ok(sent) => {
-                let told = MarketMsg {
-                    kind: MsgKind::Update,
-                    sender: 4,
-                    seq: 1,
-                    body: update,
-                };
-                assert!(rt; sent == told);
-                assert_eq!(rt; (publisher.seq(), publisher.held().len()), (1, after));
-            }
-            Err(fault) => {
-                assert_eq!(rt; fault, SendFault::RecordFull);
-                assert_eq!(rt; (publisher.seq(), after), (0, 0));
-                assert!(rt; *publisher.held() == wide(rt.alloc(), count)?);
-            }
-        }
+        assert!(rt; takes(rt.alloc(), count, text, after)?, "{count}");
     }
+    Ok(())
+}
+
+#[test]
+fn a_refused_update_leaves_the_record(rt: HostRuntime) -> Result<(), Fail> {
+    let mut publisher = publisher(rt.alloc(), wide(rt.alloc(), 64)?)?;
+    let update = message(rt.alloc(), "64::u32:5 65::u32:6")?;
+    assert_eq!(rt; len_after(&mut publisher, &update)?, None);
+    let base = wide(rt.alloc(), 64)?;
+    assert!(rt; *publisher.held() == base);
     Ok(())
 }
 

@@ -37,8 +37,13 @@ next 0 0
 take 0 0
 next 0 1";
 
-fn next(slots: &mut Slots, queue: u32) -> Result<u32, Fail> {
-    Ok(slots.next(queue)?)
+// The slot that is next, which is taken where that is said.
+fn next(slots: &mut Slots, queue: u32, takes: bool) -> Result<u32, Fail> {
+    let slot = slots.next(queue)?;
+    if takes {
+        slots.hold(queue, slot);
+    }
+    Ok(slot)
 }
 
 fn step(
@@ -55,10 +60,8 @@ fn step(
     } else if word == "free" {
         slots.release(queue, slot)?;
     } else {
-        assert_eq!(rt; next(slots, queue)?, slot, "{word} {queue}");
-        if word == "take" {
-            slots.hold(queue, slot);
-        }
+        let found = next(slots, queue, word == "take")?;
+        assert_eq!(rt; found, slot, "{word} {queue}");
     }
     Ok(())
 }
