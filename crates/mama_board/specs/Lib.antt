@@ -1,0 +1,4 @@
+pub mod Images
+pub mod Rows
+pub mod Rule
+pub mod Values
