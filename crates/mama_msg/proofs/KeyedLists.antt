@@ -1,5 +1,5 @@
 -- Lists of things that are told apart by keys: replacing, adding and looking up.
-use Rattle.std.specs.Prelude.{◌≡◌, Bool, true, false, not, ◌||◌, List, [], ◌∷◌, ◌++◌, map, filter, fold, Option, Some, None, unwrap_or, find, refl, if◌then◌else◌, is_some}
+use Rattle.std.specs.Prelude.{◌≡◌, Bool, true, false, not, ◌||◌, List, [], ◌∷◌, ◌++◌, map, filter, fold, Option, Some, None, unwrap_or, find, refl, if◌then◌else◌}
 use Rattle.std.specs.Bool.{Decides}
 use Rattle.std.specs.List.{list_any}
 use Rattle.std.specs.Cmp.{both_ways}
@@ -101,37 +101,7 @@ module _ {F K : Type 0} (key : F → K) (same : K → K → Bool) (exact : (a b 
       let parts = or_parts (same (key g) (key f)) (has (key f) gs) h in
       ap (λ c. (if c then f else g) ∷ map (swapped f) gs) parts.0 ∙ ap (λ (xs : List F). g ∷ xs) (map_swapped_absent f gs parts.1)
 
-  -- f in the place of the first element with its key, or last
-  abbrev pub put_first : List F → F → List F
-  put_first [] f = f ∷ []
-  put_first (g ∷ gs) f = if same (key f) (key g) then f ∷ gs else g ∷ put_first gs f
-
-  pub put_first-put : (m : List F) (f : F) → Apart m → put_first m f ≡ put m f
-  put_first-put [] f d = refl
-  put_first-put (g ∷ gs) f d =
-      split (same (key f) (key g))
-      (λ h.
-      let back : same (key g) (key f) ≡ true = same_symm (key g) (key f) ∙ h in
-      let absent : has (key f) gs ≡ false = ap (λ a. has a gs) ((exact (key f) (key g)).0 h) ∙ d.0 in
-      ap (λ c. if c then f ∷ gs else g ∷ put_first gs f) h
-      ∙ ap (λ (xs : List F). f ∷ xs) (sym (map_swapped_absent f gs absent))
-      ∙ sym (ap (λ c. if c || has (key f) gs then (if c then f else g) ∷ map (swapped f) gs else g ∷ (gs ++ f ∷ [])) back))
-      (λ h.
-      let back : same (key g) (key f) ≡ false = same_symm (key g) (key f) ∙ h in
-      ap (λ c. if c then f ∷ gs else g ∷ put_first gs f) h
-      ∙ ap (λ (xs : List F). g ∷ xs) (put_first-put gs f d.1)
-      ∙ split (has (key f) gs)
-      (λ e. ap (λ b. g ∷ (if b then map (swapped f) gs else gs ++ f ∷ [])) e ∙ sym (ap (λ c. if c || has (key f) gs then (if c then f else g) ∷ map (swapped f) gs else g ∷ (gs ++ f ∷ [])) back ∙ ap (λ b. if b then g ∷ map (swapped f) gs else g ∷ (gs ++ f ∷ [])) e))
-      (λ e. ap (λ b. g ∷ (if b then map (swapped f) gs else gs ++ f ∷ [])) e ∙ sym (ap (λ c. if c || has (key f) gs then (if c then f else g) ∷ map (swapped f) gs else g ∷ (gs ++ f ∷ [])) back ∙ ap (λ b. if b then g ∷ map (swapped f) gs else g ∷ (gs ++ f ∷ [])) e)))
-
   -- ---- look-ups
-  pub is_some-at_key : (k : K) (m : List F) → is_some (at_key k m) ≡ has k m
-  is_some-at_key k [] = refl
-  is_some-at_key k (g ∷ gs) =
-      split (same (key g) k)
-      (λ h. ap (λ c. is_some (if c then Some g else at_key k gs)) h ∙ sym (ap (λ c. c || has k gs) h))
-      (λ h. ap (λ c. is_some (if c then Some g else at_key k gs)) h ∙ is_some-at_key k gs ∙ sym (ap (λ c. c || has k gs) h))
-
   pub at_key_absent : (k : K) (m : List F) → has k m ≡ false → at_key k m ≡ None
   at_key_absent k [] h = refl
   at_key_absent k (g ∷ gs) h =

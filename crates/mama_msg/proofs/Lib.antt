@@ -1,4 +1,5 @@
 pub mod KeyedLists
-pub mod Indexing
+pub mod DistinctKeys
+pub mod Places
 pub mod Merging
 pub mod Applying

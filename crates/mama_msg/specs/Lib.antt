@@ -5,7 +5,8 @@ pub mod Value
 pub mod Field
 pub mod Keys
 pub mod Message
-pub mod Index
+pub mod Place
+pub mod Shared
 pub mod Laws
 pub mod Get
 pub mod Equality

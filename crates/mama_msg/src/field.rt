@@ -78,7 +78,7 @@ impl Model for Field {
 }
 
 impl Field {
-    ghost use Rattle.mama_msg.specs.Field.{IsKeyed, key_of};
+    ghost use Rattle.mama_msg.specs.Field.{IsKeyed, key_of, same_key};
 
     /// The field with these parts. `None` where the fid is 0 and the name is empty; the value is dropped then.
     pub fn new(fid: u16, name: Name, value: Value) -> Option<Field>
@@ -120,6 +120,16 @@ impl Field {
         ensures { result ≡ key_of self.now }
     {
         Key::new(self.fid, self.name)
+    }
+
+    /// Whether the key of the field is this one.
+    pub(crate) fn is_at(&self, key: &Key) -> bool
+        ensures { result ≡ same_key (key_of self.now) key.now }
+    {
+        match key {
+            Key::Numbered(fid) => self.fid != 0 && self.fid == *fid,
+            Key::Named(name) => self.fid == 0 && self.name == *name,
+        }
     }
 
     /// The fid, the name and the value.

@@ -1,24 +1,21 @@
 //! Messages.
-ghost use Rattle.std.specs.Prelude.{◌≡◌, ◌≢◌, ◌+◌, ◌^◌, ◌<◌, ◌≤◌, ◌↔◌, true, [], ◌∷◌, ◌++◌, length, fold, not, count_by, slice_get, IsTrue, IsOk, IfOk, OnOk, IfErr, OnErr, ◌⊎◌};
+ghost use Rattle.std.specs.Prelude.{◌≡◌, ◌<◌, ◌↔◌, true, [], ◌∷◌, ◌++◌, length, slice_get, IsTrue, IfOk, IfSome, OnOk, IfErr, OnErr, ◌⊎◌};
 ghost use Rattle.std.specs.Cmp.{partial_equiv_from_equiv};
 ghost use Rattle.std.specs.Option.{option_copied};
-ghost use Rattle.std.specs.Map.{values_of};
-ghost use Rattle.indexmap.specs.IndexMap.{spare, IsUnchanged};
 ghost use Rattle.mama_msg.specs.Field.{key_of, key_from};
-ghost use Rattle.mama_msg.specs.Message.{has_key, with_name, with_fid, updated, apply, asked_for, AreDistinct};
-ghost use Rattle.mama_msg.specs.Index.{indexed, IsIndexed};
+ghost use Rattle.mama_msg.specs.Message.{has_key, updated, apply, asked_for, AreDistinct};
 
+use crate::body::{Shared, fields, put_field, put_fields, same, shared};
+use crate::distinct::are_distinct;
 use crate::field::{Field, Key};
 use crate::name::Name;
-use indexmap::IndexMap;
+use crate::rows::copies_of;
+use crate::scan::{first_named, has, new_keys, numbered};
 use mama_memory::{Duplicate, OutOfMemory};
-use std::alloc::{AllocFailed, Global};
+use std::alloc::Global;
 use std::error::Error;
 use std::fmt;
 use std::marker::Model;
-
-// The fields of a message, each under its key, in order.
-type Fields = IndexMap<Key, Field>;
 
 /// Why a field was not added. The field comes back.
 #[derive(Debug, PartialEq, Eq, Drop)]
@@ -42,97 +39,28 @@ impl Error for AddFault {}
 
 /// A message: a list of fields with distinct keys, with no limit of length of its own.
 ///
-/// A field is found by its fid, or by its name where its fid is 0, in time that does not grow with the message.
+/// Copies share the fields: a copy takes no memory but 16 bytes in place, and no time by the fields, so a message is best
+/// handed on by copies. The first change of one of them copies the fields, and later changes of that one are made in
+/// place until it is copied again. A field is found by going through the fields, so messages are meant to be of some
+/// tens of fields, or to be read once.
 #[derive(Debug, Drop)]
 pub struct Msg {
-    fields: Fields,
+    alloc: Global,
+    body: Shared,
 }
 
 impl Model for Msg {
     ghost use Rattle.std.specs.Prelude.{List};
-    ghost use Rattle.std.specs.Map.{values_of};
     ghost use Rattle.mama_msg.specs.Field.{FieldData};
-    ghost use Rattle.mama_msg.specs.Index.{IsIndexed};
 
     ghost Value = { List FieldData };
 
-    ghost view = { λ m. values_of m.fields.entries };
+    ghost use Rattle.mama_msg.specs.Message.{AreDistinct};
+    ghost use Rattle.mama_msg.specs.Shared.{fields_of};
 
-    ghost invariant = { λ m. IsIndexed m.fields.entries };
-}
+    ghost view = { λ m. fields_of m.body };
 
-// Whether a field has this key.
-fn has(fields: &Fields, key: Key) -> bool
-    requires { IsIndexed fields.now.entries }
-    ensures { result ≡ has_key key (values_of fields.now.entries) }
-{
-    fields.contains_key(&key)
-}
-
-// The field with a fid above 0.
-fn numbered(fields: &Fields, fid: u16) -> Option<&Field>
-    requires indexed { IsIndexed fields.now.entries }
-    requires above { fid ≢ 0 }
-    ensures { option_copied result ≡ with_fid fid (values_of fields.now.entries) }
-{
-    fields.get(&Key::Numbered(fid))
-}
-
-// The first field in order with this name.
-fn first_named<'a>(fields: &'a Fields, name: &Name) -> Option<&'a Field>
-    ensures { option_copied result ≡ with_name name.now (values_of fields.now.entries) }
-{
-    fields.values().find(|field| field.name() == name)
-}
-
-// How many fields of an update have keys that no field has.
-fn new_keys(fields: &Fields, update: &Fields) -> usize
-    requires { IsIndexed fields.now.entries }
-    ensures value { result ≡ count_by (λ f. not (has_key (key_of f) (values_of fields.now.entries))) (values_of update.now.entries) }
-    ensures small { result < 2 ^ 63 }
-{
-    update
-        .values()
-        .filter(|field| !has(fields, field.key()))
-        .count()
-}
-
-// Puts a field in the place of the one with its key, or last where there is none.
-fn put(fields: &mut Fields, field: Field) -> Result<(), AllocFailed<(Key, Field)>>
-    requires { IsIndexed fields.old.entries }
-    ensures ok { OnOk result (values_of fields.new.entries ≡ updated (values_of fields.old.entries) field) }
-    ensures indexed { IsIndexed fields.new.entries }
-    ensures err { OnErr result (IsUnchanged fields.old fields.new) }
-    ensures value_returned { IfErr result (λ failed. failed.value.1 ≡ field) }
-    ensures succeeds { 0 < spare fields.old → IsOk result }
-    ensures replaces { has_key (key_of field) (values_of fields.old.entries) ≡ true → IsOk result }
-    ensures spare { spare fields.old ≤ spare fields.new + 1 }
-{
-    fields.insert(field.key(), field)?;
-    Ok(())
-}
-
-// Puts fields in one after another, where there is room for them.
-fn put_all(fields: &mut Fields, others: Vec<Field>)
-    requires indexed { IsIndexed fields.old.entries }
-    requires room { length others.items ≤ spare fields.old }
-    ensures value { values_of fields.new.entries ≡ fold updated (values_of fields.old.entries) others.items }
-    ensures indexed { IsIndexed fields.new.entries }
-{
-    for field in others {
-        put(fields, field).unwrap();
-    }
-}
-
-// A copy of each field.
-fn copies_of(alloc: Global, fields: &Fields) -> Result<Vec<Field>, OutOfMemory>
-    ensures { IfOk result (λ copies. copies.items ≡ values_of fields.now.entries) }
-{
-    let mut copies = Vec::with_capacity(alloc, fields.len())?;
-    for field in fields.values() {
-        copies.push(field.try_clone()?)?;
-    }
-    Ok(copies)
+    ghost invariant = { λ m. AreDistinct (fields_of m.body) };
 }
 
 impl Msg {
@@ -140,9 +68,29 @@ impl Msg {
     pub fn new(alloc: Global) -> Msg
         ensures { result ≡ [] }
     {
-        Msg {
-            fields: IndexMap::new(alloc),
+        Msg { alloc, body: None }
+    }
+
+    /// The message with these fields. `None` where two of them have one key; the fields are dropped then. It takes time
+    /// in proportion to the fields.
+    pub fn of(fields: Vec<Field>) -> Result<Option<Msg>, OutOfMemory>
+        ensures some { IfOk result (λ found. IfSome found (λ msg. (msg ≡ fields.items) × AreDistinct fields.items)) }
+        ensures none { (result ≡ Ok None) → ¬ AreDistinct fields.items }
+    {
+        let alloc = *fields.allocator();
+        if !are_distinct(alloc, &fields)? {
+            return Ok(None);
         }
+        let body = shared(alloc, fields)?;
+        Ok(Some(Msg { alloc, body }))
+    }
+
+    // The fields.
+    fn fields(&self) -> &[Field]
+        ensures value { result.now ≡ self.now }
+        ensures distinct { AreDistinct self.now }
+    {
+        fields(&self.body)
     }
 
     /// The number of fields.
@@ -150,7 +98,7 @@ impl Msg {
         ensures value { result ≡ length self.now }
         ensures distinct { AreDistinct self.now }
     {
-        self.fields.len()
+        self.fields().len()
     }
 
     /// Whether there are no fields.
@@ -165,17 +113,14 @@ impl Msg {
         requires { i < length self.now }
         ensures { slice_get self.now i ≡ Some result.now }
     {
-        match self.fields.get_index(i) {
-            Some((_, field)) => field,
-            None => unreachable!(),
-        }
+        &self.fields()[i]
     }
 
     /// Whether there is a field with the key that a fid and a name make.
     pub fn has_key(&self, fid: u16, name: &Name) -> bool
         ensures { result ≡ has_key (key_from fid name.now) self.now }
     {
-        has(&self.fields, Key::new(fid, *name))
+        has(self.fields(), &Key::new(fid, *name))
     }
 
     /// The field that a fid above 0 asks for: the one with that fid. With fid 0, the first field in order that has
@@ -184,66 +129,84 @@ impl Msg {
         ensures { option_copied result ≡ asked_for name.now fid self.now }
     {
         if fid == 0 {
-            first_named(&self.fields, name)
+            first_named(self.fields(), name)
         } else {
-            numbered(&self.fields, fid)
+            numbered(self.fields(), fid)
         }
     }
 
-    /// Adds a field at the end. A field whose key is there comes back.
+    /// Adds a field at the end. A field whose key is there comes back. It takes time by the fields of the message: many
+    /// fields at once make a message by [`Msg::of`].
     pub fn add(&mut self, field: Field) -> Result<(), AddFault>
         ensures ok { OnOk result (self.new ≡ self.old ++ field ∷ []) }
         ensures present { (result ≡ Err (AddFault.Present field)) ↔ (has_key (key_of field) self.old ≡ true) }
         ensures err { OnErr result (self.new ≡ self.old) }
         ensures value_returned { IfErr result (λ fault. (fault ≡ AddFault.Present field) ⊎ (fault ≡ AddFault.OutOfMemory field)) }
     {
-        if has(&self.fields, field.key()) {
+        if has(self.fields(), &field.key()) {
             return Err(AddFault::Present(field));
         }
-        if let Err(failed) = put(&mut self.fields, field) {
-            return Err(AddFault::OutOfMemory(failed.value.1));
-        }
-        Ok(())
+        put_field(self.alloc, &mut self.body, field).map_err(AddFault::OutOfMemory)
     }
 
-    /// Puts a field whole in the place of the one with its key, or last where there is none. To replace a field takes
-    /// no memory.
+    /// Puts a field whole in the place of the one with its key, or last where there is none. It takes time by the fields
+    /// of the message.
     pub fn update(&mut self, field: Field) -> Result<(), OutOfMemory>
         ensures ok { OnOk result (self.new ≡ updated self.old field) }
-        ensures replaces { has_key (key_of field) self.old ≡ true → IsOk result }
         ensures err { OnErr result (self.new ≡ self.old) }
     {
-        put(&mut self.fields, field)?;
-        Ok(())
+        match put_field(self.alloc, &mut self.body, field) {
+            Ok(()) => Ok(()),
+            Err(_) => Err(OutOfMemory),
+        }
     }
+
     /// The number of fields that the message has once `other` is applied.
     pub fn len_after(&self, other: &Msg) -> usize
         ensures { result ≡ length (apply self.now other.now) }
     {
-        self.fields.len() + new_keys(&self.fields, &other.fields)
+        self.len() + new_keys(self.fields(), other.fields())
+    }
+
+    // Puts in the fields of an update one after another.
+    fn put(&mut self, update: &[Field]) -> Result<(), OutOfMemory>
+        requires { AreDistinct update.now }
+        ensures ok { OnOk result (self.new ≡ apply self.old update.now) }
+        ensures err { OnErr result (self.new ≡ self.old) }
+    {
+        match update {
+            [] => Ok(()),
+            [only] => self.update(only.try_clone()?),
+            _ => {
+                let copies = copies_of(self.alloc, update, 0)?;
+                put_fields(self.alloc, &mut self.body, copies)
+            }
+        }
     }
 
     /// Applies a message: each of its fields is put in the place of the field with its key, and those with new keys
-    /// come last, in their order. It takes time by the fields of `other`, and not by those of the message.
+    /// come last, in their order. Where the fields of `other` stand in the order of those of the message, it takes time
+    /// by the fields of both together. The empty message comes to share the fields of `other`.
     pub fn apply(&mut self, other: &Msg) -> Result<(), OutOfMemory>
         ensures ok { OnOk result (self.new ≡ apply self.old other.now) }
         ensures err { OnErr result (self.new ≡ self.old) }
     {
-        let copies = copies_of(*self.fields.allocator(), &other.fields)?;
-        self.fields.reserve(copies.len())?;
-        put_all(&mut self.fields, copies);
-        Ok(())
+        if self.is_empty() {
+            *self = other.try_clone()?;
+            return Ok(());
+        }
+        self.put(other.fields())
     }
 
-    /// An equal message.
+    /// An equal message, which shares the fields.
     pub fn try_clone(&self) -> Result<Msg, OutOfMemory>
         ensures equal { IfOk result (λ copy. copy ≡ self.now) }
     {
-        let alloc = *self.fields.allocator();
-        let copies = copies_of(alloc, &self.fields)?;
-        let mut fields = IndexMap::with_capacity(alloc, copies.len())?;
-        put_all(&mut fields, copies);
-        Ok(Msg { fields })
+        let body = same(&self.body)?;
+        Ok(Msg {
+            alloc: self.alloc,
+            body,
+        })
     }
 }
 
@@ -265,7 +228,7 @@ impl PartialEq for Msg {
         ensures value { result ≡ same_message self.now other.now }
         ensures exact { IsTrue result ↔ (self.now ≡ other.now) }
     {
-        self.fields.values().as_slice() == other.fields.values().as_slice()
+        self.fields() == other.fields()
     }
 }
 
