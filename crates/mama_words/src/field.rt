@@ -11,9 +11,8 @@ use crate::value::{put_value, read_value, type_of};
 use crate::value_type::{put_type, read_type};
 use mama_edge::print_u64;
 use mama_memory::OutOfMemory;
-use mama_msg::{AddFault, Field, Msg, Name};
+use mama_msg::{Field, Msg, Name};
 use std::alloc::Global;
-use std::collections::VecDeque;
 
 fn read_name(text: &[u8]) -> Option<Name>
     ensures { result ≡ fields.name_in text.now }
@@ -51,7 +50,7 @@ fn lower(least: Option<u8>, fault: u8) -> u8
 fn read_field_list(alloc: Global, words: &[&[u8]]) -> Result<Vec<Field>, ReadError>
     ensures { Gives (λ v. v.items) result (fields.fields_in (map (λ w. w.now) words.now)) }
 {
-    let mut found = Vec::new(alloc);
+    let mut found = Vec::with_capacity(alloc, words.len())?;
     let mut least = None;
     for word in words {
         match read_field(alloc, word) {
@@ -67,19 +66,14 @@ fn read_field_list(alloc: Global, words: &[&[u8]]) -> Result<Vec<Field>, ReadErr
 }
 
 // The message of these fields. Fault 8 where two have one key.
-fn message_of(alloc: Global, found: Vec<Field>) -> Result<Msg, ReadError>
+#[tactic(auto, using(crate::proofs::Distinct::accepted, crate::proofs::Distinct::refused))]
+fn message_of(found: Vec<Field>) -> Result<Msg, ReadError>
     ensures { Gives (λ m. m) result (fields.distinct_or_fault found.items) }
 {
-    let mut msg = Msg::new(alloc);
-    let mut rest = VecDeque::from(found);
-    while let Some(field) = rest.pop_front() {
-        match msg.add(field) {
-            Ok(()) => (),
-            Err(AddFault::Present(_)) => return Err(ReadError::Fault(8)),
-            Err(AddFault::OutOfMemory(_)) => return Err(ReadError::Memory),
-        }
+    match Msg::of(found)? {
+        Some(msg) => Ok(msg),
+        None => Err(ReadError::Fault(8)),
     }
-    Ok(msg)
 }
 
 /// The message that the words spell, a field for each. Otherwise the lowest fault of all the words, and fault 8 where
@@ -88,7 +82,7 @@ pub fn read_message(alloc: Global, words: &[&[u8]]) -> Result<Msg, ReadError>
     ensures { Gives (λ m. m) result (fields.message_in (map (λ w. w.now) words.now)) }
 {
     let found = read_field_list(alloc, words)?;
-    message_of(alloc, found)
+    message_of(found)
 }
 
 // Appends the spelling of a field.
