@@ -1,9 +1,9 @@
 -- First words: what is read is so spelled, and what is so spelled is read.
 use Rattle.std.proofs.Common.{◌≡◌, ℕ, List, Option, Some, refl}
-use Rattle.mama_script.proofs.Heads.{one_of, none_of}
+use Rattle.mama_words.proofs.Named.{named_found}
 use Rattle.mama_log_line.specs.declared.head.Head.{Head}
 use Rattle.mama_log_line.specs.declared.head.Head.TheVariants as heads
-use Rattle.mama_log_line.specs.Head.{head_text, head_in}
+use Rattle.mama_log_line.specs.Head.{head_text, all_heads, head_in}
 
 pub head_again : (h : Head) → head_in (head_text h) ≡ Some h
 unfolding head_in
@@ -41,12 +41,4 @@ head_again heads.Clock = refl
 
 pub head_found : (word : List ℕ) (h : Head) → head_in word ≡ Some h → word ≡ head_text h
 unfolding head_in
-head_found word h =
-    one_of head_text word heads.Send h _ (one_of head_text word heads.Done h _ (one_of head_text word heads.Want h _ (one_of head_text word heads.Ask h _ (
-    one_of head_text word heads.Settle h _ (one_of head_text word heads.Fin h _ (one_of head_text word heads.Join h _ (one_of head_text word heads.Leave h _ (
-    one_of head_text word heads.Open h _ (one_of head_text word heads.Close h _ (one_of head_text word heads.Publish h _ (one_of head_text word heads.Image h _ (
-    one_of head_text word heads.Reply h _ (one_of head_text word heads.Recap h _ (one_of head_text word heads.Settled h _ (one_of head_text word heads.Bye h _ (
-    one_of head_text word heads.Arm h _ (one_of head_text word heads.Disarm h _ (one_of head_text word heads.Now h _ (one_of head_text word heads.Create h _ (
-    one_of head_text word heads.Data h _ (one_of head_text word heads.Tick h _ (one_of head_text word heads.Gone h _ (one_of head_text word heads.Msg h _ (
-    one_of head_text word heads.Gap h _ (one_of head_text word heads.Quality h _ (one_of head_text word heads.Request h _ (one_of head_text word heads.Error h _ (
-    one_of head_text word heads.Destroy h _ (one_of head_text word heads.Order h _ (one_of head_text word heads.Clock h _ (none_of head_text word h)))))))))))))))))))))))))))))))
+head_found word h = named_found head_text word all_heads h

@@ -1,5 +1,5 @@
 -- Orders, moments of a clock and images: what is read is so spelled, and what is so spelled is read.
-use Rattle.std.proofs.Common.{◌≡◌, ℕ, ◌<◌, ◌^◌, List, [], ◌∷◌, ◌++◌, map, Option, Some, Result, Ok, Err, refl, sym, ap, subst, ◌∙◌}
+use Rattle.std.proofs.Common.{◌≡◌, ℕ, ◌<◌, ◌^◌, true, false, List, [], ◌∷◌, ◌++◌, map, Option, Some, None, Result, Ok, Err, refl, sym, ap, subst, ◌∙◌, arith, eq-eqb}
 use Rattle.std.specs.Prelude.{codes}
 use Rattle.std.proofs.lemmas.Bool.{lt-ltb}
 use Rattle.mama_edge.specs.Decimal.{decimal}
@@ -31,7 +31,7 @@ use Rattle.mama_log_line.specs.Head.{head_text, head_in}
 use Rattle.mama_log_line.specs.Names.{NamesData, IsTopic}
 use Rattle.mama_log_line.specs.Word.{known_sub, known_timer, known_inbox, known_topic, sub_in, small_in}
 use Rattle.mama_log_line.specs.Entering.{MayOrder, IsLastImage}
-use Rattle.mama_log_line.specs.Calls.{known_order, order_body_in, order_words_in, order_line_in, clock_moment_in, clock_body_in, clock_words_in, clock_line_in, image_words_in, image_line_in}
+use Rattle.mama_log_line.specs.Calls.{begins_as_order, known_order, order_body_in, order_words_in, order_line_in, clock_moment_in, clock_body_in, clock_words_in, clock_line_in, image_words_in, image_line_in}
 use Rattle.mama_log_line.proofs.Heads.{head_again, head_found}
 use Rattle.mama_log_line.proofs.WordLaws.{known_sub_again, known_sub_found, sub_fits, sub_again, sub_found, known_timer_again, known_timer_found, timer_fits, known_inbox_again, known_inbox_found, inbox_fits, known_topic_found, small_again, small_found}
 use Rattle.mama_log_line.proofs.LineLaws.{head_word, five, last_word, small_word, sub_is_word, line_found, line_again}
@@ -211,3 +211,14 @@ image_found names text i h =
     let p = line_found (image_words_in names) text i h in
     let q = image_words_found names p.0 i p.2 in
     (q.0, ap line (p.1 ∙ ap sentence q.1 ∙ sym (image_row i)))
+
+first_is : (a b : ℕ) (xs ys : List ℕ) → a ∷ xs ≡ b ∷ ys → a ≡ b
+first_is a b xs ys e = cc
+
+-- the line of an order begins with the first byte of its word
+pub order_begins : (bs : List ℕ) (o : Order) → bs ++ 10 ∷ [] ≡ order_line o → begins_as_order bs ≡ true
+order_begins [] o e = let h : 10 ≡ 111 = first_is 10 111 [] _ e in absurd (omega (arith, h))
+order_begins (b ∷ bs) o e = eq-eqb b 111 (first_is b 111 (bs ++ 10 ∷ []) _ e)
+
+pub no_order : (bs : List ℕ) (o : Order) → begins_as_order bs ≡ false → bs ++ 10 ∷ [] ≡ order_line o → None ≡ Some o
+no_order bs o no_begin e = let h : true ≡ false = sym (order_begins bs o e) ∙ no_begin in absurd cc

@@ -35,89 +35,106 @@ use Rattle.mama_log_line.specs.Entering.{AreFids, IsBody, IsMarketMsg, IsWanted,
 abbrev pub market_words : MarketMsg → List (List ℕ)
 market_words m = msg_kind_text m.kind ∷ decimal m.sender ∷ decimal m.seq ∷ map field_text m.body
 
+-- ---- objects: one whose id has small numbers, and which the script declares, is known by its word
+
+abbrev known : {I : Type 0} → (IdWord → I) → (I → Bool) → IdWord → Option I
+known make declared word = cond (is_small word && declared (make word)) (Some (make word)) None
+
+abbrev object_in : {I : Type 0} → ℕ → (IdWord → Option I) → List ℕ → Result I ℕ
+object_in letter find word = or_fault 5 (id_in letter word) >>= λ id. or_fault 10 (find id)
+
+known_again : {I : Type 0} (make : IdWord → I) (declared : I → Bool) (word : IdWord) → word.client < 2 ^ 32 → word.number < 2 ^ 32 → declared (make word) ≡ true → known make declared word ≡ Some (make word)
+known_again make declared word client number d = rw (lt-ltb word.client (2 ^ 32) client, lt-ltb word.number (2 ^ 32) number, d) refl
+
+small_fits : (word : IdWord) → word.client < 2 ^ 32 → word.number < 2 ^ 32 → IsId word
+small_fits word client number = record { client = omega (arith, client); number = omega (arith, number) }
+
+object_again : {I : Type 0} (letter : ℕ) (find : IdWord → Option I) (word : IdWord) (id : I) → IsId word → find word ≡ Some id → object_in letter find (id_text letter word) ≡ Ok id
+object_again letter find word id fits found = rw (id_again letter word fits, found) refl
+
+record IsKnown {I : Type 0} (make : IdWord → I) (declared : I → Bool) (word : IdWord) (id : I) : Type 0 where
+  client : word.client < 2 ^ 32
+  number : word.number < 2 ^ 32
+  told : declared (make word) ≡ true
+  made : make word ≡ id
+
+known_found : {I : Type 0} (make : IdWord → I) (declared : I → Bool) (word : IdWord) (id : I) → known make declared word ≡ Some id → IsKnown make declared word id
+known_found make declared word id e =
+    let q = chosen_some (is_small word && declared (make word)) (make word) id e in
+    let r = and_parts (is_small word) (declared (make word)) q.0 in
+    let s = and_parts (ltb word.client (2 ^ 32)) (ltb word.number (2 ^ 32)) r.0 in
+    record { client = ltb-true word.client (2 ^ 32) s.0; number = ltb-true word.number (2 ^ 32) s.1; told = r.1; made = q.1 }
+
+object_found : {I : Type 0} (letter : ℕ) (find : IdWord → Option I) (Is : I → Type 0) (word_of : I → IdWord) → ((w : IdWord) (id : I) → find w ≡ Some id → Is id × (w ≡ word_of id))
+    → (word : List ℕ) (id : I) → object_in letter find word ≡ Ok id → Is id × (word ≡ id_text letter (word_of id))
+object_found letter find Is word_of found word id e =
+    let p = step_ok 5 (id_in letter word) (λ w. or_fault 10 (find w)) id e in
+    let i = id_found letter word p.0 p.1 in
+    let k = found p.0 id (or_fault_ok 10 (find p.0) id p.2) in
+    (k.0, i.1 ∙ ap (id_text letter) k.1)
+
 pub known_sub_again : (names : NamesData) (id : SubId) → IsSub names id → known_sub names (sub_word id) ≡ Some id
 unfolding known_sub
-known_sub_again names id h = rw (lt-ltb id.client (2 ^ 32) h.client, lt-ltb id.number (2 ^ 32) h.number, h.declared) refl
+known_sub_again names id h = known_again sub_of (λ (x : SubId). is_some (terms_of names x)) (sub_word id) h.client h.number h.declared
 
 pub sub_fits : (names : NamesData) (id : SubId) → IsSub names id → IsId (sub_word id)
-sub_fits names id h = record { client = let lt = h.client in omega (arith, lt); number = let lt = h.number in omega (arith, lt) }
+sub_fits names id h = small_fits (sub_word id) h.client h.number
 
 pub sub_again : (names : NamesData) (id : SubId) → IsSub names id → sub_in names (sub_text id) ≡ Ok id
 unfolding sub_in
-sub_again names id h = rw (id_again 115 (sub_word id) (sub_fits names id h), known_sub_again names id h) refl
+sub_again names id h = object_again 115 (known_sub names) (sub_word id) id (sub_fits names id h) (known_sub_again names id h)
 
 pub known_sub_found : (names : NamesData) (word : IdWord) (id : SubId) → known_sub names word ≡ Some id → IsSub names id × (word ≡ sub_word id)
 unfolding known_sub
 known_sub_found names word id e =
-    let q = chosen_some (is_small word && is_some (terms_of names (sub_of word))) (sub_of word) id e in
-    let r = and_parts (is_small word) (is_some (terms_of names (sub_of word))) q.0 in
-    let s = and_parts (ltb word.client (2 ^ 32)) (ltb word.number (2 ^ 32)) r.0 in
-    subst (λ (x : SubId). IsSub names x × (word ≡ sub_word x)) q.1
-    (record { client = ltb-true word.client (2 ^ 32) s.0; number = ltb-true word.number (2 ^ 32) s.1; declared = r.1 }, refl)
+    let k = known_found sub_of (λ (x : SubId). is_some (terms_of names x)) word id e in
+    subst (λ (x : SubId). IsSub names x × (word ≡ sub_word x)) k.made (record { client = k.client; number = k.number; declared = k.told }, refl)
 
 pub sub_found : (names : NamesData) (word : List ℕ) (id : SubId) → sub_in names word ≡ Ok id → IsSub names id × (word ≡ sub_text id)
 unfolding sub_in
-sub_found names word id e =
-    let p = step_ok 5 (id_in 115 word) (λ id. or_fault 10 (known_sub names id)) id e in
-    let i = id_found 115 word p.0 p.1 in
-    let k = known_sub_found names p.0 id (or_fault_ok 10 (known_sub names p.0) id p.2) in
-    (k.0, i.1 ∙ ap (id_text 115) k.1)
+sub_found names word id e = object_found 115 (known_sub names) (IsSub names) sub_word (known_sub_found names) word id e
 
 pub known_timer_again : (names : NamesData) (id : TimerId) → IsTimer names id → known_timer names (timer_word id) ≡ Some id
 unfolding known_timer
-known_timer_again names id h = rw (lt-ltb id.client (2 ^ 32) h.client, lt-ltb id.number (2 ^ 32) h.number, h.declared) refl
+known_timer_again names id h = known_again timer_of (λ (x : TimerId). is_some (timer_terms_of names x)) (timer_word id) h.client h.number h.declared
 
 pub timer_fits : (names : NamesData) (id : TimerId) → IsTimer names id → IsId (timer_word id)
-timer_fits names id h = record { client = let lt = h.client in omega (arith, lt); number = let lt = h.number in omega (arith, lt) }
+timer_fits names id h = small_fits (timer_word id) h.client h.number
 
 pub timer_again : (names : NamesData) (id : TimerId) → IsTimer names id → timer_in names (timer_text id) ≡ Ok id
 unfolding timer_in
-timer_again names id h = rw (id_again 116 (timer_word id) (timer_fits names id h), known_timer_again names id h) refl
+timer_again names id h = object_again 116 (known_timer names) (timer_word id) id (timer_fits names id h) (known_timer_again names id h)
 
 pub known_timer_found : (names : NamesData) (word : IdWord) (id : TimerId) → known_timer names word ≡ Some id → IsTimer names id × (word ≡ timer_word id)
 unfolding known_timer
 known_timer_found names word id e =
-    let q = chosen_some (is_small word && is_some (timer_terms_of names (timer_of word))) (timer_of word) id e in
-    let r = and_parts (is_small word) (is_some (timer_terms_of names (timer_of word))) q.0 in
-    let s = and_parts (ltb word.client (2 ^ 32)) (ltb word.number (2 ^ 32)) r.0 in
-    subst (λ (x : TimerId). IsTimer names x × (word ≡ timer_word x)) q.1
-    (record { client = ltb-true word.client (2 ^ 32) s.0; number = ltb-true word.number (2 ^ 32) s.1; declared = r.1 }, refl)
+    let k = known_found timer_of (λ (x : TimerId). is_some (timer_terms_of names x)) word id e in
+    subst (λ (x : TimerId). IsTimer names x × (word ≡ timer_word x)) k.made (record { client = k.client; number = k.number; declared = k.told }, refl)
 
 pub timer_found : (names : NamesData) (word : List ℕ) (id : TimerId) → timer_in names word ≡ Ok id → IsTimer names id × (word ≡ timer_text id)
 unfolding timer_in
-timer_found names word id e =
-    let p = step_ok 5 (id_in 116 word) (λ id. or_fault 10 (known_timer names id)) id e in
-    let i = id_found 116 word p.0 p.1 in
-    let k = known_timer_found names p.0 id (or_fault_ok 10 (known_timer names p.0) id p.2) in
-    (k.0, i.1 ∙ ap (id_text 116) k.1)
+timer_found names word id e = object_found 116 (known_timer names) (IsTimer names) timer_word (known_timer_found names) word id e
 
 pub known_inbox_again : (names : NamesData) (id : InboxId) → IsInbox names id → known_inbox names (inbox_word id) ≡ Some id
 unfolding known_inbox
-known_inbox_again names id h = rw (lt-ltb id.client (2 ^ 32) h.client, lt-ltb id.number (2 ^ 32) h.number, h.declared) refl
+known_inbox_again names id h = known_again inbox_of (λ (x : InboxId). is_some (inbox_terms_of names x)) (inbox_word id) h.client h.number h.declared
 
 pub inbox_fits : (names : NamesData) (id : InboxId) → IsInbox names id → IsId (inbox_word id)
-inbox_fits names id h = record { client = let lt = h.client in omega (arith, lt); number = let lt = h.number in omega (arith, lt) }
+inbox_fits names id h = small_fits (inbox_word id) h.client h.number
 
 pub inbox_again : (names : NamesData) (id : InboxId) → IsInbox names id → inbox_in names (inbox_text id) ≡ Ok id
 unfolding inbox_in
-inbox_again names id h = rw (id_again 105 (inbox_word id) (inbox_fits names id h), known_inbox_again names id h) refl
+inbox_again names id h = object_again 105 (known_inbox names) (inbox_word id) id (inbox_fits names id h) (known_inbox_again names id h)
 
 pub known_inbox_found : (names : NamesData) (word : IdWord) (id : InboxId) → known_inbox names word ≡ Some id → IsInbox names id × (word ≡ inbox_word id)
 unfolding known_inbox
 known_inbox_found names word id e =
-    let q = chosen_some (is_small word && is_some (inbox_terms_of names (inbox_of word))) (inbox_of word) id e in
-    let r = and_parts (is_small word) (is_some (inbox_terms_of names (inbox_of word))) q.0 in
-    let s = and_parts (ltb word.client (2 ^ 32)) (ltb word.number (2 ^ 32)) r.0 in
-    subst (λ (x : InboxId). IsInbox names x × (word ≡ inbox_word x)) q.1
-    (record { client = ltb-true word.client (2 ^ 32) s.0; number = ltb-true word.number (2 ^ 32) s.1; declared = r.1 }, refl)
+    let k = known_found inbox_of (λ (x : InboxId). is_some (inbox_terms_of names x)) word id e in
+    subst (λ (x : InboxId). IsInbox names x × (word ≡ inbox_word x)) k.made (record { client = k.client; number = k.number; declared = k.told }, refl)
 
 pub inbox_found : (names : NamesData) (word : List ℕ) (id : InboxId) → inbox_in names word ≡ Ok id → IsInbox names id × (word ≡ inbox_text id)
 unfolding inbox_in
-inbox_found names word id e =
-    let p = step_ok 5 (id_in 105 word) (λ id. or_fault 10 (known_inbox names id)) id e in
-    let i = id_found 105 word p.0 p.1 in
-    let k = known_inbox_found names p.0 id (or_fault_ok 10 (known_inbox names p.0) id p.2) in
-    (k.0, i.1 ∙ ap (id_text 105) k.1)
+inbox_found names word id e = object_found 105 (known_inbox names) (IsInbox names) inbox_word (known_inbox_found names) word id e
 
 pub linked_again : (names : NamesData) (o : ObjectId) → IsLinked names o → linked_in names (object_text o) ≡ Ok o
 unfolding linked_in

@@ -1,5 +1,5 @@
 -- inner: How callbacks, orders, moments of a clock and images are read.
-use Rattle.std.specs.Prelude.{ℕ, ◌^◌, codes, nat_lt, List, [], ◌∷◌, Option, Some, None, option_map, Result, Ok, Err, if◌then◌else◌}
+use Rattle.std.specs.Prelude.{ℕ, ◌^◌, ◌==◌, Bool, false, codes, nat_lt, List, [], ◌∷◌, Option, Some, None, option_map, Result, Ok, Err, if◌then◌else◌}
 use Rattle.mama_event.specs.declared.ids.ObjectId.{ObjectId}
 use Rattle.mama_event.specs.declared.ids.ObjectId.TheVariants.{Sub, Timer, Inbox}
 use Rattle.mama_event.specs.declared.order.Order.{Order}
@@ -117,6 +117,11 @@ order_body_in names _ words = Err 3
 unfoldable pub order_words_in : NamesData → List (List ℕ) → Result Order ℕ
 order_words_in names (head ∷ words) = or_fault 3 (head_in head) >>= λ head. order_body_in names head words
 order_words_in names [] = Err 4
+
+-- whether the first byte is that of the word that orders begin with
+abbrev pub begins_as_order : List ℕ → Bool
+begins_as_order [] = false
+begins_as_order (b ∷ bs) = b == 111
 
 unfoldable pub order_line_in : NamesData → List ℕ → Result Order ℕ
 order_line_in names line = or_fault 2 (parted_in line) >>= order_words_in names

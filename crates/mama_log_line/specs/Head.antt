@@ -1,6 +1,6 @@
 -- inner: The words that lines of a log begin with, or entries behind their ports.
-use Rattle.std.specs.Prelude.{ℕ, codes, List, Option, Some, None, if◌then◌else◌}
-use Rattle.std.specs.Str.{bytes_eq}
+use Rattle.std.specs.Prelude.{ℕ, codes, List, [], ◌∷◌, Option}
+use Rattle.mama_words.specs.Named.{named_in}
 use Rattle.mama_log_line.specs.declared.head.Head.{Head}
 use Rattle.mama_log_line.specs.declared.head.Head.TheVariants as heads
 
@@ -37,38 +37,13 @@ head_text heads.Destroy = codes "destroy"
 head_text heads.Order = codes "order"
 head_text heads.Clock = codes "clock"
 
--- what a word begins
+abbrev pub all_heads : List Head
+all_heads =
+    heads.Send ∷ heads.Done ∷ heads.Want ∷ heads.Ask ∷ heads.Settle ∷ heads.Fin ∷ heads.Join ∷ heads.Leave ∷
+    heads.Open ∷ heads.Close ∷ heads.Publish ∷ heads.Image ∷ heads.Reply ∷ heads.Recap ∷ heads.Settled ∷ heads.Bye ∷
+    heads.Arm ∷ heads.Disarm ∷ heads.Now ∷ heads.Create ∷ heads.Data ∷ heads.Tick ∷ heads.Gone ∷ heads.Msg ∷
+    heads.Gap ∷ heads.Quality ∷ heads.Request ∷ heads.Error ∷ heads.Destroy ∷ heads.Order ∷ heads.Clock ∷ []
+
+-- what a word begins: the first head that has the word
 unfoldable pub head_in : List ℕ → Option Head
-head_in word =
-    if bytes_eq word (codes "send") then Some heads.Send
-    else (if bytes_eq word (codes "done") then Some heads.Done
-    else (if bytes_eq word (codes "want") then Some heads.Want
-    else (if bytes_eq word (codes "ask") then Some heads.Ask
-    else (if bytes_eq word (codes "settle") then Some heads.Settle
-    else (if bytes_eq word (codes "fin") then Some heads.Fin
-    else (if bytes_eq word (codes "join") then Some heads.Join
-    else (if bytes_eq word (codes "leave") then Some heads.Leave
-    else (if bytes_eq word (codes "open") then Some heads.Open
-    else (if bytes_eq word (codes "close") then Some heads.Close
-    else (if bytes_eq word (codes "publish") then Some heads.Publish
-    else (if bytes_eq word (codes "image") then Some heads.Image
-    else (if bytes_eq word (codes "reply") then Some heads.Reply
-    else (if bytes_eq word (codes "recap") then Some heads.Recap
-    else (if bytes_eq word (codes "settled") then Some heads.Settled
-    else (if bytes_eq word (codes "bye") then Some heads.Bye
-    else (if bytes_eq word (codes "arm") then Some heads.Arm
-    else (if bytes_eq word (codes "disarm") then Some heads.Disarm
-    else (if bytes_eq word (codes "now") then Some heads.Now
-    else (if bytes_eq word (codes "create") then Some heads.Create
-    else (if bytes_eq word (codes "data") then Some heads.Data
-    else (if bytes_eq word (codes "tick") then Some heads.Tick
-    else (if bytes_eq word (codes "gone") then Some heads.Gone
-    else (if bytes_eq word (codes "msg") then Some heads.Msg
-    else (if bytes_eq word (codes "gap") then Some heads.Gap
-    else (if bytes_eq word (codes "quality") then Some heads.Quality
-    else (if bytes_eq word (codes "request") then Some heads.Request
-    else (if bytes_eq word (codes "error") then Some heads.Error
-    else (if bytes_eq word (codes "destroy") then Some heads.Destroy
-    else (if bytes_eq word (codes "order") then Some heads.Order
-    else (if bytes_eq word (codes "clock") then Some heads.Clock
-    else None))))))))))))))))))))))))))))))
+head_in word = named_in head_text word all_heads

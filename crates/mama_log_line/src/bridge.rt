@@ -9,7 +9,7 @@ use crate::head::{Head, read_head};
 use crate::names::Names;
 use crate::word::{
     alone, read_body, read_fids, read_inbox, read_market, read_port, read_small, read_sub,
-    read_topic,
+    read_topic, without_fault,
 };
 use mama_event::{BridgeNote, ObjectId};
 use mama_memory::{Duplicate, OutOfMemory};
@@ -307,20 +307,6 @@ fn read_line(alloc: Global, names: &Names, line: &[u8]) -> Result<(u32, BridgeNo
     read_words(alloc, names, &words)
 }
 
-fn entry_of(
-    alloc: Global,
-    names: &Names,
-    line: &[u8],
-) -> Result<Option<(u32, BridgeNote)>, OutOfMemory>
-    ensures { IfOk result (λ o. o ≡ journals.told (journals.bridge_line_in names.now line.now)) }
-{
-    match read_line(alloc, names, line) {
-        Ok(entry) => Ok(Some(entry)),
-        Err(ReadError::Fault(_)) => Ok(None),
-        Err(ReadError::Memory) => Err(OutOfMemory),
-    }
-}
-
 /// The entry of the bridge's journal that a line without its line feed spells, with its port. None where it spells none
 /// that the journal may have: the port is none of the lane, its actor puts no such note, or what the note names is not
 /// the script's.
@@ -332,5 +318,5 @@ pub fn bridge_entry_in(
     ensures found { IfOk result (λ o. IfSome o (λ e. MayEnterBridge names.now e × (line.now ++ 10 ∷ [] ≡ bridge_entry_line names.now.shape e))) }
     ensures again { IfOk result (λ o. (e : ℕ × BridgeNote) → MayEnterBridge names.now e → line.now ++ 10 ∷ [] ≡ bridge_entry_line names.now.shape e → o ≡ Some e) }
 {
-    entry_of(alloc, names, line)
+    without_fault(read_line(alloc, names, line))
 }

@@ -6,13 +6,13 @@ ghost use Rattle.mama_event.specs.declared.callback.Callback.{Callback};
 ghost use Rattle.mama_event.specs.declared.order.Order.{Order};
 ghost use Rattle.mama_record.specs.LogText as text;
 ghost use Rattle.mama_log_line.specs.Entering.{MayHear, MayOrder};
-ghost use Rattle.mama_log_line.specs.Journal.{told};
 ghost use Rattle.mama_log_line.specs.Calls as calls;
 
 use crate::head::{Head, read_head};
 use crate::names::Names;
 use crate::word::{
     alone, known_inbox, known_sub, known_timer, known_topic, read_body, read_moment, read_small,
+    without_fault,
 };
 use mama_event::{Callback, MarketMsg, ObjectId, Order};
 use mama_memory::OutOfMemory;
@@ -202,16 +202,6 @@ fn call_line(alloc: Global, object: ObjectId, line: &[u8]) -> Result<Callback, R
     call_words(alloc, object, &words)
 }
 
-fn call_of(alloc: Global, object: ObjectId, line: &[u8]) -> Result<Option<Callback>, OutOfMemory>
-    ensures { IfOk result (λ o. o ≡ told (calls.call_line_in object line.now)) }
-{
-    match call_line(alloc, object, line) {
-        Ok(call) => Ok(Some(call)),
-        Err(ReadError::Fault(_)) => Ok(None),
-        Err(ReadError::Memory) => Err(OutOfMemory),
-    }
-}
-
 /// The callback of an object that a line without its line feed spells. None where it spells none that an object of this
 /// kind hears.
 pub fn call_in(
@@ -222,7 +212,7 @@ pub fn call_in(
     ensures found { IfOk result (λ o. IfSome o (λ c. MayHear object c × (line.now ++ 10 ∷ [] ≡ text.line (text.callback_text c)))) }
     ensures again { IfOk result (λ o. (c : Callback) → MayHear object c → line.now ++ 10 ∷ [] ≡ text.line (text.callback_text c) → o ≡ Some c) }
 {
-    call_of(alloc, object, line)
+    without_fault(call_line(alloc, object, line))
 }
 
 // The order, if the script declares what it names.
@@ -284,13 +274,13 @@ fn order_line(alloc: Global, names: &Names, line: &[u8]) -> Result<Order, ReadEr
     order_words(names, &words)
 }
 
-fn order_of(alloc: Global, names: &Names, line: &[u8]) -> Result<Option<Order>, OutOfMemory>
-    ensures { IfOk result (λ o. o ≡ told (calls.order_line_in names.now line.now)) }
+// Whether a line can be that of an order. Lines of callbacks are told from those of orders by this byte.
+fn may_be_order(line: &[u8]) -> bool
+    ensures { result ≡ calls.begins_as_order line.now }
 {
-    match order_line(alloc, names, line) {
-        Ok(order) => Ok(Some(order)),
-        Err(ReadError::Fault(_)) => Ok(None),
-        Err(ReadError::Memory) => Err(OutOfMemory),
+    match line {
+        [] => false,
+        [first, ..] => *first == b'o',
     }
 }
 
@@ -304,7 +294,10 @@ pub fn order_line_in(
     ensures found { IfOk result (λ o. IfSome o (λ order. MayOrder names.now order × (line.now ++ 10 ∷ [] ≡ text.order_line order))) }
     ensures again { IfOk result (λ o. (order : Order) → MayOrder names.now order → line.now ++ 10 ∷ [] ≡ text.order_line order → o ≡ Some order) }
 {
-    order_of(alloc, names, line)
+    if !may_be_order(line) {
+        return Ok(None);
+    }
+    without_fault(order_line(alloc, names, line))
 }
 
 fn clock_body(head: Head, words: &[&[u8]]) -> Result<u64, ReadError>
@@ -347,20 +340,10 @@ fn clock_line(alloc: Global, line: &[u8]) -> Result<u64, ReadError>
     clock_words(&words)
 }
 
-fn moment_of(alloc: Global, line: &[u8]) -> Result<Option<u64>, OutOfMemory>
-    ensures { IfOk result (λ o. o ≡ told (calls.clock_line_in line.now)) }
-{
-    match clock_line(alloc, line) {
-        Ok(moment) => Ok(Some(moment)),
-        Err(ReadError::Fault(_)) => Ok(None),
-        Err(ReadError::Memory) => Err(OutOfMemory),
-    }
-}
-
 /// The moment that a line without its line feed says a client read. None where it is no such line.
 pub fn clock_in(alloc: Global, line: &[u8]) -> Result<Option<u64>, OutOfMemory>
     ensures found { IfOk result (λ o. IfSome o (λ moment. (moment < 2 ^ 64) × (line.now ++ 10 ∷ [] ≡ text.clock_line moment))) }
     ensures again { IfOk result (λ o. (moment : ℕ) → moment < 2 ^ 64 → line.now ++ 10 ∷ [] ≡ text.clock_line moment → o ≡ Some moment) }
 {
-    moment_of(alloc, line)
+    without_fault(clock_line(alloc, line))
 }

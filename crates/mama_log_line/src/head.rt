@@ -1,5 +1,6 @@
 ghost use Rattle.std.specs.Prelude.{◌≡◌};
-ghost use Rattle.mama_log_line.specs.Head.{head_in};
+ghost use Rattle.mama_words.specs.Named.{named_in};
+ghost use Rattle.mama_log_line.specs.Head.{head_text, head_in};
 
 /// The word that a line of a log begins with, or an entry behind its port.
 #[derive(Clone, Copy, Debug, PartialEq, Eq)]
@@ -37,74 +38,98 @@ pub enum Head {
     Clock,
 }
 
+impl Head {
+    const ALL: [Head; 31] = [
+        Head::Send,
+        Head::Done,
+        Head::Want,
+        Head::Ask,
+        Head::Settle,
+        Head::Fin,
+        Head::Join,
+        Head::Leave,
+        Head::Open,
+        Head::Close,
+        Head::Publish,
+        Head::Image,
+        Head::Reply,
+        Head::Recap,
+        Head::Settled,
+        Head::Bye,
+        Head::Arm,
+        Head::Disarm,
+        Head::Now,
+        Head::Create,
+        Head::Data,
+        Head::Tick,
+        Head::Gone,
+        Head::Msg,
+        Head::Gap,
+        Head::Quality,
+        Head::Request,
+        Head::Error,
+        Head::Destroy,
+        Head::Order,
+        Head::Clock,
+    ];
+
+    // The word.
+    fn text(self) -> &'static [u8]
+        ensures { result.now ≡ head_text self }
+    {
+        match self {
+            Head::Send => b"send",
+            Head::Done => b"done",
+            Head::Want => b"want",
+            Head::Ask => b"ask",
+            Head::Settle => b"settle",
+            Head::Fin => b"fin",
+            Head::Join => b"join",
+            Head::Leave => b"leave",
+            Head::Open => b"open",
+            Head::Close => b"close",
+            Head::Publish => b"publish",
+            Head::Image => b"image",
+            Head::Reply => b"reply",
+            Head::Recap => b"recap",
+            Head::Settled => b"settled",
+            Head::Bye => b"bye",
+            Head::Arm => b"arm",
+            Head::Disarm => b"disarm",
+            Head::Now => b"now",
+            Head::Create => b"create",
+            Head::Data => b"data",
+            Head::Tick => b"tick",
+            Head::Gone => b"gone",
+            Head::Msg => b"msg",
+            Head::Gap => b"gap",
+            Head::Quality => b"quality",
+            Head::Request => b"request",
+            Head::Error => b"error",
+            Head::Destroy => b"destroy",
+            Head::Order => b"order",
+            Head::Clock => b"clock",
+        }
+    }
+}
+
+// The first of these heads whose word it is.
+#[tactic(auto, using(mama_words::proofs::Named::named_more))]
+fn named(word: &[u8], heads: &[Head]) -> Option<Head>
+    ensures { result ≡ named_in head_text word.now heads.now }
+{
+    for head in heads {
+        if word == head.text() {
+            return Some(*head);
+        }
+    }
+    None
+}
+
 /// What a word begins.
 #[tactic(auto, unfolding(crate::specs::Head::head_in))]
 pub fn read_head(word: &[u8]) -> Option<Head>
     ensures { result ≡ head_in word.now }
 {
-    if word == b"send".as_slice() {
-        Some(Head::Send)
-    } else if word == b"done".as_slice() {
-        Some(Head::Done)
-    } else if word == b"want".as_slice() {
-        Some(Head::Want)
-    } else if word == b"ask".as_slice() {
-        Some(Head::Ask)
-    } else if word == b"settle".as_slice() {
-        Some(Head::Settle)
-    } else if word == b"fin".as_slice() {
-        Some(Head::Fin)
-    } else if word == b"join".as_slice() {
-        Some(Head::Join)
-    } else if word == b"leave".as_slice() {
-        Some(Head::Leave)
-    } else if word == b"open".as_slice() {
-        Some(Head::Open)
-    } else if word == b"close".as_slice() {
-        Some(Head::Close)
-    } else if word == b"publish".as_slice() {
-        Some(Head::Publish)
-    } else if word == b"image".as_slice() {
-        Some(Head::Image)
-    } else if word == b"reply".as_slice() {
-        Some(Head::Reply)
-    } else if word == b"recap".as_slice() {
-        Some(Head::Recap)
-    } else if word == b"settled".as_slice() {
-        Some(Head::Settled)
-    } else if word == b"bye".as_slice() {
-        Some(Head::Bye)
-    } else if word == b"arm".as_slice() {
-        Some(Head::Arm)
-    } else if word == b"disarm".as_slice() {
-        Some(Head::Disarm)
-    } else if word == b"now".as_slice() {
-        Some(Head::Now)
-    } else if word == b"create".as_slice() {
-        Some(Head::Create)
-    } else if word == b"data".as_slice() {
-        Some(Head::Data)
-    } else if word == b"tick".as_slice() {
-        Some(Head::Tick)
-    } else if word == b"gone".as_slice() {
-        Some(Head::Gone)
-    } else if word == b"msg".as_slice() {
-        Some(Head::Msg)
-    } else if word == b"gap".as_slice() {
-        Some(Head::Gap)
-    } else if word == b"quality".as_slice() {
-        Some(Head::Quality)
-    } else if word == b"request".as_slice() {
-        Some(Head::Request)
-    } else if word == b"error".as_slice() {
-        Some(Head::Error)
-    } else if word == b"destroy".as_slice() {
-        Some(Head::Destroy)
-    } else if word == b"order".as_slice() {
-        Some(Head::Order)
-    } else if word == b"clock".as_slice() {
-        Some(Head::Clock)
-    } else {
-        None
-    }
+    named(word, &Head::ALL)
 }

@@ -77,6 +77,7 @@ fn read_line(alloc: Global, names: &Names, line: &[u8]) -> Result<PublisherEntry
     read_words(names, &words)
 }
 
+// What was read, without the number of a fault. The checker does not carry `without_fault` over to this type.
 fn entry_of(
     alloc: Global,
     names: &Names,

@@ -9,7 +9,7 @@ use crate::head::{Head, read_head};
 use crate::names::Names;
 use crate::word::{
     alone, read_body, read_inbox, read_linked, read_market, read_moment, read_small, read_sub,
-    read_timer,
+    read_timer, without_fault,
 };
 use mama_event::{ObjectId, QueueNote};
 use mama_memory::OutOfMemory;
@@ -217,20 +217,6 @@ fn read_line(alloc: Global, names: &Names, line: &[u8]) -> Result<(u32, QueueNot
     read_words(alloc, names, &words)
 }
 
-fn entry_of(
-    alloc: Global,
-    names: &Names,
-    line: &[u8],
-) -> Result<Option<(u32, QueueNote)>, OutOfMemory>
-    ensures { IfOk result (λ o. o ≡ journals.told (journals.queue_line_in names.now line.now)) }
-{
-    match read_line(alloc, names, line) {
-        Ok(entry) => Ok(Some(entry)),
-        Err(ReadError::Fault(_)) => Ok(None),
-        Err(ReadError::Memory) => Err(OutOfMemory),
-    }
-}
-
 /// The entry of a queue's journal that a line without its line feed spells, with its port. None where it spells none
 /// that such a journal may have.
 pub fn queue_entry_in(
@@ -241,5 +227,5 @@ pub fn queue_entry_in(
     ensures found { IfOk result (λ o. IfSome o (λ e. MayEnterQueue names.now e × (line.now ++ 10 ∷ [] ≡ queue_entry_line e))) }
     ensures again { IfOk result (λ o. (e : ℕ × QueueNote) → MayEnterQueue names.now e → line.now ++ 10 ∷ [] ≡ queue_entry_line e → o ≡ Some e) }
 {
-    entry_of(alloc, names, line)
+    without_fault(read_line(alloc, names, line))
 }

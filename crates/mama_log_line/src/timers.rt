@@ -7,7 +7,7 @@ ghost use Rattle.mama_log_line.specs.Journal as journals;
 
 use crate::head::{Head, read_head};
 use crate::names::Names;
-use crate::word::{alone, port_of, read_moment, read_port, read_timer};
+use crate::word::{alone, port_of, read_moment, read_port, read_timer, without_fault};
 use mama_event::{ObjectId, TimersNote};
 use mama_memory::OutOfMemory;
 use mama_words::{ReadError, parted};
@@ -208,20 +208,6 @@ fn read_line(alloc: Global, names: &Names, line: &[u8]) -> Result<(u32, TimersNo
     read_words(names, &words)
 }
 
-fn entry_of(
-    alloc: Global,
-    names: &Names,
-    line: &[u8],
-) -> Result<Option<(u32, TimersNote)>, OutOfMemory>
-    ensures { IfOk result (λ o. o ≡ journals.told (journals.timers_line_in names.now line.now)) }
-{
-    match read_line(alloc, names, line) {
-        Ok(entry) => Ok(Some(entry)),
-        Err(ReadError::Fault(_)) => Ok(None),
-        Err(ReadError::Memory) => Err(OutOfMemory),
-    }
-}
-
 /// The entry of the timer service's journal that a line without its line feed spells, with its port. None where it
 /// spells none that the journal may have.
 pub fn timers_entry_in(
@@ -232,5 +218,5 @@ pub fn timers_entry_in(
     ensures found { IfOk result (λ o. IfSome o (λ e. MayEnterTimers names.now e × (line.now ++ 10 ∷ [] ≡ timers_entry_line names.now.shape e))) }
     ensures again { IfOk result (λ o. (e : ℕ × TimersNote) → MayEnterTimers names.now e → line.now ++ 10 ∷ [] ≡ timers_entry_line names.now.shape e → o ≡ Some e) }
 {
-    entry_of(alloc, names, line)
+    without_fault(read_line(alloc, names, line))
 }

@@ -1,6 +1,6 @@
 //! The words of a log. What does not fit gets the number of the fault that it would have in a script's line, and the
 //! readers of lines throw the number away.
-ghost use Rattle.std.specs.Prelude.{◌≡◌, ◌<◌, ◌≤◌, ◌^◌, length, take, map, true, is_some};
+ghost use Rattle.std.specs.Prelude.{◌≡◌, ◌<◌, ◌≤◌, ◌^◌, ℕ, Result, length, take, map, true, is_some, IfOk};
 ghost use Rattle.std.specs.Option.{option_map, option_and_then};
 ghost use Rattle.mama_words.specs.Reading.{or_fault};
 ghost use Rattle.mama_words.specs.Answer.{Gives};
@@ -11,6 +11,7 @@ ghost use Rattle.mama_log_line.specs.Journal as journals;
 
 use crate::names::Names;
 use mama_event::{Fids, InboxId, MarketMsg, MsgKind, ObjectId, SubId, TimerId};
+use mama_memory::OutOfMemory;
 use mama_msg::Msg;
 use mama_words::{
     IdWord, ReadError, read_below, read_between, read_inbox_id, read_message, read_msg_kind,
@@ -26,6 +27,17 @@ pub fn alone<T: Drop>(value: T, words: &[&[u8]]) -> Result<T, ReadError>
     match words {
         [] => Ok(value),
         _ => Err(ReadError::Fault(4)),
+    }
+}
+
+/// What was read, without the number of a fault.
+pub fn without_fault<T>(read: Result<T, ReadError>) -> Result<Option<T>, OutOfMemory>
+    ensures { (gives : Result T ℕ) → Gives (λ x. x) read gives → IfOk result (λ o. o ≡ journals.told gives) }
+{
+    match read {
+        Ok(value) => Ok(Some(value)),
+        Err(ReadError::Fault(_)) => Ok(None),
+        Err(ReadError::Memory) => Err(OutOfMemory),
     }
 }
 

@@ -8,10 +8,10 @@ use Rattle.mama_log_line.proofs.timers.timers_entry_in.Goals as goal
 
 pub returns-clause-found : goal.returns-clause-found
 returns-clause-found c =
-    if_found (λ e. MayEnterTimers c.args.names.now e × (c.args.line.now ++ 10 ∷ [] ≡ timers_entry_line c.args.names.now.shape e)) (timers_line_in c.args.names.now c.args.line.now) c.entry_of.result c.entry_of.ensures
+    if_found (λ e. MayEnterTimers c.args.names.now e × (c.args.line.now ++ 10 ∷ [] ≡ timers_entry_line c.args.names.now.shape e)) (timers_line_in c.args.names.now c.args.line.now) c.without_fault.result (c.without_fault.ensures (timers_line_in c.args.names.now c.args.line.now) c.read_line.ensures)
     (λ e is. timers_found c.args.names.now c.args.line.now e is)
 
 pub returns-clause-again : goal.returns-clause-again
 returns-clause-again c =
-    if_again (λ e. MayEnterTimers c.args.names.now e) (λ e. c.args.line.now ++ 10 ∷ [] ≡ timers_entry_line c.args.names.now.shape e) (timers_line_in c.args.names.now c.args.line.now) c.entry_of.result c.entry_of.ensures
+    if_again (λ e. MayEnterTimers c.args.names.now e) (λ e. c.args.line.now ++ 10 ∷ [] ≡ timers_entry_line c.args.names.now.shape e) (timers_line_in c.args.names.now c.args.line.now) c.without_fault.result (c.without_fault.ensures (timers_line_in c.args.names.now c.args.line.now) c.read_line.ensures)
     (λ e may same. timers_again c.args.names.now c.args.line.now e may same)
