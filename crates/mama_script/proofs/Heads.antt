@@ -5,6 +5,8 @@ use Rattle.std.proofs.lemmas.Bool.{ltb-false, le-ltb}
 use Rattle.mama_edge.specs.Decimal.{decimal}
 use Rattle.mama_words.specs.Number.{number_in, between_in, if_between}
 use Rattle.mama_words.proofs.Choices.{some_is, chosen, chosen_some, chosen_other, same_text}
+use Rattle.mama_words.specs.Named.{named_in}
+use Rattle.mama_words.proofs.Named.{named_found}
 use Rattle.mama_words.proofs.Cutting.{lacks}
 use Rattle.mama_words.proofs.Numbers.{number_in_again, number_in_found}
 use Rattle.mama_script.specs.declared.head.Head.{Head}
@@ -13,17 +15,6 @@ use Rattle.mama_script.specs.declared.head.Place.{Place}
 use Rattle.mama_script.specs.Head.{head_in, allows}
 use Rattle.mama_script.specs.HeadText.{head_text}
 use Rattle.mama_script.specs.Form.{if_allowed, head_at}
-
--- one word of a list of words: the word is this one, or the rest decides
-pub one_of : {K : Type 0} (text : K → List ℕ) (word : List ℕ) (k x : K) (rest : Option K) → (rest ≡ Some x → word ≡ text x) → cond (bytes_eq word (text k)) (Some k) rest ≡ Some x → word ≡ text x
-one_of {K} text word k x rest more e =
-    elim (chosen (bytes_eq word (text k)) (Some k) rest (Some x) e) [
-      | inl p ↦ subst (λ (y : K). word ≡ text y) (some_is k x p.1) (same_text word (text k) p.0)
-      | inr p ↦ more p.1
-    ]
-
-pub none_of : {K : Type 0} (text : K → List ℕ) (word : List ℕ) (x : K) → None ≡ Some x → word ≡ text x
-none_of text word x e = absurd cc
 
 pub head_again : (h : Head) → head_in (head_text h) ≡ Some h
 unfolding head_in
@@ -45,14 +36,17 @@ head_again heads.Close = refl
 head_again heads.Ask = refl
 head_again heads.Now = refl
 
-pub head_found : (word : List ℕ) (h : Head) → head_in word ≡ Some h → word ≡ head_text h
+abbrev pub all_heads : List Head
+all_heads =
+    heads.Queues ∷ heads.Topic ∷ heads.Publisher ∷ heads.Update ∷ heads.Recap ∷ heads.Pause ∷ heads.Client ∷ heads.Sub ∷ heads.Timer ∷ heads.Inbox ∷ heads.Fault ∷ heads.At ∷ heads.Stop ∷ heads.Disarm ∷ heads.Close ∷ heads.Ask ∷ heads.Now ∷ []
+
+-- reading is looking for the first head that has the word
+pub head_named : (word : List ℕ) → named_in head_text word all_heads ≡ head_in word
 unfolding head_in
-head_found word h =
-    one_of head_text word heads.Queues h _ (one_of head_text word heads.Topic h _ (one_of head_text word heads.Publisher h _ (one_of head_text word heads.Update h _
-    (one_of head_text word heads.Recap h _ (one_of head_text word heads.Pause h _ (one_of head_text word heads.Client h _ (one_of head_text word heads.Sub h _
-    (one_of head_text word heads.Timer h _ (one_of head_text word heads.Inbox h _ (one_of head_text word heads.Fault h _ (one_of head_text word heads.At h _
-    (one_of head_text word heads.Stop h _ (one_of head_text word heads.Disarm h _ (one_of head_text word heads.Close h _ (one_of head_text word heads.Ask h _
-    (one_of head_text word heads.Now h _ (none_of head_text word h)))))))))))))))))
+head_named word = refl
+
+pub head_found : (word : List ℕ) (h : Head) → head_in word ≡ Some h → word ≡ head_text h
+head_found word h e = named_found head_text word all_heads h (head_named word ∙ e)
 
 -- a head that may stand at a place begins the words
 pub record Begins (place : Place) (words : List (List ℕ)) (h : Head) : Type 0 where

@@ -1,5 +1,7 @@
 ghost use Rattle.std.specs.Prelude.{◌≡◌};
+ghost use Rattle.mama_words.specs.Named.{named_in};
 ghost use Rattle.mama_script.specs.Head as words;
+ghost use Rattle.mama_script.specs.HeadText.{head_text};
 
 /// The first word of a line.
 #[derive(Clone, Copy, Debug, PartialEq, Eq)]
@@ -40,48 +42,72 @@ pub enum Place {
     Planned,
 }
 
+impl Head {
+    const ALL: [Head; 17] = [
+        Head::Queues,
+        Head::Topic,
+        Head::Publisher,
+        Head::Update,
+        Head::Recap,
+        Head::Pause,
+        Head::Client,
+        Head::Sub,
+        Head::Timer,
+        Head::Inbox,
+        Head::Fault,
+        Head::At,
+        Head::Stop,
+        Head::Disarm,
+        Head::Close,
+        Head::Ask,
+        Head::Now,
+    ];
+
+    // The word.
+    fn text(self) -> &'static [u8]
+        ensures { result.now ≡ head_text self }
+    {
+        match self {
+            Head::Queues => b"queues",
+            Head::Topic => b"topic",
+            Head::Publisher => b"publisher",
+            Head::Update => b"update",
+            Head::Recap => b"recap",
+            Head::Pause => b"pause",
+            Head::Client => b"client",
+            Head::Sub => b"sub",
+            Head::Timer => b"timer",
+            Head::Inbox => b"inbox",
+            Head::Fault => b"fault",
+            Head::At => b"at",
+            Head::Stop => b"stop",
+            Head::Disarm => b"disarm",
+            Head::Close => b"close",
+            Head::Ask => b"ask",
+            Head::Now => b"now",
+        }
+    }
+}
+
+// The first of these heads whose word it is.
+#[tactic(auto, using(mama_words::proofs::Named::named_more))]
+fn named(word: &[u8], heads: &[Head]) -> Option<Head>
+    ensures { result ≡ named_in head_text word.now heads.now }
+{
+    for head in heads {
+        if word == head.text() {
+            return Some(*head);
+        }
+    }
+    None
+}
+
 /// What a first word begins.
-#[tactic(auto, unfolding(crate::specs::Head::head_in))]
+#[tactic(auto, using(crate::proofs::Heads::head_named))]
 pub fn read_head(word: &[u8]) -> Option<Head>
     ensures { result ≡ words.head_in word.now }
 {
-    if word == b"queues".as_slice() {
-        Some(Head::Queues)
-    } else if word == b"topic".as_slice() {
-        Some(Head::Topic)
-    } else if word == b"publisher".as_slice() {
-        Some(Head::Publisher)
-    } else if word == b"update".as_slice() {
-        Some(Head::Update)
-    } else if word == b"recap".as_slice() {
-        Some(Head::Recap)
-    } else if word == b"pause".as_slice() {
-        Some(Head::Pause)
-    } else if word == b"client".as_slice() {
-        Some(Head::Client)
-    } else if word == b"sub".as_slice() {
-        Some(Head::Sub)
-    } else if word == b"timer".as_slice() {
-        Some(Head::Timer)
-    } else if word == b"inbox".as_slice() {
-        Some(Head::Inbox)
-    } else if word == b"fault".as_slice() {
-        Some(Head::Fault)
-    } else if word == b"at".as_slice() {
-        Some(Head::At)
-    } else if word == b"stop".as_slice() {
-        Some(Head::Stop)
-    } else if word == b"disarm".as_slice() {
-        Some(Head::Disarm)
-    } else if word == b"close".as_slice() {
-        Some(Head::Close)
-    } else if word == b"ask".as_slice() {
-        Some(Head::Ask)
-    } else if word == b"now".as_slice() {
-        Some(Head::Now)
-    } else {
-        None
-    }
+    named(word, &Head::ALL)
 }
 
 fn is_opening(head: Head) -> bool
