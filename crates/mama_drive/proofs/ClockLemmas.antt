@@ -17,7 +17,7 @@ use Rattle.mama_seats.specs.Moments.{answers, remaining, Answered, client_reads,
 use Rattle.mama_drive.specs.Scene.{Scene, Plays, IsPlayed, AreMoments, rested_stand}
 use Rattle.mama_drive.specs.Start.{stands_from, started}
 use Rattle.mama_drive.specs.Record.{read_in, recorded}
-use Rattle.mama_drive.specs.Heard.{unread, Hears, StepRead, first_steps, after_steps, StepsRead, RoundsRead, HearsRounds}
+use Rattle.mama_drive.specs.Heard.{unread, Hears, StepRead, first_steps, after_steps, StepsRead, RoundsRead, HearsRounds, left_behind}
 use Rattle.mama_drive.proofs.LaneLemmas.{append_nil}
 use Rattle.mama_drive.proofs.StageLemmas.{moments_before, own_moments}
 use Rattle.mama_drive.proofs.RecordLemmas.{own_reads}
@@ -34,19 +34,61 @@ answers_then (x ∷ a) b told h k =
     let rest : a ≡ answers (length a) (after_first told) = cc in
     ap (λ y. y ∷ (a ++ b)) first ∙ ap (λ l. slice_index told 0 ∷ l) (answers_then a b (after_first told) rest k)
 
-remaining_then : (a b told : List ℕ) → remaining (length (a ++ b)) told ≡ remaining (length b) (remaining (length a) told)
+pub remaining_then : (a b told : List ℕ) → remaining (length (a ++ b)) told ≡ remaining (length b) (remaining (length a) told)
 remaining_then [] b told = refl
 remaining_then (x ∷ a) b told = remaining_then a b (after_first told)
 
-answered_then : (o m n : Option (List ℕ)) (a b : List ℕ) → Answered o m a → Answered m n b → Answered o n (a ++ b)
+pub answered_then : (o m n : Option (List ℕ)) (a b : List ℕ) → Answered o m a → Answered m n b → Answered o n (a ++ b)
 answered_then None m n a b h k = tt
 answered_then (Some told) m n a b h k =
     let later : Answered (Some (remaining (length a) told)) n b = subst (λ (s : Option (List ℕ)). Answered s n b) h.1 k in
     (answers_then a b told h.0 later.0, later.1 ∙ ap (λ (l : List ℕ). Some l) (sym (remaining_then a b told)))
 
-answered_none : (o : Option (List ℕ)) → Answered o o []
+pub answered_none : (o : Option (List ℕ)) → Answered o o []
 answered_none None = tt
 answered_none (Some told) = (refl, refl)
+
+-- the first of some calls, and the others
+first_answers : (a b told : List ℕ) → a ++ b ≡ answers (length (a ++ b)) told → a ≡ answers (length a) told
+first_answers [] b told h = refl
+first_answers (x ∷ a) b told h =
+    let first : x ≡ slice_index told 0 = cc in
+    let rest : a ++ b ≡ answers (length (a ++ b)) (after_first told) = cc in
+    ap (λ y. y ∷ a) first ∙ ap (λ l. slice_index told 0 ∷ l) (first_answers a b (after_first told) rest)
+
+later_answers : (a b told : List ℕ) → a ++ b ≡ answers (length (a ++ b)) told → b ≡ answers (length b) (remaining (length a) told)
+later_answers [] b told h = h
+later_answers (x ∷ a) b told h =
+    let rest : a ++ b ≡ answers (length (a ++ b)) (after_first told) = cc in
+    later_answers a b (after_first told) rest
+
+-- WHAT IS LEFT BEHIND
+
+pub left_none : (o : Option (List ℕ)) → o ≡ left_behind [] o
+left_none None = refl
+left_none (Some told) = refl
+
+pub left_then : (a b : List ℕ) (o : Option (List ℕ)) → left_behind b (left_behind a o) ≡ left_behind (a ++ b) o
+left_then a b None = refl
+left_then a b (Some told) = ap (λ (l : List ℕ). Some l) (sym (remaining_then a b told))
+
+pub answered_first : (a b : List ℕ) (o : Option (List ℕ)) → Answered o (left_behind (a ++ b) o) (a ++ b) → Answered o (left_behind a o) a
+answered_first a b None h = tt
+answered_first a b (Some told) h = (first_answers a b told h.0, refl)
+
+pub answered_later : (a b : List ℕ) (o : Option (List ℕ)) → Answered o (left_behind (a ++ b) o) (a ++ b) → Answered (left_behind a o) (left_behind b (left_behind a o)) b
+answered_later a b None h = tt
+answered_later a b (Some told) h = (later_answers a b told h.0, refl)
+
+-- the clock itself
+pub answered_own : (told left : Option (List ℕ)) (heard : List ℕ) → Answered told left heard → Answered told (left_behind heard told) heard
+answered_own None left heard h = tt
+answered_own (Some told) left heard h = (h.0, refl)
+
+pub heard_own : (clients : List (List ClientLine)) (moments : List (List ℕ)) (told left : Option (List ℕ)) (heard : List ℕ) → Answered told left heard
+    → AreHeard told (left_behind heard told) clients moments → AreHeard told left clients moments
+heard_own clients moments None left heard a h = record { rounds = h.rounds; whole = h.whole; answered = tt }
+heard_own clients moments (Some told) left heard a h = subst (λ (l : Option (List ℕ)). AreHeard (Some told) l clients moments) (sym a.1) h
 
 -- ONE AFTER ANOTHER
 

@@ -13,3 +13,7 @@ pub mod RecordingLemmas
 pub mod RestLemmas
 pub mod ClockLemmas
 pub mod RunLemmas
+pub mod GrownLemmas
+pub mod TurnsLemmas
+pub mod PlaceLemmas
+pub mod PartsLemmas

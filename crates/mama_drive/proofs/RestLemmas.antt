@@ -325,3 +325,9 @@ rests_to s old k clients senders is counted numbered can clients_are senders_are
 
 pub lanes_rest : (k : ℕ) (ss : List Sender) → map lane_in (map (rested_sender k) ss) ≡ map lane_in ss
 lanes_rest k ss = map_same lane_in (rested_sender k) (λ p. refl) ss
+
+-- a scene that rests keeps its journals and lanes
+pub journals_rest : (s old : Scene) (k : ℕ) (clients : List Stand) (senders : List Sender) → s ≡ old → senders ≡ map (rested_sender k) s.senders
+    → world_in (record s { clients = clients; senders = senders }) ≡ world_in old
+journals_rest s old k clients senders is senders_are =
+    ap (λ (l : List Sender). world_in (record s { clients = clients; senders = l })) senders_are ∙ world_rests k s ∙ ap world_in is

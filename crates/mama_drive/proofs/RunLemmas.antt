@@ -7,19 +7,17 @@ use Rattle.mama_rules_services.specs.Bridge.{BridgePut, to_publisher, to_queue}
 use Rattle.mama_rules_services.specs.Bridge as bridge
 use Rattle.mama_rules_queue.specs.Queue.{QueuePut}
 use Rattle.mama_rules_queue.specs.Queue as queue
-use Rattle.mama_rules_rounds.specs.World.{Setting, World, is_empty, in_turn, publisher_turn, queue_turn}
-use Rattle.mama_rules_rounds.specs.Stage.{Stage, IsOneRound}
+use Rattle.mama_rules_rounds.specs.World.{Setting, World}
+use Rattle.mama_rules_rounds.specs.Stage.{Stage}
 use Rattle.mama_seats.specs.Stand.{Stand}
 use Rattle.mama_drive.specs.declared.held.Held.{Held}
-use Rattle.mama_drive.specs.Scene.{Scene, Moves, Advances, Rounds, Plays, Drains, rested_stand, setting_in, world_in}
-use Rattle.mama_drive.specs.Heard.{Hears, StepRead, RoundsRead, HearsRounds}
+use Rattle.mama_drive.specs.Scene.{Scene, Moves, Advances, Rounds, Plays, rested_stand, setting_in, world_in}
+use Rattle.mama_drive.specs.Heard.{Hears, StepRead, HearsRounds}
 use Rattle.mama_drive.specs.Held.{seen, lay_put, lay_out, with_note, with_event}
 use Rattle.mama_drive.proofs.HeldLemmas.{settled, seen_keeps, length_kept}
-use Rattle.mama_drive.proofs.TurnLemmas.{publishers_idle_to, queues_idle_to}
-use Rattle.mama_drive.proofs.StageLemmas.{plays_none, plays_more}
-use Rattle.mama_drive.proofs.ClockLemmas.{rests_heard, one_round_heard}
+use Rattle.mama_drive.proofs.ClockLemmas.{rests_heard}
 
-pub turn_from : (turn : Setting → World → World) (a old new : Scene) → a ≡ old → Moves a new (turn (setting_in a) (world_in a)) → Moves old new (turn (setting_in old) (world_in old))
+turn_from : (turn : Setting → World → World) (a old new : Scene) → a ≡ old → Moves a new (turn (setting_in a) (world_in a)) → Moves old new (turn (setting_in old) (world_in old))
 turn_from turn a old new is moves = subst (λ (o : Scene). Moves o new (turn (setting_in o) (world_in o))) is moves
 
 pub turn_then : (turn : Setting → World → World) (h : Held) (s before old new : Scene) → before ≡ old → seen h s ≡ before → ((t : Scene) → seen h t ≡ t)
@@ -33,15 +31,6 @@ step_then R h s before old new is same clear step = subst (λ (o : Scene). Advan
 pub heard_then : (c : ℕ) (o l : Option (List ℕ)) (h : Held) (s before old : Scene) (new : List Stand) → before ≡ old → seen h s ≡ before → ((t : Scene) → seen h t ≡ t)
     → Hears (StepRead c) o l s.clients new → Hears (StepRead c) o l old.clients new
 heard_then c o l h s before old new is same clear heard = subst (λ (b : Scene). Hears (StepRead c) o l b.clients new) (settled h s before old is same clear) heard
-
--- nothing waits for any actor of a kind
-pub publishers_idle_from : (a old : Scene) → a ≡ old → list_all is_empty (world_in a).to_publishers ≡ true
-    → Moves old a (in_turn (publisher_turn (setting_in old)) (publishers_of old.shape) (world_in old))
-publishers_idle_from a old is quiet = turn_from (λ setting w. in_turn (publisher_turn setting) (publishers_of setting.shape) w) a old a is (publishers_idle_to a a refl quiet)
-
-pub queues_idle_from : (a old : Scene) → a ≡ old → list_all is_empty (world_in a).to_queues ≡ true
-    → Moves old a (in_turn (queue_turn (setting_in old)) (queues_of old.shape) (world_in old))
-queues_idle_from a old is quiet = turn_from (λ setting w. in_turn (queue_turn setting) (queues_of setting.shape) w) a old a is (queues_idle_to a a refl quiet)
 
 -- HOW MANY ACTORS THERE ARE
 
@@ -121,11 +110,5 @@ rests_hear h s after old k o is clear can rested =
     subst (λ (a : Scene). HearsRounds o o a.clients (seen h after).clients) (sym (clear s) ∙ is)
     (subst (λ (b : Scene). HearsRounds o o s.clients b.clients) (sym (clear after)) (rests_heard k o s.clients after.clients can rested))
 
-pub round_plays : (a old new : Scene) → a ≡ old → Advances IsOneRound a new → Plays old new
-round_plays a old new is round = subst (λ (o : Scene). Plays o new) is (plays_more a a new (plays_none a) round)
-
-pub round_hears : (o l : Option (List ℕ)) (a old new : Scene) → a ≡ old → Hears (RoundsRead 1) o l a.clients new.clients → HearsRounds o l old.clients new.clients
-round_hears o l a old new is round = subst (λ (b : Scene). HearsRounds o l b.clients new.clients) is (one_round_heard o l a.clients new.clients round)
-
-pub heard_drained : (c : ℕ) (o l : Option (List ℕ)) (a b d : Scene) → Hears (StepRead c) o l a.clients b.clients → Drains b d → Hears (StepRead c) o l a.clients d.clients
-heard_drained c o l a b d heard drained = subst (Hears (StepRead c) o l a.clients) (sym drained.passes.moves.clients) heard
+pub rests_keep : (h : Held) (s after old : Scene) → seen h s ≡ old → ((t : Scene) → seen h t ≡ t) → world_in after ≡ world_in s → world_in (seen h after) ≡ world_in old
+rests_keep h s after old is clear same = ap world_in (clear after) ∙ same ∙ ap world_in (sym (clear s) ∙ is)

@@ -1,6 +1,6 @@
 -- How a step of one seat changes the stage.
 use Rattle.std.proofs.Common.{◌≡◌, ℕ, zero, suc, ◌+◌, ◌<◌, List, [], ◌∷◌, ◌++◌, map, length, get_or, refl, sym, ◌∙◌, ap, append_assoc, arith, subst, add-one}
-use Rattle.std.specs.Prelude.{Result, Ok, Err, IfOk, OnOk}
+use Rattle.std.specs.Prelude.{Result, Ok, Err, IfOk, OnOk, OnErr}
 use Rattle.std.proofs.Math.ListN.{set}
 use Rattle.std.proofs.lemmas.List.{map-set, map-append, get_or-map, get_or-set_same, set-get_or, set-set, length-set, length-map}
 use Rattle.std.proofs.Math.Seq.{map-set_same}
@@ -218,6 +218,11 @@ on_ok (Err e) f h = h
 pub if_ok : {T E : Type 0} {P Q : T → Type 0} → (r : Result T E) → ((v : T) → P v → Q v) → IfOk r P → IfOk r Q
 if_ok (Ok v) f h = f v h
 if_ok (Err e) f h = h
+
+-- what holds anyway holds where a call fails
+pub on_err : {T E : Type 0} {P : Type 0} → (r : Result T E) → P → OnErr r P
+on_err (Ok v) p = tt
+on_err (Err e) p = p
 
 pub advances_none : (R : Setting → Stage → Stage → Type 0) (s : Scene) → ((ms : List (List ℕ)) → R (setting_in s) (stage_in ms s) (stage_in ms s)) → Advances R s s
 advances_none R s f = record {

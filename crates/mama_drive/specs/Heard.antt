@@ -1,8 +1,8 @@
 -- inner: What the clients of a system hear of their clock.
-use Rattle.std.specs.Prelude.{◌≡◌, ℕ, zero, suc, List, [], ◌∷◌, ◌++◌, map, drop, Option, slice_index_or, slice_set}
+use Rattle.std.specs.Prelude.{◌≡◌, ℕ, zero, suc, List, [], ◌∷◌, ◌++◌, map, drop, length, Option, Some, None, slice_index_or, slice_set}
 use Rattle.mama_seats.specs.Sender.{first_step, later_steps}
 use Rattle.mama_seats.specs.Stand.{Stand, still_read}
-use Rattle.mama_seats.specs.Moments.{Answered, read_in_rounds}
+use Rattle.mama_seats.specs.Moments.{Answered, remaining, read_in_rounds}
 use Rattle.mama_drive.specs.Scene.{AreMoments}
 
 -- what each client has still to read, step by step, if these are all the moments that they will have read in the end
@@ -43,3 +43,8 @@ RoundsRead n old new heard = (heard ≡ read_in_rounds n old) × (new ≡ map (d
 pub record HearsRounds (told left : Option (List ℕ)) (old new : List Stand) : Type 0 where
   pub count : ℕ
   pub rounds : Hears (RoundsRead count) told left old new
+
+-- what is left to a clock after it answered these moments
+abbrev pub left_behind : List ℕ → Option (List ℕ) → Option (List ℕ)
+left_behind heard None = None
+left_behind heard (Some told) = Some (remaining (length heard) told)

@@ -6,3 +6,7 @@ pub mod Heard
 pub mod Start
 pub mod Record
 pub mod Parts
+pub mod Grown
+pub mod Turns
+pub mod Place
+pub mod Course

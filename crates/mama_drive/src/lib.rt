@@ -9,16 +9,20 @@
 
 mod bridge_seat;
 mod held;
+mod place;
 mod playing;
 mod putting;
 mod recording;
 mod resting;
 mod rounds;
 mod run;
+mod serial_run;
 mod starting;
 mod system;
 mod timers_seat;
+mod turn;
 mod turning;
 
 pub use mama_memory::OutOfMemory;
 pub use playing::serial;
+pub use serial_run::SerialRun;

@@ -29,24 +29,24 @@ pub(crate) struct Parts {
 }
 
 impl<'a> Run<'a> {
-    /// The record of what was done.
-    pub fn into_record(self) -> Result<RunRecord, OutOfMemory>
-        ensures { IfOk result (λ run. run ≡ recorded self.entry) }
+    /// The callbacks and images of its record, and room for all journals and moments.
+    pub(crate) fn parts(&self) -> Result<Parts, OutOfMemory>
+        ensures { IfOk result (ArePartsOf self.now) }
+    {
+        self.system.parts()
+    }
+
+    /// The record of what was done, with these parts. It takes no memory.
+    pub(crate) fn record_with(self, parts: Parts) -> RunRecord
+        requires { ArePartsOf self parts }
+        ensures { result ≡ recorded self.entry }
     {
         let Run { system, held: _ } = self;
-        system.into_record()
+        system.record_with(parts)
     }
 }
 
 impl<'a> System<'a> {
-    /// The record of what was done.
-    fn into_record(self) -> Result<RunRecord, OutOfMemory>
-        ensures { IfOk result (λ run. run ≡ recorded self.entry) }
-    {
-        let parts = self.parts()?;
-        Ok(self.record_with(parts))
-    }
-
     /// The callbacks and images of its record, and room for all journals and moments.
     fn parts(&self) -> Result<Parts, OutOfMemory>
         ensures { IfOk result (ArePartsOf self.now) }

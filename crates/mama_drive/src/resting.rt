@@ -1,6 +1,6 @@
 ghost use Rattle.std.specs.Prelude.{◌≡◌, ◌||◌, nat_le, map, true};
 ghost use Rattle.std.specs.List.{list_all};
-ghost use Rattle.mama_drive.specs.Scene.{Advances, Rounds, CanRest, rested_stand, rested_sender, IsPlayed};
+ghost use Rattle.mama_drive.specs.Scene.{Advances, Rounds, CanRest, rested_stand, rested_sender, IsPlayed, world_in};
 
 use crate::system::System;
 use mama_seats::{ClientSeat, PublisherSeat};
@@ -47,6 +47,7 @@ impl<'a> System<'a> {
         requires { CanRest rounds self.old }
         ensures rounds { Advances (Rounds rounds) self.old self.new }
         ensures clients { self.new.clients ≡ map (rested_stand rounds) self.old.clients }
+        ensures journals { world_in self.new ≡ world_in self.old }
     {
         rest_clients(&mut self.clients, rounds);
         rest_publishers(&mut self.publishers, rounds);

@@ -33,7 +33,7 @@ impl<'a> Model for Run<'a> {
 
 impl<'a> Run<'a> {
     /// The bridge takes the first event of its lane, if there is one.
-    fn bridge_turn(&mut self) -> Result<(), OutOfMemory>
+    pub(crate) fn bridge_turn(&mut self) -> Result<(), OutOfMemory>
         ensures turn { OnOk result (Moves self.old self.new (world.bridge_turn (setting_in self.old) (world_in self.old))) }
         ensures err { OnErr result (self.new ≡ self.old) }
     {
@@ -44,7 +44,7 @@ impl<'a> Run<'a> {
     }
 
     /// The timer service takes the first event of its lane, if there is one.
-    fn timers_turn(&mut self) -> Result<(), OutOfMemory>
+    pub(crate) fn timers_turn(&mut self) -> Result<(), OutOfMemory>
         ensures turn { OnOk result (Moves self.old self.new (world.timers_turn (setting_in self.old) (world_in self.old))) }
         ensures err { OnErr result (self.new ≡ self.old) }
     {
@@ -55,7 +55,7 @@ impl<'a> Run<'a> {
     }
 
     /// A publisher takes the first event of its lane, if there is one.
-    fn publisher_turn(&mut self, number: u32) -> Result<(), OutOfMemory>
+    pub(crate) fn publisher_turn(&mut self, number: u32) -> Result<(), OutOfMemory>
         requires { number < length self.old.senders }
         ensures turn { OnOk result (Moves self.old self.new (world.publisher_turn (setting_in self.old) number (world_in self.old))) }
         ensures err { OnErr result (self.new ≡ self.old) }
@@ -67,7 +67,7 @@ impl<'a> Run<'a> {
     }
 
     /// A queue takes the first event of its lane, if there is one, and makes its callbacks.
-    fn queue_turn(&mut self, number: u32) -> Result<(), OutOfMemory>
+    pub(crate) fn queue_turn(&mut self, number: u32) -> Result<(), OutOfMemory>
         requires { number < length self.old.servers }
         ensures turn { OnOk result (Moves self.old self.new (world.queue_turn (setting_in self.old) number (world_in self.old))) }
         ensures err { OnErr result (self.new ≡ self.old) }
@@ -109,92 +109,36 @@ impl<'a> Run<'a> {
         Ok(())
     }
 
-    /// Moves what is held to its lanes.
-    fn settle(&mut self) -> Result<(), OutOfMemory>
+    /// Moves what is held to its lanes. Nothing that a reader of the run sees changes.
+    pub(crate) fn settle(&mut self) -> Result<(), OutOfMemory>
         ensures { self.new ≡ self.old }
     {
         settle(&mut self.system, &mut self.held)
     }
 
-    /// Each publisher takes the first event of its lane, if there is one.
-    fn publisher_turns(&mut self) -> Result<(), OutOfMemory>
-        ensures { OnOk result (Moves self.old self.new (world.in_turn (world.publisher_turn (setting_in self.old)) (publishers_of self.old.shape) (world_in self.old))) }
-    {
-        self.settle()?;
-        if self.are_publishers_idle() {
-            return Ok(());
-        }
-        self.each_publisher()
-    }
-
-    /// The same, whether events wait or not.
-    fn each_publisher(&mut self) -> Result<(), OutOfMemory>
-        ensures { OnOk result (Moves self.old self.new (world.in_turn (world.publisher_turn (setting_in self.old)) (publishers_of self.old.shape) (world_in self.old))) }
-    {
-        let count = self.publisher_count();
-        for number in 0..count {
-            self.publisher_turn(number)?;
-        }
-        self.look_at_publishers();
-        Ok(())
-    }
-
-    /// Each queue takes the first event of its lane, if there is one.
-    fn queue_turns(&mut self) -> Result<(), OutOfMemory>
-        ensures { OnOk result (Moves self.old self.new (world.in_turn (world.queue_turn (setting_in self.old)) (queues_of self.old.shape) (world_in self.old))) }
-    {
-        self.settle()?;
-        if self.are_queues_idle() {
-            return Ok(());
-        }
-        self.each_queue()
-    }
-
-    /// The same, whether events wait or not.
-    fn each_queue(&mut self) -> Result<(), OutOfMemory>
-        ensures { OnOk result (Moves self.old self.new (world.in_turn (world.queue_turn (setting_in self.old)) (queues_of self.old.shape) (world_in self.old))) }
-    {
-        let count = self.queue_count();
-        for number in 0..count {
-            self.queue_turn(number)?;
-        }
-        self.look_at_queues();
-        Ok(())
-    }
-
-    /// One pass: the bridge, the timer service, each publisher and each queue take one event, if there is one.
-    pub(crate) fn pass(&mut self) -> Result<(), OutOfMemory>
-        ensures { OnOk result (Moves self.old self.new (world.pass (setting_in self.old) (world_in self.old))) }
-    {
-        self.bridge_turn()?;
-        self.timers_turn()?;
-        self.publisher_turns()?;
-        self.queue_turns()
-    }
-
     /// Whether surely nothing waits on the lane of any publisher.
-    fn are_publishers_idle(&self) -> bool
+    pub(crate) fn are_publishers_idle(&self) -> bool
         ensures { result ≡ true → list_all is_empty (world_in self.now).to_publishers ≡ true }
     {
         self.held.is_empty() && self.system.are_publishers_idle()
     }
 
     /// Whether surely nothing waits on the lane of any queue.
-    fn are_queues_idle(&self) -> bool
+    pub(crate) fn are_queues_idle(&self) -> bool
         ensures { result ≡ true → list_all is_empty (world_in self.now).to_queues ≡ true }
     {
         self.held.is_empty() && self.system.are_queues_idle()
     }
 
     /// Marks whether events wait on the lane of some publisher.
-    fn look_at_publishers(&mut self)
+    pub(crate) fn look_at_publishers(&mut self)
         ensures { self.new ≡ self.old }
     {
         self.system.look_at_publishers();
     }
 
     /// Marks whether events wait on the lane of some queue.
-    fn look_at_queues(&mut self)
+    pub(crate) fn look_at_queues(&mut self)
         ensures { self.new ≡ self.old }
     {
         self.system.look_at_queues();
@@ -224,7 +168,7 @@ impl<'a> Run<'a> {
     }
 
     /// How many queues there are.
-    fn queue_count(&self) -> u32
+    pub(crate) fn queue_count(&self) -> u32
         ensures number { result ≡ length self.now.servers }
         ensures shape { result ≡ queues_of self.now.shape }
     {

@@ -1,7 +1,6 @@
 ghost use Rattle.std.specs.Prelude.{◌≡◌, ◌^◌, ◌<◌, ◌≤◌, length, IfOk};
 ghost use Rattle.std.specs.List.{AllByRecursion};
 ghost use Rattle.mama_script.specs.declared.publisher.PublisherPart.{PublisherPart};
-ghost use Rattle.mama_plans.specs.Plans.{AreFew};
 ghost use Rattle.mama_drive.specs.Start.{stands_from, senders_from, new_servers, started};
 
 use crate::bridge_seat::BridgeSeat;
@@ -18,7 +17,6 @@ use std::alloc::Global;
 impl<'a> Run<'a> {
     /// The run of a script, in which nothing is done yet. These are the plans of its objects.
     pub fn new(alloc: Global, script: &'a Script, plans: &'a Plans) -> Result<Run<'a>, OutOfMemory>
-        requires { AreFew plans.now }
         ensures { IfOk result (λ run. run ≡ started plans.now script.now) }
     {
         Ok(Run {
@@ -31,7 +29,6 @@ impl<'a> Run<'a> {
 impl<'a> System<'a> {
     /// All actors of a script, which have done nothing yet. These are the plans of its objects.
     fn new(alloc: Global, script: &'a Script, plans: &'a Plans) -> Result<System<'a>, OutOfMemory>
-        requires { AreFew plans.now }
         ensures { IfOk result (λ system. system ≡ started plans.now script.now) }
     {
         let shape = script.shape();
@@ -61,7 +58,6 @@ fn queue_seats<'a>(
     queues: u32,
     plans: &'a Plans,
 ) -> Result<Vec<QueueSeat<'a>>, OutOfMemory>
-    requires { AreFew plans.now }
     ensures { IfOk result (λ seats. seats.items ≡ new_servers plans.now queues) }
 {
     let mut seats = Vec::new(alloc);

@@ -1,7 +1,6 @@
 use Rattle.std.proofs.Common.{◌≡◌, ap, length, ◌∙◌, sym, subst, arith, List, ◌<◌, ◌≤◌, ◌^◌}
 use Rattle.std.specs.List.{AllByRecursion}
 use Rattle.std.proofs.lemmas.List.{length-map}
-use Rattle.mama_script.specs.declared.client.ClientLine.{ClientLine}
 use Rattle.mama_script.specs.declared.publisher.PublisherPart.{PublisherPart}
 use Rattle.mama_script.specs.Tree.{topic_of_part}
 use Rattle.mama_event.specs.declared.to_bridge.BridgeNote.{BridgeNote}

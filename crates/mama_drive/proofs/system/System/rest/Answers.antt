@@ -1,7 +1,7 @@
 use Rattle.std.proofs.Common.{◌∙◌, ap, length, map}
 use Rattle.std.proofs.lemmas.List.{length-map}
 use Rattle.mama_drive.specs.Scene.{Scene, lane_in, rested_stand, rested_sender}
-use Rattle.mama_drive.proofs.RestLemmas.{rests_to, lanes_rest}
+use Rattle.mama_drive.proofs.RestLemmas.{rests_to, lanes_rest, journals_rest}
 use Rattle.mama_drive.proofs.SystemLemmas.{with_seats}
 use Rattle.mama_drive.proofs.system.System.rest.Goals as goal
 
@@ -17,3 +17,6 @@ returns-clause-rounds c = rests_to _ c.args.self.now c.args.rounds c.rest_client
 
 pub returns-clause-clients : goal.returns-clause-clients
 returns-clause-clients c = c.rest_clients.ensures ∙ ap (λ (s : Scene). map (rested_stand c.args.rounds) s.clients) c.self.view_is
+
+pub returns-clause-journals : goal.returns-clause-journals
+returns-clause-journals c = journals_rest _ c.args.self.now c.args.rounds c.rest_clients.new.seats.items c.rest_publishers.new.seats.items c.self.view_is c.rest_publishers.ensures

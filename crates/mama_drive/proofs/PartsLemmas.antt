@@ -1,0 +1,66 @@
+-- The parts of a record, whatever is held.
+use Rattle.std.proofs.Common.{◌≡◌, ℕ, ◌≤◌, map, length, refl, sym, ◌∙◌, ap, subst}
+use Rattle.std.specs.Prelude.{vec_capacity}
+use Rattle.std.specs.List.{flat_map}
+use Rattle.mama_event.specs.Ports.{queue_port_of_bridge, queue_port_of_timers}
+use Rattle.mama_rules_services.specs.Bridge.{BridgePut, to_publisher, to_queue}
+use Rattle.mama_rules_services.specs.Bridge as bridge
+use Rattle.mama_rules_queue.specs.Queue.{QueuePut}
+use Rattle.mama_rules_queue.specs.Queue as queue
+use Rattle.mama_drive.specs.declared.held.Held.{Held}
+use Rattle.mama_drive.specs.declared.recording.Parts.{Parts}
+use Rattle.mama_drive.specs.Scene.{Scene, journal_in}
+use Rattle.mama_drive.specs.Record.{calls_by, images_by}
+use Rattle.mama_drive.specs.Parts.{ArePartsOf}
+use Rattle.mama_drive.specs.Held.{seen, lay_put, lay_out, with_event}
+use Rattle.mama_drive.proofs.HeldLemmas.{seen_keeps, map_kept}
+use Rattle.mama_drive.proofs.RunLemmas.{clients_seen, senders_seen, servers_seen}
+
+-- two scenes with the same objects and journals of queues, and as many actors, have the same parts
+parts_same : (a b : Scene) (parts : Parts) → a.objects ≡ b.objects → map journal_in a.servers ≡ map journal_in b.servers → length a.clients ≡ length b.clients
+    → length a.senders ≡ length b.senders → length a.servers ≡ length b.servers → ArePartsOf a parts → ArePartsOf b parts
+parts_same a b parts objects journals clients senders servers h = record {
+  calls = h.calls ∙ ap (λ o. map (calls_by o (map journal_in a.servers)) o) objects ∙ ap (λ j. map (calls_by b.objects j) b.objects) journals;
+  images = h.images ∙ ap (λ o. flat_map (images_by o (map journal_in a.servers)) o) objects ∙ ap (λ j. flat_map (images_by b.objects j) b.objects) journals;
+  no_moments = h.no_moments;
+  no_entries = h.no_entries;
+  no_events = h.no_events;
+  moments_fit = subst (λ n. n ≤ vec_capacity parts.moments) clients h.moments_fit;
+  entries_fit = subst (λ n. n ≤ vec_capacity parts.entries) senders h.entries_fit;
+  events_fit = subst (λ n. n ≤ vec_capacity parts.events) servers h.events_fit;
+}
+
+objects_put : (x : BridgePut) (s : Scene) → (lay_put x s).objects ≡ s.objects
+objects_put (to_publisher p note) s = refl
+objects_put (to_queue q note) s = refl
+objects_put (bridge.to_timers note) s = refl
+
+objects_out : (b t : ℕ) (x : QueuePut) (s : Scene) → (lay_out b t x s).objects ≡ s.objects
+objects_out b t (queue.to_bridge note) s = refl
+objects_out b t (queue.to_timers note) s = refl
+
+journals_put : (x : BridgePut) (s : Scene) → map journal_in (lay_put x s).servers ≡ map journal_in s.servers
+journals_put (to_publisher p note) s = refl
+journals_put (to_queue q note) s = map_kept journal_in (with_event (queue_port_of_bridge, note)) (λ x. refl) q s.servers
+journals_put (bridge.to_timers note) s = refl
+
+journals_out : (b t : ℕ) (x : QueuePut) (s : Scene) → map journal_in (lay_out b t x s).servers ≡ map journal_in s.servers
+journals_out b t (queue.to_bridge note) s = refl
+journals_out b t (queue.to_timers note) s = refl
+
+objects_seen : (h : Held) (s : Scene) → (seen h s).objects ≡ s.objects
+objects_seen h s = seen_keeps (λ (t : Scene). t.objects) objects_put (λ e t. refl) (λ port e t. refl) objects_out h s
+
+journals_seen : (h : Held) (s : Scene) → map journal_in (seen h s).servers ≡ map journal_in s.servers
+journals_seen h s = seen_keeps (λ (t : Scene). map journal_in t.servers) journals_put
+    (λ e t. map_kept journal_in (with_event (queue_port_of_timers, e.1)) (λ x. refl) e.0 t.servers) (λ port e t. refl) journals_out h s
+
+-- what is held has no part in the record
+pub parts_seen : (h : Held) (s old : Scene) (parts : Parts) → seen h s ≡ old → ArePartsOf s parts → ArePartsOf old parts
+parts_seen h s old parts is parts_are = subst (λ (o : Scene). ArePartsOf o parts) is
+    (parts_same s (seen h s) parts (sym (objects_seen h s)) (sym (journals_seen h s)) (clients_seen h s (seen h s) refl) (senders_seen h s (seen h s) refl) (servers_seen h s (seen h s) refl) parts_are)
+
+pub parts_unseen : (h : Held) (s old : Scene) (parts : Parts) → seen h s ≡ old → ArePartsOf old parts → ArePartsOf s parts
+parts_unseen h s old parts is parts_are =
+    parts_same (seen h s) s parts (objects_seen h s) (journals_seen h s) (sym (clients_seen h s (seen h s) refl)) (sym (senders_seen h s (seen h s) refl)) (sym (servers_seen h s (seen h s) refl))
+    (subst (λ (o : Scene). ArePartsOf o parts) (sym is) parts_are)
