@@ -2,7 +2,7 @@
 use Rattle.std.proofs.Common.{◌≡◌, ℕ, zero, suc, ◌+◌, ◌^◌, ◌<◌, Bool, true, false, not, List, [], ◌∷◌, ◌++◌, map, length, get_or, refl, sym, ◌∙◌, ap, add-one}
 use Rattle.std.specs.List.{list_all}
 use Rattle.std.proofs.Math.ListN.{set}
-use Rattle.std.proofs.lemmas.List.{length-set, length-append, map-append}
+use Rattle.std.proofs.lemmas.List.{length-set, length-append, map-append, set-get_or}
 use Rattle.std.proofs.lemmas.List.Folds.{list_all-map}
 use Rattle.std.proofs.Math.Seq.{map-set_same}
 use Rattle.mama_event.specs.declared.shape.Shape.{Shape}
@@ -13,7 +13,7 @@ use Rattle.mama_seats.specs.Stand.{Stand}
 use Rattle.mama_seats.specs.Sender.{Sender}
 use Rattle.mama_event.specs.Ports.{clients_of, publishers_of, queues_of, bridge_ports}
 use Rattle.mama_drive.specs.Start.{new_server, new_servers}
-use Rattle.mama_drive.specs.Scene.{lane_in, waiting_in, objects_in, IsSystem}
+use Rattle.mama_drive.specs.Scene.{Scene, lane_in, waiting_in, objects_in, IsSystem}
 
 unnot : (b : Bool) → not b ≡ false → b ≡ true
 unnot true e = refl
@@ -150,6 +150,11 @@ module _ (shape bridge_shape timers_shape : Shape) (objects : List Planned) (cli
     quiet_publishers = h.quiet_publishers;
     quiet_queues = λ e. list_all-map is_empty waiting_in servers ∙ sym is ∙ unnot quiet e;
   }
+
+-- a seat that is as it was
+pub same_client : (s old : Scene) (n : ℕ) (x y : Stand) → s ≡ old → x ≡ get_or s.clients n x → y ≡ x → record s { clients = set s.clients n y } ≡ old
+same_client s old n x y is at same =
+    ap (λ (z : Stand). record s { clients = set s.clients n z }) (same ∙ at) ∙ ap (λ (l : List Stand). record s { clients = l }) (set-get_or s.clients n x) ∙ is
 
 length-new : (objects : List Planned) (n : ℕ) → length (new_servers objects n) ≡ n
 length-new objects zero = refl
