@@ -13,6 +13,6 @@ mod put;
 pub use mama_event::{ObjectId, PlanRow, ToService};
 pub use mama_memory::OutOfMemory;
 pub use names::{Doing, Names};
-pub use planning::{plans_are_few, plans_of};
+pub use planning::plans_of;
 pub use plans::{PlannedObject, Plans};
 pub use put::put_of;

@@ -5,7 +5,7 @@ ghost use Rattle.mama_link.specs.declared.faults.FaultRow.{FaultRow};
 ghost use Rattle.mama_script.specs.declared.client.ClientLine.TheVariants as line;
 ghost use Rattle.mama_rules_rounds.specs.Client.{Planned, objects_from, at_first};
 ghost use Rattle.mama_rules_rounds.specs.Round.{by_kind, objects_of, setting_of};
-ghost use Rattle.mama_plans.specs.Plans.{planned_object, planned_objects, AreFew};
+ghost use Rattle.mama_plans.specs.Plans.{planned_object, planned_objects};
 ghost use Rattle.mama_plans.specs.Planning.{Makes, MakesOr};
 ghost use Rattle.mama_plans.specs.Room.{HasRoom, MakesFew};
 
@@ -23,13 +23,6 @@ pub fn plans_of(alloc: Global, script: &Script) -> Result<Plans, OutOfMemory>
     let queues = script.shape().bounds.queues;
     let objects = all_objects(alloc, queues, script.clients())?;
     Plans::new(alloc, by_kind(alloc, objects)?)
-}
-
-/// The plans of a script have at most 8 orders for a call.
-pub fn plans_are_few(script: &Script)
-    ensures { AreFew (setting_of script.now).objects }
-{
-    let _shape = script.shape();
 }
 
 /// The subscriptions, then the timers, and then the inboxes of some objects.
