@@ -1,0 +1,120 @@
+#!/bin/bash
+# Refuses each request for memory in turn while the proved program plays a small script or judges its log: there is a script
+# for every kind of line. It wants the proved program (./mama --version builds it) and a C compiler, for a library that is
+# loaded before the C library and answers one request of `malloc` or `realloc` with nothing. `rt try --fail-alloc` builds the
+# program anew for each number, which is why it is not used. After a refusal the program has to say that no memory was found,
+# by its line and its status, with nothing written; or else to do what it does when nothing is refused. Ends with 1 where it
+# does anything else.
+. "$(dirname "$0")/scratch.sh"
+proved_program
+cat > "$scratch/refuse.c" <<'END'
+#include <stdio.h>
+#include <stdlib.h>
+
+void *__libc_malloc(size_t);
+void *__libc_realloc(void *, size_t);
+
+static long asked, refused = -1;
+
+// Whether this request is the one to refuse. Before the program's own start nothing is counted.
+static int refuses(void) {
+  if (refused < 0) return 0;
+  asked += 1;
+  return asked == refused;
+}
+
+void *malloc(size_t size) { return refuses() ? NULL : __libc_malloc(size); }
+
+void *realloc(void *block, size_t size) { return refuses() ? NULL : __libc_realloc(block, size); }
+
+__attribute__((constructor)) static void begin(void) {
+  const char *number = getenv("REFUSED");
+  if (number) refused = atol(number);
+}
+
+__attribute__((destructor)) static void end(void) {
+  long count = asked;
+  const char *name = getenv("ASKED");
+  refused = -1;
+  FILE *to = name ? fopen(name, "w") : NULL;
+  if (to) {
+    fprintf(to, "%ld\n", count);
+    fclose(to);
+  }
+}
+END
+cc -O1 -shared -fPIC -o "$scratch/refuse.so" "$scratch/refuse.c" || exit 2
+exec python3 - "$program" "$scratch" "$top/examples" <<'PROGRAM'
+import os, re, shutil, subprocess, sys
+
+program, scratch, examples = sys.argv[1:]
+HEAD = "mama script 1|queues 1|"
+MARKET = HEAD + 'topic "A"|publisher 0 22:bid:u32:100|update 22:bid:u32:101|update 25:ask:u32:103|update 22:bid:u32:102|client|sub 0 market 0 10 1000|'
+# a script of each kind of line
+SCRIPTS = {
+    "nobody but a client": HEAD + "client|",
+    "updates and an image": MARKET,
+    "a lost message": MARKET + "fault lose 3|",
+    "a repeated message": MARKET + "fault dup 2|",
+    "a message that is held": MARKET + "fault hold 2 1|",
+    "two queues, any queue": MARKET.replace("queues 1", "queues 2").replace("market 0", "market any"),
+    "a basic subscription": MARKET.replace("market", "basic"),
+    "a snapshot": MARKET.replace("market", "snapshot"),
+    "stops, of a line and of a callback": MARKET + "at 2 stop s0.0|stop s0.0|",
+    "a record sent whole, and pauses": MARKET.replace("|update 25", "|pause 2|recap|update 25") + "pause 3|",
+    "timers": HEAD + "client|timer 0 10|at 2 disarm t0.0|timer any 5|now 12|now clock|disarm t0.1|",
+    "inboxes": HEAD + 'topic "A"|publisher 0 22:bid:u32:100 1:n:text:"x" 2:b:bytes:x00ff 3:p:price:5/2|client|inbox 0|fault dup 1|at 1 ask i0.0 0 22|at 2 close i0.0|inbox any|ask i0.1 0 1 2 3|close i0.1|',
+    "two publishers and two clients": HEAD + 'topic "A"|topic "B"|publisher 0 1:a:u8:1|recap|publisher 1 1:a:i64:-1|update 1:a:i64:2 2::bool:true|client|sub 0 market 0 10 1000|sub 1 market 0 10 1000|client|sub 0 market 0 0 0|fault hold 1 2|',
+}
+OUT_OF_MEMORY = (8, b"", b"mama_run: out of memory\n")
+
+
+def run(word, text, number):
+    """What the program answers where the request of this number is refused, with a letter for each moment of the day's clock, and how many it made."""
+    name = f"{scratch}/asked"
+    env = {**os.environ, "LD_PRELOAD": f"{scratch}/refuse.so", "REFUSED": str(number), "ASKED": name}
+    if os.path.exists(name):
+        os.remove(name)
+    ran = subprocess.run([program, word], input=text, capture_output=True, env=env, timeout=60)
+    count = int(open(name).read()) if os.path.exists(name) else None
+    return (ran.returncode, re.sub(rb"\d{12,}", b"M", ran.stdout), ran.stderr), count
+
+
+def tried(title, word, text):
+    """Refuses each request in turn. Tells how many there were, and what went wrong, and gives what is written without a refusal."""
+    whole, count = run(word, text, 0)
+    wrong, refused, done = 0, 0, 0
+    if count is None:
+        print(f"{title}: {word} did not end by itself: status {whole[0]}")
+        return whole[1], 0, 1
+    for number in range(1, count + 1):
+        found, _ = run(word, text, number)
+        refused += found == OUT_OF_MEMORY
+        done += found == whole
+        if found not in (OUT_OF_MEMORY, whole):
+            wrong += 1
+            if wrong <= 3:
+                print(f"{title}: {word} with request {number} of {count} refused: status {found[0]}, {len(found[1])} bytes written, {found[2][:200]!r}")
+    print(f"| {title}, `{word}` | {count} | {refused} | {done} | {wrong} |", flush=True)
+    return whole[1], count, wrong
+
+
+print("| script | requests, each refused once | no memory, it said | it did all the same | another answer |\n|---|---|---|---|---|")
+asked = wrong = 0
+for title, row in SCRIPTS.items():
+    script = row.replace("|", "\n").encode()
+    log, count, bad = tried(title, "serial", script)
+    asked, wrong = asked + count, wrong + bad
+    if not log:
+        print(f"{title}: nothing was played")
+        wrong += 1
+        continue
+    verdict, count, bad = tried(title, "check", script + b"log\n" + log.replace(b"M", b"1000000000000"))
+    asked, wrong = asked + count, wrong + bad
+    if verdict != b"legal\ncausal yes\n":
+        print(f"{title}: another verdict: {verdict[:200]!r}")
+        wrong += 1
+print(f"refuse: {asked} requests refused in turn, {wrong} wrong answers")
+shutil.rmtree(scratch, ignore_errors=True)
+sys.exit(1 if wrong else 0)
+PROGRAM
