@@ -1,6 +1,6 @@
 -- What a look tells a reader.
 use Rattle.std.proofs.Common.{◌≡◌, ℕ, ◌≤◌, Bool, true, List, ◌++◌, length, take, drop, option_map, refl, sym, ap, ◌∙◌, subst, length-append, arith}
-use Rattle.std.proofs.lemmas.List.{take_all, take-append-le, take-append-drop}
+use Rattle.std.proofs.lemmas.List.{length-take-le, take_all, take-append-le, take-append-drop}
 use base.Growing.{prefix_trans}
 use mathlib.Core.List.{IsPrefix}
 use Rattle.mama_event.specs.declared.ids.SubId.{SubId}
@@ -27,6 +27,12 @@ rows_seen f sub v w images look = ap (option_map f) (look.images_of.rows sub)
 -- what a reader shows of its place, up to a version
 abbrev pub seen_to : ℕ → ℕ → View → Bool → ℕ → ReaderValue
 seen_to queue version v sealed least = record { queue = queue; seen = take version v.seen; sealed = sealed; least = least }
+
+-- a reader has seen no more sets than that below which no look answers
+pub seen_within : (queue version least : ℕ) (v : View) (sealed : Bool) (old : ReaderValue) → version ≤ length v.seen → version ≤ least → seen_to queue version v sealed least ≡ old
+    → length old.seen ≤ old.least
+seen_within queue version least v sealed old within enough is =
+    subst (λ (r : ReaderValue). length r.seen ≤ r.least) is (let cut : length (take version v.seen) ≡ version = length-take-le version v.seen within in omega arith)
 
 module _ (queue version least : ℕ) (v w : View) (sealed : Bool) (onward : IsOnward v w) (within : version ≤ length v.seen) where
   -- a look that gives nothing leaves the reader as before

@@ -1,3 +1,4 @@
+pub mod Changes
 pub mod Images
 pub mod Rows
 pub mod Rule

@@ -1,4 +1,5 @@
 ghost use Rattle.std.specs.Prelude.{◌≡◌, ◌⊎◌, false, IfOk, OnErr, OnOk};
+ghost use Rattle.mama_board.specs.Changes.{after_shown, after_refused};
 ghost use Rattle.mama_board.specs.Values.{new_board, new_reader, after_image, with_waiting, after_sealing, told_by};
 
 use crate::change::Change;
@@ -97,15 +98,7 @@ impl<Rt: Wait + Drop> Board<Rt> {
         ensures err { OnErr result ((self.new ≡ self.old) ⊎ (self.new ≡ with_waiting self.old (record { sub = sub; head = head; body = body.now }))) }
     {
         let body = body.try_clone()?;
-        find_place(&self.writer)?;
-        let set = ImageSet { sub, head, body };
-        let Ok(()) = self.writer.append(Change::Set(set)) else {
-            return Err(OutOfMemory);
-        };
-        let Ok(()) = show(&rt, &mut self.writer) else {
-            return Err(OutOfMemory);
-        };
-        Ok(self.told(&rt))
+        self.show_change(&rt, Change::Set(ImageSet { sub, head, body }))
     }
 
     /// Says that no set follows, and shows the sets that wait, at one step. The answer names all sets.
@@ -118,14 +111,24 @@ impl<Rt: Wait + Drop> Board<Rt> {
         ensures told { IfOk result (λ told. told ≡ told_by self.new) }
         ensures err { OnErr result (self.new ≡ self.old) }
     {
+        self.show_change(&rt, Change::Seal)
+    }
+
+    // Logs a change, and shows it at one step with the sets that wait.
+    fn show_change<R: Wait>(&mut self, rt: &R, change: Change) -> Result<Told, OutOfMemory>
+        requires { self.old.sealed ≡ false }
+        ensures ok { OnOk result (self.new ≡ after_shown self.old change) }
+        ensures told { IfOk result (λ told. told ≡ told_by self.new) }
+        ensures err { OnErr result ((self.new ≡ self.old) ⊎ (self.new ≡ after_refused self.old change)) }
+    {
         find_place(&self.writer)?;
-        let Ok(()) = self.writer.append(Change::Seal) else {
+        let Ok(()) = self.writer.append(change) else {
             return Err(OutOfMemory);
         };
-        let Ok(()) = show(&rt, &mut self.writer) else {
+        let Ok(()) = show(rt, &mut self.writer) else {
             return Err(OutOfMemory);
         };
-        Ok(self.told(&rt))
+        Ok(self.told(rt))
     }
 
     // What names the sets that readers can see.

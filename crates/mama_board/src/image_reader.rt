@@ -1,4 +1,4 @@
-ghost use Rattle.std.specs.Prelude.{◌≡◌, IfOk, OnErr, OnOk};
+ghost use Rattle.std.specs.Prelude.{◌≡◌, ◌≤◌, length, IfOk, OnErr, OnOk};
 ghost use Rattle.std.specs.Option.{option_map};
 ghost use Rattle.mama_board.specs.Rows.{row};
 ghost use Rattle.mama_board.specs.Values.{HasLooked, after_learn};
@@ -38,15 +38,16 @@ impl Model for ImageReader {
 
     ghost view = { λ r. record { queue = r.queue; seen = take r.version (known r.place.place).seen; sealed = r.sealed; least = r.least } };
 
-    ghost invariant = { λ r. (r.version ≤ length (known r.place.place).seen) × (r.sealed ≡ (known r.place.place).sealed) × (r.sealed ≡ true → r.version ≡ length (known r.place.place).seen) };
+    ghost invariant = { λ r. (r.version ≤ r.least) × (r.version ≤ length (known r.place.place).seen) × (r.sealed ≡ (known r.place.place).sealed) × (r.sealed ≡ true → r.version ≡ length (known r.place.place).seen) };
 }
 
 impl ImageReader {
-    /// From now on no look answers of fewer sets than `told` names; where it comes of a seal, each look answers of all
-    /// sets of the board. It takes no memory.
+    /// From now on no look answers of fewer sets than `told` names, nor than were seen before; where it comes of a seal,
+    /// each look answers of all sets of the board. It takes no memory.
     pub fn learn(&mut self, told: Told)
         requires { told.queue ≡ self.old.queue }
-        ensures { self.new ≡ after_learn self.old told }
+        ensures learnt { self.new ≡ after_learn self.old told }
+        ensures seen { length self.old.seen ≤ self.old.least }
     {
         let Told {
             queue: _,

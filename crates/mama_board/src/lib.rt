@@ -10,7 +10,8 @@
 //! - k is never smaller than at an earlier look of this reader, nor than the number of sets that a `Told` names which
 //!   the reader learnt ([`ImageReader::learn`]). Once it learnt the `Told` of a seal, k is all sets of the board.
 //! - A look takes no lock and waits for nobody. `set` and `seal` wait for readers that still look at what was shown
-//!   before the last step.
+//!   before the last step. So the images cannot stand behind a lock: to take one wants a `Wait`, which `fixed` and `read`
+//!   are not given, and such a body does not compile.
 //!
 //! `specs/Values.antt` says what clauses see of a board, a `Told` and a reader, and what each call makes of them.
 //!

@@ -15,4 +15,4 @@ returns-clause-look g c =
     let onward : IsOnward v w = search rules in
     let here : to ≡ length w.seen = search rules in
     subst (λ (old : ReaderValue). HasLooked old (seen_to i.queue to w i.sealed to)) c.self.view_is
-    (has_looked i.queue i.version i.least v w i.sealed onward c.self.invariant.0 to here c.self.invariant.1 c.self.invariant.2 c.if-self.false)
+    (has_looked i.queue i.version i.least v w i.sealed onward c.self.invariant.1 to here c.self.invariant.2 c.self.invariant.3 c.if-self.false)

@@ -1,12 +1,12 @@
-use Rattle.std.proofs.Common.{◌≡◌, List, [], ◌∷◌, ◌++◌, length, drop, fold, sym, ap, ◌∙◌}
+use Rattle.std.proofs.Common.{◌≡◌, List, [], ◌∷◌, ◌++◌, length, drop, fold, sym, ap, ◌∙◌, inr}
 use Rattle.left_right.specs.Sides.{view}
 use Rattle.mama_board.specs.declared.change.Change.{Change}
-use Rattle.mama_board.specs.declared.change.Change.TheVariants.{Seal}
 use Rattle.mama_board.specs.declared.view.View.{View}
+use Rattle.mama_board.specs.Changes.{after_shown, after_refused}
 use Rattle.mama_board.specs.Images.{ImagesValue, after_change, sets_in}
-use Rattle.mama_board.specs.Values.{after_sealing}
-use Rattle.mama_board.proofs.Boards.{board_of, counts, seal_waits, sealing_shown}
-use Rattle.mama_board.proofs.board.Board.seal.Goals as goal
+use Rattle.mama_board.specs.Values.{BoardValue}
+use Rattle.mama_board.proofs.Boards.{board_of, counts, change_waits, change_shown}
+use Rattle.mama_board.proofs.board.Board.show_change.Goals as goal
 
 pub returns-in_default-show-clause-err : goal.returns-in_default-show-clause-err
 returns-in_default-show-clause-err g c =
@@ -15,13 +15,14 @@ returns-in_default-show-clause-err g c =
     let now = c.show.new.writer in
     let desk = c.in-Ok.ensures.desk in
     let failed = c.in_default-show.ensures in
+    let change : Change = c.args.change in
     let changes : List Change = drop w.behind w.log.items in
-    let all : drop now.behind now.log.items ≡ changes ++ Seal ∷ [] = failed.err_log ∙ c.in-Ok.ensures.pending in
+    let all : drop now.behind now.log.items ≡ changes ++ change ∷ [] = failed.err_log ∙ c.in-Ok.ensures.pending in
     let seen : (view now.desk.place).seen ≡ (view w.desk.place).seen = ap (λ (v : View). v.seen) failed.err_known ∙ (λ k. (view (desk k).place).seen) in
     let sealed : now.desk.shown.value.sealed ≡ w.desk.shown.value.sealed = ap (λ (x : ImagesValue). x.sealed) failed.err_value ∙ (λ k. (desk k).shown.value.sealed) in
-    let same : board_of i.queue (view now.desk.place).seen (drop now.behind now.log.items) now.desk.shown.value.sealed ≡ board_of i.queue (view w.desk.place).seen (changes ++ Seal ∷ []) w.desk.shown.value.sealed =
+    let same : board_of i.queue (view now.desk.place).seen (drop now.behind now.log.items) now.desk.shown.value.sealed ≡ board_of i.queue (view w.desk.place).seen (changes ++ change ∷ []) w.desk.shown.value.sealed =
     λ k. board_of i.queue (seen k) (all k) (sealed k) in
-    same ∙ (seal_waits i.queue (view w.desk.place).seen changes w.desk.shown.value w.desk.shown.value.sealed ∙ c.self.view_is)
+    inr (same ∙ (change_waits i.queue (view w.desk.place).seen changes w.desk.shown.value change w.desk.shown.value.sealed ∙ ap (λ (b : BoardValue). after_refused b change) c.self.view_is))
 
 pub invariant_of-self-2 : goal.invariant_of-self-2
 invariant_of-self-2 g c =
@@ -45,11 +46,13 @@ returns-clause-ok g c =
     let logged = c.append.new.self in
     let desk = c.in-Ok.ensures.desk in
     let shown = c.in-Ok-show.ensures in
+    let change : Change = c.args.change in
     let changes : List Change = drop w.behind w.log.items in
-    let all : drop logged.behind logged.log.items ≡ changes ++ Seal ∷ [] = c.in-Ok.ensures.pending in
-    let seen : (view now.desk.place).seen ≡ (view w.desk.place).seen ++ sets_in (changes ++ Seal ∷ []) = ap (λ (v : View). v.seen) shown.known ∙ (λ k. (view (desk k).place).seen ++ sets_in (all k)) in
-    let sealed : now.desk.shown.value.sealed ≡ (fold after_change w.desk.shown.value (changes ++ Seal ∷ [])).sealed = ap (λ (x : ImagesValue). x.sealed) shown.value ∙ (λ k. (fold after_change (desk k).shown.value (all k)).sealed) in
+    let all : drop logged.behind logged.log.items ≡ changes ++ change ∷ [] = c.in-Ok.ensures.pending in
+    let seen : (view now.desk.place).seen ≡ (view w.desk.place).seen ++ sets_in (changes ++ change ∷ []) = ap (λ (v : View). v.seen) shown.known ∙ (λ k. (view (desk k).place).seen ++ sets_in (all k)) in
+    let sealed : now.desk.shown.value.sealed ≡ (fold after_change w.desk.shown.value (changes ++ change ∷ [])).sealed = ap (λ (x : ImagesValue). x.sealed) shown.value ∙ (λ k. (fold after_change (desk k).shown.value (all k)).sealed) in
     let same : board_of i.queue (view now.desk.place).seen (drop now.behind now.log.items) now.desk.shown.value.sealed
-    ≡ board_of i.queue ((view w.desk.place).seen ++ sets_in (changes ++ Seal ∷ [])) [] (fold after_change w.desk.shown.value (changes ++ Seal ∷ [])).sealed =
+    ≡ board_of i.queue ((view w.desk.place).seen ++ sets_in (changes ++ change ∷ [])) [] (fold after_change w.desk.shown.value (changes ++ change ∷ [])).sealed =
     λ k. board_of i.queue (seen k) (shown.none k) (sealed k) in
-    c.told.ensures.same ∙ (same ∙ (sealing_shown i.queue (view w.desk.place).seen changes w.desk.shown.value ∙ ap after_sealing c.self.view_is))
+    let unsealed = ap (λ (b : BoardValue). b.sealed) c.self.view_is ∙ c.requires in
+    c.told.ensures.same ∙ (same ∙ (change_shown i.queue (view w.desk.place).seen changes w.desk.shown.value change unsealed ∙ ap (λ (b : BoardValue). after_shown b change) c.self.view_is))
