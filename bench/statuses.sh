@@ -53,6 +53,13 @@ done
 told 1 'mama_run: not legal' check "$examples/gap.script" "$examples/damaged.log"
 wrote "$scratch/late"
 told 2 'mama_run: bad words' play_0
+told 2 'mama_run: bad words' "$program" gen 05
+told 0 '' "$program" gen 5
+cp "$scratch/out" "$scratch/five.script"
+told 0 '' serial "$scratch/five.script"
+cp "$scratch/out" "$scratch/five.log"
+told 0 '' check "$scratch/five.script" "$scratch/five.log"
+wrote "$scratch/legal"
 told 3 'mama_run: bad script, line 3, fault 3' of_text serial 'mama script 1\nqueues 1\n'
 told 4 'mama_run: over limit 8, line 4' fields_65
 told 4 'mama_run: over limit 1, line 0' too_long

@@ -1,6 +1,7 @@
 -- What an answer says of the text that was given.
-use Rattle.std.proofs.Common.{◌≡◌, ◌⊎◌, ℕ, List, [], Option, Some, None, Ok, Err, inl, inr, ◌∙◌, sym, ap, subst, arith}
+use Rattle.std.proofs.Common.{◌≡◌, ◌⊎◌, ℕ, List, [], Option, Some, None, Ok, Err, refl, inl, inr, ◌∙◌, sym, ap, subst, arith}
 use Rattle.std.specs.Prelude.{IfSome}
+use Rattle.mama_edge.specs.Told.{LostAtMost}
 use Rattle.mama_script.specs.Reading.{script_in, at_line}
 use Rattle.mama_script.specs.First.{IsFirst}
 use Rattle.mama_script.specs.declared.fault.Flaw.{Flaw}
@@ -28,6 +29,12 @@ text_is a b e = cc
 pub gave_is : (old new : Option (List ℕ)) (items text : List ℕ) → IfSome old (λ left. (items ≡ left) × (new ≡ Some [])) → old ≡ Some text → items ≡ text
 gave_is None new items text gave e = absurd cc
 gave_is (Some left) new items text gave e = gave.0 ∙ text_is left text e
+
+-- ---- where nothing is read, no more than the limit is gone
+
+pub nothing_lost : (left : Option (List ℕ)) → LostAtMost left left 67108864
+nothing_lost None = (0, omega arith, tt)
+nothing_lost (Some told) = (0, omega arith, (omega arith, refl))
 
 -- ---- the clock was called only for an accepted script
 

@@ -50,3 +50,10 @@ OnSilent s.Ok P = ⊤
 OnSilent (s.WriteFault written) P = ⊤
 OnSilent (s.NotLegal rule actor) P = ⊤
 OnSilent _ P = P
+
+-- how gen ends: all was written, a part was, or no memory was found
+abbrev pub IsEndOfGen : Status → Type 0
+IsEndOfGen s.Ok = ⊤
+IsEndOfGen (s.WriteFault written) = ⊤
+IsEndOfGen s.OutOfMemory = ⊤
+IsEndOfGen _ = ⊥

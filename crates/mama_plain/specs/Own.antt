@@ -1,9 +1,10 @@
--- believed: What holds of every log that serial wrote, and what check says of it.
+-- believed: What holds of every log that serial wrote, what check says of it, and of every script that gen wrote.
 use Rattle.std.specs.Prelude.{◌≡◌, ℕ, true, List, ◌++◌, codes, Option}
 use Rattle.mama_record.specs.LogText.{line}
 use Rattle.mama_check.specs.declared.verdict.Verdict.{Verdict}
 use Rattle.mama_check.specs.declared.verdict.Verdict.TheVariants.{Legal}
-use Rattle.mama_plain.specs.Answers.{IsLogOf}
+use Rattle.mama_gen.specs.Generated.{generated}
+use Rattle.mama_plain.specs.Answers.{IsAccepted, IsLogOf}
 use Rattle.mama_plain.specs.Promises.{IsLawfulRun}
 use Rattle.mama_plain.specs.Verdict.{IsChecked, IsVerdictOf}
 
@@ -23,3 +24,7 @@ pub record IsFound (text : List ℕ) : Type 0 where
 -- so it is with every log of serial
 abbrev pub LogsOfSerialAreLegal : Type 0
 LogsOfSerialAreLegal = (before after : Option (List ℕ)) (text log : List ℕ) → IsLogOf before after text log → IsFound (with_log text log)
+
+-- the text of each seed is an accepted script, so serial finds no fault in it
+abbrev pub ScriptsOfSeedsAreAccepted : Type 0
+ScriptsOfSeedsAreAccepted = (seed : ℕ) → IsAccepted (generated seed)

@@ -1,7 +1,7 @@
 ghost use Rattle.std.specs.Prelude.{◌≡◌, ◌≢◌, ◌+◌, ◌^◌, ◌<◌, ℕ, List, ◌∷◌, ◌++◌, None, Some, Bool, Err, IfOk, IfErr, OnOk, length, take, codes};
 ghost use Rattle.mama_edge.specs.Count.{Rose};
 ghost use Rattle.mama_edge.specs.Decimal.{decimal};
-ghost use Rattle.mama_edge.specs.Told.{Appended};
+ghost use Rattle.mama_edge.specs.Told.{Appended, Lost, LostAtMost};
 ghost use Rattle.mama_script.specs.Script.{ScriptData};
 ghost use Rattle.mama_script.specs.Reading.{script_in};
 ghost use Rattle.mama_script.specs.Tree.{IsScript, script_text};
@@ -18,12 +18,13 @@ ghost use Rattle.mama_plain.specs.Verdict.{IsChecked, IsVerdictOf, IsBadLog};
 ghost use Rattle.mama_plain.specs.Verdict as said;
 ghost use Rattle.mama_plain.specs.Judging.{IsJudged, IsNoVerdict};
 ghost use Rattle.mama_plain.specs.Causes.{answer_in};
-ghost use Rattle.mama_plain.specs.Answers.{OnSilent};
+ghost use Rattle.mama_plain.specs.Answers.{GaveAll, OnSilent};
 
 use crate::parts::{cut_at_log, line_count};
+use crate::run::MOST_INPUT;
 use crate::status::{Status, script_status};
 use mama_check::{Actor, Verdict, check};
-use mama_edge::{Sink, print_u64, write_all_counted};
+use mama_edge::{ReadAll, Sink, Source, print_u64, read_all, write_all_counted};
 use mama_log_read::{LogFault, parse_log};
 use mama_memory::OutOfMemory;
 use mama_script::{Script, ScriptFault, first_fault_is_told, parse};
@@ -41,8 +42,42 @@ pub enum NoVerdict {
     Memory,
 }
 
+/// Judges what the source gives, which is a script, a line `log`, and a log, and writes the verdict.
+pub(crate) fn judge_input<S: Source, K: Sink>(alloc: Global, source: &mut S, sink: &mut K) -> Status
+    ensures words { result ≢ Status.BadWords }
+    ensures read_fault { result ≡ Status.ReadFault → Rose (S.faults source.old) (S.faults source.new) }
+    ensures write_fault { (written : ℕ) → result ≡ Status.WriteFault written → Rose (K.faults sink.old) (K.faults sink.new) }
+    ensures read_part { result ≡ Status.ReadFault → LostAtMost (S.left source.old) (S.left source.new) 67108864 }
+    ensures memory_part { result ≡ Status.OutOfMemory → LostAtMost (S.left source.old) (S.left source.new) 67108864 }
+    ensures too_long { (limit : ℕ) → result ≡ Status.OverLimit 0 limit → (limit ≡ 1) × Lost (S.left source.old) (S.left source.new) 67108865 }
+    ensures silent { OnSilent result (sink.new ≡ sink.old) }
+    ensures bad_script { (line fault : ℕ) → result ≡ Status.BadScript line fault
+        → (text : List ℕ) × GaveAll (S.left source.old) (S.left source.new) text × (script_in (parts.script_part text) ≡ Err (script_fault.Bad line fault)) }
+    ensures over_limit { (line limit : ℕ) → result ≡ Status.OverLimit line limit → line ≢ 0
+        → (text : List ℕ) × GaveAll (S.left source.old) (S.left source.new) text × (script_in (parts.script_part text) ≡ Err (script_fault.OverLimit line limit)) }
+    ensures bad_log { (line : ℕ) → result ≡ Status.BadLog line
+        → (text : List ℕ) × GaveAll (S.left source.old) (S.left source.new) text × IsBadLog (parts.script_part text) (parts.log_part text) line }
+    ensures fitting { (text : List ℕ) → S.left source.old ≡ Some text → IsChecked text → (line : ℕ) → result ≢ Status.BadLog line }
+    ensures fitting_script { (text : List ℕ) → S.left source.old ≡ Some text → IsChecked text
+        → ((line fault : ℕ) → result ≢ Status.BadScript line fault) × ((line limit : ℕ) → result ≡ Status.OverLimit line limit → line ≡ 0) }
+    ensures legal { result ≡ Status.Ok → (causal : Bool) × (text : List ℕ) × (out : List ℕ)
+        × GaveAll (S.left source.old) (S.left source.new) text × IsVerdictOf text (verdicts.Legal causal) out × Appended (K.written sink.old) (K.written sink.new) out }
+    ensures not_legal { (rule : ℕ) (actor : Actor) → result ≡ Status.NotLegal rule actor → (text : List ℕ) × (out : List ℕ)
+        × GaveAll (S.left source.old) (S.left source.new) text × IsVerdictOf text (verdicts.NotLegal rule actor) out × Appended (K.written sink.old) (K.written sink.new) out }
+    ensures part { (written : ℕ) → result ≡ Status.WriteFault written → (verdict : Verdict) × (text : List ℕ) × (out : List ℕ)
+        × GaveAll (S.left source.old) (S.left source.new) text × IsVerdictOf text verdict out × (written < length out) × Appended (K.written sink.old) (K.written sink.new) (take written out) }
+{
+    let text = match read_all(alloc, source, MOST_INPUT) {
+        Ok(text) => text,
+        Err(ReadAll::ReadFault) => return Status::ReadFault,
+        Err(ReadAll::TooLong) => return Status::OverLimit { line: 0, limit: 1 },
+        Err(ReadAll::OutOfMemory) => return Status::OutOfMemory,
+    };
+    write_verdict(alloc, text.as_slice(), sink)
+}
+
 /// Writes the verdict on a text, which is a script, a line `log`, and a log.
-pub(crate) fn write_verdict<K: Sink>(alloc: Global, text: &[u8], sink: &mut K) -> Status
+fn write_verdict<K: Sink>(alloc: Global, text: &[u8], sink: &mut K) -> Status
     ensures words { result ≢ Status.BadWords }
     ensures read { result ≢ Status.ReadFault }
     ensures write_fault { (written : ℕ) → result ≡ Status.WriteFault written → Rose (K.faults sink.old) (K.faults sink.new) }

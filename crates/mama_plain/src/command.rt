@@ -1,6 +1,8 @@
 ghost use Rattle.std.specs.Prelude.{◌≡◌, [], ◌∷◌, map, string_bytes};
 ghost use Rattle.mama_plain.specs.Chosen.{command_in};
 
+use mama_words::read_number;
+
 /// A command of the program.
 #[derive(Clone, Copy, Debug, PartialEq, Eq)]
 pub enum Command {
@@ -8,6 +10,8 @@ pub enum Command {
     Serial,
     /// Judges whether a log is that of a legal run of its script.
     Check,
+    /// Writes the script of a seed.
+    Gen { seed: u64 },
 }
 
 /// The command that the words are.
@@ -16,6 +20,7 @@ pub(crate) fn command_of(words: &[String]) -> Option<Command>
 {
     match words {
         [word] => command_named(word.as_str()),
+        [word, seed] => command_with(word.as_str(), seed.as_str()),
         _ => None,
     }
 }
@@ -31,4 +36,15 @@ fn command_named(name: &str) -> Option<Command>
     } else {
         None
     }
+}
+
+/// The command of this name that a second word is given to.
+fn command_with(name: &str, word: &str) -> Option<Command>
+    ensures { result ≡ command_in (name.now ∷ word.now ∷ []) }
+{
+    if name != "gen" {
+        return None;
+    }
+    let seed = read_number(word.as_bytes())?;
+    Some(Command::Gen { seed })
 }

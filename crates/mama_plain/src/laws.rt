@@ -1,7 +1,8 @@
 ghost use Rattle.mama_plain.specs.Promises.{LegalRecordsKeepPromises};
-ghost use Rattle.mama_plain.specs.Own.{LogsOfSerialAreLawful, LogsOfSerialAreLegal};
+ghost use Rattle.mama_plain.specs.Own.{LogsOfSerialAreLawful, LogsOfSerialAreLegal, ScriptsOfSeedsAreAccepted};
 
 use mama_check::legal_records_are_true;
+use mama_gen::seeds_make_scripts;
 use mama_laws_causal::rounds_are_causal;
 use mama_laws_legal::round_is_legal;
 
@@ -27,4 +28,11 @@ pub fn logs_of_serial_are_legal()
     ensures { LogsOfSerialAreLegal }
 {
     logs_of_serial_are_lawful();
+}
+
+/// A law: the text of each seed, which `gen` writes, is an accepted script.
+pub fn scripts_of_seeds_are_accepted()
+    ensures { ScriptsOfSeedsAreAccepted }
+{
+    seeds_make_scripts();
 }

@@ -1,9 +1,9 @@
 //! The program's command over a source of bytes, a sink of bytes and a clock.
 //!
-//! [`run_plain`] plays a script and writes its log, or judges a log and writes the verdict. What it promises stands in four
-//! files: `specs/Answers.antt` says what a log tells, `specs/Verdict.antt` what a verdict says, `specs/Promises.antt` lists
-//! what holds of each run, and `specs/Own.antt` what a verdict on a log of [`run_plain`] is. [`Status`] is how it ended, and
-//! gives the exit status of a program.
+//! [`run_plain`] plays a script and writes its log, judges a log and writes the verdict, or writes the script of a seed. What
+//! it promises stands in four files: `specs/Answers.antt` says what a log tells, `specs/Verdict.antt` what a verdict says,
+//! `specs/Promises.antt` lists what holds of each run, and `specs/Own.antt` what is found of a log or a script that
+//! [`run_plain`] wrote. [`Status`] is how it ended, and gives the exit status of a program.
 #![tactic(auto)]
 
 mod check;
@@ -11,10 +11,14 @@ mod command;
 mod laws;
 mod parts;
 mod run;
+mod seed;
 mod status;
 
 pub use check::NoVerdict;
 pub use command::Command;
-pub use laws::{legal_records_keep_promises, logs_of_serial_are_lawful, logs_of_serial_are_legal};
+pub use laws::{
+    legal_records_keep_promises, logs_of_serial_are_lawful, logs_of_serial_are_legal,
+    scripts_of_seeds_are_accepted,
+};
 pub use run::{MOST_INPUT, NoLog, run_plain};
 pub use status::Status;

@@ -11,16 +11,18 @@ ghost use Rattle.mama_rules_rounds.specs.Round.{IsRound};
 ghost use Rattle.mama_check.specs.declared.verdict.Actor.{Actor};
 ghost use Rattle.mama_check.specs.declared.verdict.Verdict.{Verdict};
 ghost use Rattle.mama_check.specs.declared.verdict.Verdict.TheVariants as verdicts;
-ghost use Rattle.mama_plain.specs.Command.{is_serial, is_check, is_command};
+ghost use Rattle.mama_gen.specs.Generated.{generated};
+ghost use Rattle.mama_plain.specs.Command.{is_serial, is_check, is_command, seed_in};
 ghost use Rattle.mama_plain.specs.Parts.{script_part, log_part};
 ghost use Rattle.mama_plain.specs.Verdict.{IsChecked, IsVerdictOf, IsBadLog};
-ghost use Rattle.mama_plain.specs.Answers.{GaveAll, IsAccepted, IsLogOf, OnUnplayed, OnSilent};
+ghost use Rattle.mama_plain.specs.Answers.{GaveAll, IsAccepted, IsLogOf, IsEndOfGen, OnUnplayed, OnSilent};
 ghost use Rattle.mama_plain.specs.Causes.{IsCause};
 ghost use Rattle.mama_plain.specs.Promises.{KeepsPromises, IsLawfulRun};
 
-use crate::check::write_verdict;
+use crate::check::judge_input;
 use crate::command::{Command, command_of};
 use crate::laws::{legal_records_keep_promises, logs_of_serial_are_lawful};
+use crate::seed::write_script;
 use crate::status::{Status, script_status};
 use mama_check::legal_records_are_formed;
 use mama_drive::serial;
@@ -46,7 +48,7 @@ pub enum NoLog {
 
 /// Serves the command that the words name. `serial` reads a script from the source, plays it on one thread and writes
 /// its log to the sink. `check` reads a script, a line `log`, and a log, and writes whether the log is that of a legal run
-/// of the script. It always returns.
+/// of the script. `gen` with a seed reads nothing, and writes the script of that seed. It always returns.
 ///
 /// At `Ok` of `serial` the log is that of the record that the script has where its clients read the moments of that record:
 /// `IsLogOf`; and that record keeps all promises of a run: `IsLawfulRun`. Where the clock tells its moments, those of the
@@ -130,22 +132,64 @@ pub fn run_plain<S: Source, K: Sink, C: Clock>(
     ensures verdict_part { is_check (map string_bytes words.now) ≡ true → (written : ℕ) → result ≡ Status.WriteFault written → (verdict : Verdict) × (text : List ℕ) × (out : List ℕ)
         × GaveAll (S.left source.old) (S.left source.new) text × IsVerdictOf text verdict out × (written < length out) × Appended (K.written sink.old) (K.written sink.new) (take written out) }
     ensures legal_promises { (causal : Bool) (text out : List ℕ) (v : IsVerdictOf text (verdicts.Legal causal) out) → KeepsPromises v.script v.run }
+
+    // GEN
+
+    // Nothing is read, and no answer comes but that all was written, that a part was, or want of memory. What is written
+    // is the text of the script of the seed, and at a write fault a part of it, which is not the whole.
+    ensures seed_only { (seed : ℕ) → seed_in (map string_bytes words.now) ≡ Some seed → (source.new ≡ source.old) × IsEndOfGen result }
+    ensures seed_ok { (seed : ℕ) → seed_in (map string_bytes words.now) ≡ Some seed → result ≡ Status.Ok
+        → Appended (K.written sink.old) (K.written sink.new) (generated seed) }
+    ensures seed_part { (seed : ℕ) → seed_in (map string_bytes words.now) ≡ Some seed → (written : ℕ) → result ≡ Status.WriteFault written
+        → (written < length (generated seed)) × Appended (K.written sink.old) (K.written sink.new) (take written (generated seed)) }
 {
     legal_records_keep_promises();
     logs_of_serial_are_lawful();
-    let Some(command) = command_of(words) else {
-        return Status::BadWords;
-    };
+    match command_of(words) {
+        Some(Command::Serial) => play_input(alloc, source, sink, clock),
+        Some(Command::Check) => judge_input(alloc, source, sink),
+        Some(Command::Gen { seed }) => write_script(alloc, seed, sink),
+        None => Status::BadWords,
+    }
+}
+
+/// Plays the script that the source gives, and writes its log.
+fn play_input<S: Source, K: Sink, C: Clock>(
+    alloc: Global,
+    source: &mut S,
+    sink: &mut K,
+    clock: &mut C,
+) -> Status
+    ensures words { result ≢ Status.BadWords }
+    ensures read_fault { result ≡ Status.ReadFault → Rose (S.faults source.old) (S.faults source.new) }
+    ensures write_fault { (written : ℕ) → result ≡ Status.WriteFault written → Rose (K.faults sink.old) (K.faults sink.new) }
+    ensures read_part { result ≡ Status.ReadFault → LostAtMost (S.left source.old) (S.left source.new) 67108864 }
+    ensures memory_part { result ≡ Status.OutOfMemory → LostAtMost (S.left source.old) (S.left source.new) 67108864 }
+    ensures too_long { (limit : ℕ) → result ≡ Status.OverLimit 0 limit → (limit ≡ 1) × Lost (S.left source.old) (S.left source.new) 67108865 }
+    ensures silent { OnSilent result (sink.new ≡ sink.old) }
+    ensures unplayed { OnUnplayed result (clock.new ≡ clock.old) }
+    ensures called { (clock.new ≡ clock.old) ⊎ ((text : List ℕ) × GaveAll (S.left source.old) (S.left source.new) text × IsAccepted text) }
+    ensures bad_log { (line : ℕ) → result ≢ Status.BadLog line }
+    ensures not_legal { (rule : ℕ) (actor : Actor) → result ≢ Status.NotLegal rule actor }
+    ensures bad_script { (line fault : ℕ) → result ≡ Status.BadScript line fault
+        → (text : List ℕ) × GaveAll (S.left source.old) (S.left source.new) text × (script_in text ≡ Err (script.Bad line fault)) }
+    ensures over_limit { (line limit : ℕ) → result ≡ Status.OverLimit line limit → line ≢ 0
+        → (text : List ℕ) × GaveAll (S.left source.old) (S.left source.new) text × (script_in text ≡ Err (script.OverLimit line limit)) }
+    ensures accepted { (text : List ℕ) → S.left source.old ≡ Some text → IsAccepted text
+        → ((line fault : ℕ) → result ≢ Status.BadScript line fault) × ((line limit : ℕ) → result ≡ Status.OverLimit line limit → line ≡ 0) }
+    ensures ok { result ≡ Status.Ok → (text log : List ℕ) × GaveAll (S.left source.old) (S.left source.new) text
+        × IsLogOf (C.left clock.old) (C.left clock.new) text log × Appended (K.written sink.old) (K.written sink.new) log }
+    ensures part { (written : ℕ) → result ≡ Status.WriteFault written
+        → (text log : List ℕ) × GaveAll (S.left source.old) (S.left source.new) text × IsLogOf (C.left clock.old) (C.left clock.new) text log
+        × (written < length log) × Appended (K.written sink.old) (K.written sink.new) (take written log) }
+{
     let text = match read_all(alloc, source, MOST_INPUT) {
         Ok(text) => text,
         Err(ReadAll::ReadFault) => return Status::ReadFault,
         Err(ReadAll::TooLong) => return Status::OverLimit { line: 0, limit: 1 },
         Err(ReadAll::OutOfMemory) => return Status::OutOfMemory,
     };
-    match command {
-        Command::Serial => write_log(alloc, text.as_slice(), sink, clock),
-        Command::Check => write_verdict(alloc, text.as_slice(), sink),
-    }
+    write_log(alloc, text.as_slice(), sink, clock)
 }
 
 /// Plays the script that a text spells, and writes its log.

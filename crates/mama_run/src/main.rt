@@ -1,5 +1,5 @@
-//! Plays scripts of publishers, subscribers and link faults, and writes what every actor took and called back; and judges
-//! whether such a log is that of a legal run.
+//! Plays scripts of publishers, subscribers and link faults, and writes what every actor took and called back; judges
+//! whether such a log is that of a legal run; and writes the scripts of seeds.
 //!
 //! The program is [`run_plain`] over standard input and output and the clock; it tells on standard error how it ended, and
 //! by its exit status.
@@ -16,11 +16,13 @@ use std::{env, io};
 
 const HELP: &str = "usage: mama_run serial
        mama_run check
+       mama_run gen SEED
 
 serial     reads a script from standard input, plays it on one thread, and writes its log to standard output
 check      reads a script, a line that is just log, and a log from standard input, and writes to standard output whether
            the log is that of a legal run of the script: 'legal' and a line 'causal yes' or 'causal no', or
            'not legal L', the number of the first rule that is broken, and the first actor that breaks it
+gen        reads nothing, and writes to standard output the script of a seed, a decimal number from 0 to 2^64 - 1
 --help     writes this text
 --version  writes the version
 

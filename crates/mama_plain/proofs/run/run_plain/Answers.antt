@@ -1,114 +1,311 @@
-use Rattle.std.proofs.Common.{List, ℕ, Bool, ◌<◌, ◌≤◌, length, take, map, string_bytes, sym, ap, subst, ◌∙◌}
+use Rattle.std.proofs.Common.{ℕ, ◌<◌, length, take, map, string_bytes, refl, sym, ap, subst, true≢false, ◌∙◌}
 use Rattle.std.specs.Global.{Global}
-use Rattle.mama_plain.specs.declared.command.Command.{Command}
-use Rattle.mama_plain.specs.Parts.{script_part, log_part}
 use Rattle.mama_edge.specs.Told.{Appended}
-use Rattle.mama_check.specs.declared.verdict.Verdict.{Verdict}
-use Rattle.mama_check.specs.declared.verdict.Verdict.TheVariants.{Legal, NotLegal}
-use Rattle.mama_plain.specs.Verdict.{IsChecked, IsVerdictOf, IsBadLog}
-use Rattle.mama_plain.specs.Answers.{IsAccepted}
-use Rattle.mama_plain.proofs.CommandLemmas.{some_command, check_is, not_both}
-use Rattle.mama_plain.proofs.AnswerLemmas.{gave_is, accepted_of, accepted_no_fault, accepted_no_limit, checked_no_fault, checked_no_limit}
+use Rattle.mama_gen.specs.Generated.{generated}
+use Rattle.mama_plain.specs.declared.command.Command.{Command}
+use Rattle.mama_plain.specs.declared.command.Command.TheVariants.{Serial, Check, Gen}
+use Rattle.mama_plain.specs.declared.status.Status.{Status}
+use Rattle.mama_plain.specs.Answers.{IsEndOfGen}
+use Rattle.mama_plain.proofs.AnswerLemmas.{nothing_lost}
+use Rattle.mama_plain.proofs.CommandLemmas.{some_command, serial_is, check_is, gen_is, none_is, some_is, none_no_seed, serial_no_check, serial_no_seed, check_no_seed, one_seed}
 use Rattle.mama_plain.proofs.run.run_plain.Goals as goal
 
-pub returns-clause-bad_log : goal.returns-clause-bad_log
-returns-clause-bad_log g c = λ line is.
-    let chosen = ap (λ (command : Command). some_command command) (sym c.in-Check.is) ∙ c.in-Some.ensures in (
-      check_is (map (string_bytes {Z = Global}) c.args.words.now) chosen,
-      c.in-Ok.text.items,
-      record { whole = c.in-Ok.ensures.whole; within = subst (λ (count : ℕ). count ≤ 67108864) c.in-Ok.text.ok.0 c.in-Ok.ensures.within },
-      subst (λ (text : List ℕ). IsBadLog (script_part text) (log_part text) line) c.as_slice-in-Check.ensures.value (c.write_verdict.ensures.bad_log line is),
-    )
+pub returns-in-Some-Serial-clause-bad_words : goal.returns-in-Some-Serial-clause-bad_words
+returns-in-Some-Serial-clause-bad_words g c =
+    let words = map (string_bytes {Z = Global}) c.args.words.now in
+    let chosen = ap (λ (command : Command). some_command command) (sym c.in-Some-Serial.field-0-is) ∙ c.in-Some-Serial.ensures in
+    (λ is. absurd (c.play_input.ensures.words is), λ none. absurd (true≢false (sym (some_is words Serial chosen) ∙ none)))
 
-pub returns-clause-fitting : goal.returns-clause-fitting
-returns-clause-fitting g c = λ text left checked.
-    c.write_verdict.ensures.fitting (subst (λ (given : List ℕ). IsChecked given) (sym (c.as_slice-in-Check.ensures.value ∙ gave_is _ _ _ text c.in-Ok.ensures.whole left)) checked)
+pub returns-in-Some-Serial-clause-unread : goal.returns-in-Some-Serial-clause-unread
+returns-in-Some-Serial-clause-unread g c =
+    λ is. absurd (c.play_input.ensures.words is)
 
-pub returns-clause-not_legal : goal.returns-clause-not_legal
-returns-clause-not_legal g c = λ rule actor is.
-    let chosen = ap (λ (command : Command). some_command command) (sym c.in-Check.is) ∙ c.in-Some.ensures in
+pub returns-in-Some-Serial-clause-still : goal.returns-in-Some-Serial-clause-still
+returns-in-Some-Serial-clause-still g c =
+    let words = map (string_bytes {Z = Global}) c.args.words.now in
+    let chosen = ap (λ (command : Command). some_command command) (sym c.in-Some-Serial.field-0-is) ∙ c.in-Some-Serial.ensures in
+    λ other. absurd (true≢false (sym (serial_is words chosen) ∙ other))
+
+pub returns-in-Some-Serial-clause-bad_log : goal.returns-in-Some-Serial-clause-bad_log
+returns-in-Some-Serial-clause-bad_log g c =
+    λ line is. absurd (c.play_input.ensures.bad_log line is)
+
+pub returns-in-Some-Serial-clause-fitting : goal.returns-in-Some-Serial-clause-fitting
+returns-in-Some-Serial-clause-fitting g c =
+    λ text left checked line. c.play_input.ensures.bad_log line
+
+pub returns-in-Some-Serial-clause-not_legal : goal.returns-in-Some-Serial-clause-not_legal
+returns-in-Some-Serial-clause-not_legal g c =
+    λ rule actor is. absurd (c.play_input.ensures.not_legal rule actor is)
+
+pub returns-in-Some-Serial-clause-bad_script_part : goal.returns-in-Some-Serial-clause-bad_script_part
+returns-in-Some-Serial-clause-bad_script_part g c =
+    let words = map (string_bytes {Z = Global}) c.args.words.now in
+    let chosen = ap (λ (command : Command). some_command command) (sym c.in-Some-Serial.field-0-is) ∙ c.in-Some-Serial.ensures in
+    λ check. absurd (serial_no_check words (serial_is words chosen) check)
+
+pub returns-in-Some-Serial-clause-over_limit_part : goal.returns-in-Some-Serial-clause-over_limit_part
+returns-in-Some-Serial-clause-over_limit_part g c =
+    let words = map (string_bytes {Z = Global}) c.args.words.now in
+    let chosen = ap (λ (command : Command). some_command command) (sym c.in-Some-Serial.field-0-is) ∙ c.in-Some-Serial.ensures in
+    λ check. absurd (serial_no_check words (serial_is words chosen) check)
+
+pub returns-in-Some-Serial-clause-fitting_script : goal.returns-in-Some-Serial-clause-fitting_script
+returns-in-Some-Serial-clause-fitting_script g c =
+    let words = map (string_bytes {Z = Global}) c.args.words.now in
+    let chosen = ap (λ (command : Command). some_command command) (sym c.in-Some-Serial.field-0-is) ∙ c.in-Some-Serial.ensures in
+    λ check. absurd (serial_no_check words (serial_is words chosen) check)
+
+pub returns-in-Some-Serial-clause-legal : goal.returns-in-Some-Serial-clause-legal
+returns-in-Some-Serial-clause-legal g c =
+    let words = map (string_bytes {Z = Global}) c.args.words.now in
+    let chosen = ap (λ (command : Command). some_command command) (sym c.in-Some-Serial.field-0-is) ∙ c.in-Some-Serial.ensures in
+    λ check. absurd (serial_no_check words (serial_is words chosen) check)
+
+pub returns-in-Some-Serial-clause-verdict_part : goal.returns-in-Some-Serial-clause-verdict_part
+returns-in-Some-Serial-clause-verdict_part g c =
+    let words = map (string_bytes {Z = Global}) c.args.words.now in
+    let chosen = ap (λ (command : Command). some_command command) (sym c.in-Some-Serial.field-0-is) ∙ c.in-Some-Serial.ensures in
+    λ check. absurd (serial_no_check words (serial_is words chosen) check)
+
+pub returns-in-Some-Serial-clause-seed_only : goal.returns-in-Some-Serial-clause-seed_only
+returns-in-Some-Serial-clause-seed_only g c =
+    let words = map (string_bytes {Z = Global}) c.args.words.now in
+    let chosen = ap (λ (command : Command). some_command command) (sym c.in-Some-Serial.field-0-is) ∙ c.in-Some-Serial.ensures in
+    λ seed is. absurd (serial_no_seed words seed (serial_is words chosen) is)
+
+pub returns-in-Some-Serial-clause-seed_ok : goal.returns-in-Some-Serial-clause-seed_ok
+returns-in-Some-Serial-clause-seed_ok g c =
+    let words = map (string_bytes {Z = Global}) c.args.words.now in
+    let chosen = ap (λ (command : Command). some_command command) (sym c.in-Some-Serial.field-0-is) ∙ c.in-Some-Serial.ensures in
+    λ seed is. absurd (serial_no_seed words seed (serial_is words chosen) is)
+
+pub returns-in-Some-Serial-clause-seed_part : goal.returns-in-Some-Serial-clause-seed_part
+returns-in-Some-Serial-clause-seed_part g c =
+    let words = map (string_bytes {Z = Global}) c.args.words.now in
+    let chosen = ap (λ (command : Command). some_command command) (sym c.in-Some-Serial.field-0-is) ∙ c.in-Some-Serial.ensures in
+    λ seed is. absurd (serial_no_seed words seed (serial_is words chosen) is)
+
+pub returns-in-Some-Check-clause-bad_words : goal.returns-in-Some-Check-clause-bad_words
+returns-in-Some-Check-clause-bad_words g c =
+    let words = map (string_bytes {Z = Global}) c.args.words.now in
+    let chosen = ap (λ (command : Command). some_command command) (sym c.in-Some-Check.field-0-is) ∙ c.in-Some-Check.ensures in
+    (λ is. absurd (c.judge_input.ensures.words is), λ none. absurd (true≢false (sym (some_is words Check chosen) ∙ none)))
+
+pub returns-in-Some-Check-clause-unread : goal.returns-in-Some-Check-clause-unread
+returns-in-Some-Check-clause-unread g c =
+    λ is. absurd (c.judge_input.ensures.words is)
+
+pub returns-in-Some-Check-clause-bad_script : goal.returns-in-Some-Check-clause-bad_script
+returns-in-Some-Check-clause-bad_script g c =
+    let words = map (string_bytes {Z = Global}) c.args.words.now in
+    let chosen = ap (λ (command : Command). some_command command) (sym c.in-Some-Check.field-0-is) ∙ c.in-Some-Check.ensures in
+    λ serial. absurd (serial_no_check words serial (check_is words chosen))
+
+pub returns-in-Some-Check-clause-over_limit : goal.returns-in-Some-Check-clause-over_limit
+returns-in-Some-Check-clause-over_limit g c =
+    let words = map (string_bytes {Z = Global}) c.args.words.now in
+    let chosen = ap (λ (command : Command). some_command command) (sym c.in-Some-Check.field-0-is) ∙ c.in-Some-Check.ensures in
+    λ serial. absurd (serial_no_check words serial (check_is words chosen))
+
+pub returns-in-Some-Check-clause-accepted : goal.returns-in-Some-Check-clause-accepted
+returns-in-Some-Check-clause-accepted g c =
+    let words = map (string_bytes {Z = Global}) c.args.words.now in
+    let chosen = ap (λ (command : Command). some_command command) (sym c.in-Some-Check.field-0-is) ∙ c.in-Some-Check.ensures in
+    λ serial. absurd (serial_no_check words serial (check_is words chosen))
+
+pub returns-in-Some-Check-clause-ok : goal.returns-in-Some-Check-clause-ok
+returns-in-Some-Check-clause-ok g c =
+    let words = map (string_bytes {Z = Global}) c.args.words.now in
+    let chosen = ap (λ (command : Command). some_command command) (sym c.in-Some-Check.field-0-is) ∙ c.in-Some-Check.ensures in
+    λ serial. absurd (serial_no_check words serial (check_is words chosen))
+
+pub returns-in-Some-Check-clause-part : goal.returns-in-Some-Check-clause-part
+returns-in-Some-Check-clause-part g c =
+    let words = map (string_bytes {Z = Global}) c.args.words.now in
+    let chosen = ap (λ (command : Command). some_command command) (sym c.in-Some-Check.field-0-is) ∙ c.in-Some-Check.ensures in
+    λ serial. absurd (serial_no_check words serial (check_is words chosen))
+
+pub returns-in-Some-Check-clause-bad_log : goal.returns-in-Some-Check-clause-bad_log
+returns-in-Some-Check-clause-bad_log g c =
+    let words = map (string_bytes {Z = Global}) c.args.words.now in
+    let chosen = ap (λ (command : Command). some_command command) (sym c.in-Some-Check.field-0-is) ∙ c.in-Some-Check.ensures in
+    λ line is. let told = c.judge_input.ensures.bad_log line is in (check_is words chosen, told.0, told.1, told.2)
+
+pub returns-in-Some-Check-clause-not_legal : goal.returns-in-Some-Check-clause-not_legal
+returns-in-Some-Check-clause-not_legal g c =
+    let words = map (string_bytes {Z = Global}) c.args.words.now in
+    let chosen = ap (λ (command : Command). some_command command) (sym c.in-Some-Check.field-0-is) ∙ c.in-Some-Check.ensures in
+    λ rule actor is. let told = c.judge_input.ensures.not_legal rule actor is in (check_is words chosen, told.0, told.1, told.2, told.3, told.4)
+
+pub returns-in-Some-Check-clause-seed_only : goal.returns-in-Some-Check-clause-seed_only
+returns-in-Some-Check-clause-seed_only g c =
+    let words = map (string_bytes {Z = Global}) c.args.words.now in
+    let chosen = ap (λ (command : Command). some_command command) (sym c.in-Some-Check.field-0-is) ∙ c.in-Some-Check.ensures in
+    λ seed is. absurd (check_no_seed words seed (check_is words chosen) is)
+
+pub returns-in-Some-Check-clause-seed_ok : goal.returns-in-Some-Check-clause-seed_ok
+returns-in-Some-Check-clause-seed_ok g c =
+    let words = map (string_bytes {Z = Global}) c.args.words.now in
+    let chosen = ap (λ (command : Command). some_command command) (sym c.in-Some-Check.field-0-is) ∙ c.in-Some-Check.ensures in
+    λ seed is. absurd (check_no_seed words seed (check_is words chosen) is)
+
+pub returns-in-Some-Check-clause-seed_part : goal.returns-in-Some-Check-clause-seed_part
+returns-in-Some-Check-clause-seed_part g c =
+    let words = map (string_bytes {Z = Global}) c.args.words.now in
+    let chosen = ap (λ (command : Command). some_command command) (sym c.in-Some-Check.field-0-is) ∙ c.in-Some-Check.ensures in
+    λ seed is. absurd (check_no_seed words seed (check_is words chosen) is)
+
+pub returns-in-Some-Gen-clause-bad_words : goal.returns-in-Some-Gen-clause-bad_words
+returns-in-Some-Gen-clause-bad_words g c =
+    let words = map (string_bytes {Z = Global}) c.args.words.now in
+    let chosen = ap (λ (command : Command). some_command command) (sym c.in-Some-Gen.field-0-is) ∙ c.in-Some-Gen.ensures in
+    (λ is. absurd (subst (λ (status : Status). IsEndOfGen status) is c.write_script.ensures.end), λ none. absurd (true≢false (sym (some_is words (Gen c.in-Some-Gen.seed) chosen) ∙ none)))
+
+pub returns-in-Some-Gen-clause-read_fault : goal.returns-in-Some-Gen-clause-read_fault
+returns-in-Some-Gen-clause-read_fault g c =
+    λ is. absurd (subst (λ (status : Status). IsEndOfGen status) is c.write_script.ensures.end)
+
+pub returns-in-Some-Gen-clause-read_part : goal.returns-in-Some-Gen-clause-read_part
+returns-in-Some-Gen-clause-read_part g c =
+    λ is. nothing_lost (g.S.Source.left c.args.source.now)
+
+pub returns-in-Some-Gen-clause-memory_part : goal.returns-in-Some-Gen-clause-memory_part
+returns-in-Some-Gen-clause-memory_part g c =
+    λ is. nothing_lost (g.S.Source.left c.args.source.now)
+
+pub returns-in-Some-Gen-clause-too_long : goal.returns-in-Some-Gen-clause-too_long
+returns-in-Some-Gen-clause-too_long g c =
+    λ limit is. absurd (subst (λ (status : Status). IsEndOfGen status) is c.write_script.ensures.end)
+
+pub returns-in-Some-Gen-clause-bad_script : goal.returns-in-Some-Gen-clause-bad_script
+returns-in-Some-Gen-clause-bad_script g c =
+    let words = map (string_bytes {Z = Global}) c.args.words.now in
+    let chosen = ap (λ (command : Command). some_command command) (sym c.in-Some-Gen.field-0-is) ∙ c.in-Some-Gen.ensures in
+    λ serial. absurd (serial_no_seed words c.in-Some-Gen.seed serial (gen_is words c.in-Some-Gen.seed chosen))
+
+pub returns-in-Some-Gen-clause-over_limit : goal.returns-in-Some-Gen-clause-over_limit
+returns-in-Some-Gen-clause-over_limit g c =
+    let words = map (string_bytes {Z = Global}) c.args.words.now in
+    let chosen = ap (λ (command : Command). some_command command) (sym c.in-Some-Gen.field-0-is) ∙ c.in-Some-Gen.ensures in
+    λ serial. absurd (serial_no_seed words c.in-Some-Gen.seed serial (gen_is words c.in-Some-Gen.seed chosen))
+
+pub returns-in-Some-Gen-clause-accepted : goal.returns-in-Some-Gen-clause-accepted
+returns-in-Some-Gen-clause-accepted g c =
+    let words = map (string_bytes {Z = Global}) c.args.words.now in
+    let chosen = ap (λ (command : Command). some_command command) (sym c.in-Some-Gen.field-0-is) ∙ c.in-Some-Gen.ensures in
+    λ serial. absurd (serial_no_seed words c.in-Some-Gen.seed serial (gen_is words c.in-Some-Gen.seed chosen))
+
+pub returns-in-Some-Gen-clause-ok : goal.returns-in-Some-Gen-clause-ok
+returns-in-Some-Gen-clause-ok g c =
+    let words = map (string_bytes {Z = Global}) c.args.words.now in
+    let chosen = ap (λ (command : Command). some_command command) (sym c.in-Some-Gen.field-0-is) ∙ c.in-Some-Gen.ensures in
+    λ serial. absurd (serial_no_seed words c.in-Some-Gen.seed serial (gen_is words c.in-Some-Gen.seed chosen))
+
+pub returns-in-Some-Gen-clause-part : goal.returns-in-Some-Gen-clause-part
+returns-in-Some-Gen-clause-part g c =
+    let words = map (string_bytes {Z = Global}) c.args.words.now in
+    let chosen = ap (λ (command : Command). some_command command) (sym c.in-Some-Gen.field-0-is) ∙ c.in-Some-Gen.ensures in
+    λ serial. absurd (serial_no_seed words c.in-Some-Gen.seed serial (gen_is words c.in-Some-Gen.seed chosen))
+
+pub returns-in-Some-Gen-clause-bad_script_part : goal.returns-in-Some-Gen-clause-bad_script_part
+returns-in-Some-Gen-clause-bad_script_part g c =
+    let words = map (string_bytes {Z = Global}) c.args.words.now in
+    let chosen = ap (λ (command : Command). some_command command) (sym c.in-Some-Gen.field-0-is) ∙ c.in-Some-Gen.ensures in
+    λ check. absurd (check_no_seed words c.in-Some-Gen.seed check (gen_is words c.in-Some-Gen.seed chosen))
+
+pub returns-in-Some-Gen-clause-over_limit_part : goal.returns-in-Some-Gen-clause-over_limit_part
+returns-in-Some-Gen-clause-over_limit_part g c =
+    let words = map (string_bytes {Z = Global}) c.args.words.now in
+    let chosen = ap (λ (command : Command). some_command command) (sym c.in-Some-Gen.field-0-is) ∙ c.in-Some-Gen.ensures in
+    λ check. absurd (check_no_seed words c.in-Some-Gen.seed check (gen_is words c.in-Some-Gen.seed chosen))
+
+pub returns-in-Some-Gen-clause-fitting_script : goal.returns-in-Some-Gen-clause-fitting_script
+returns-in-Some-Gen-clause-fitting_script g c =
+    let words = map (string_bytes {Z = Global}) c.args.words.now in
+    let chosen = ap (λ (command : Command). some_command command) (sym c.in-Some-Gen.field-0-is) ∙ c.in-Some-Gen.ensures in
+    λ check. absurd (check_no_seed words c.in-Some-Gen.seed check (gen_is words c.in-Some-Gen.seed chosen))
+
+pub returns-in-Some-Gen-clause-legal : goal.returns-in-Some-Gen-clause-legal
+returns-in-Some-Gen-clause-legal g c =
+    let words = map (string_bytes {Z = Global}) c.args.words.now in
+    let chosen = ap (λ (command : Command). some_command command) (sym c.in-Some-Gen.field-0-is) ∙ c.in-Some-Gen.ensures in
+    λ check. absurd (check_no_seed words c.in-Some-Gen.seed check (gen_is words c.in-Some-Gen.seed chosen))
+
+pub returns-in-Some-Gen-clause-verdict_part : goal.returns-in-Some-Gen-clause-verdict_part
+returns-in-Some-Gen-clause-verdict_part g c =
+    let words = map (string_bytes {Z = Global}) c.args.words.now in
+    let chosen = ap (λ (command : Command). some_command command) (sym c.in-Some-Gen.field-0-is) ∙ c.in-Some-Gen.ensures in
+    λ check. absurd (check_no_seed words c.in-Some-Gen.seed check (gen_is words c.in-Some-Gen.seed chosen))
+
+pub returns-in-Some-Gen-clause-bad_log : goal.returns-in-Some-Gen-clause-bad_log
+returns-in-Some-Gen-clause-bad_log g c =
+    λ line is. absurd (subst (λ (status : Status). IsEndOfGen status) is c.write_script.ensures.end)
+
+pub returns-in-Some-Gen-clause-fitting : goal.returns-in-Some-Gen-clause-fitting
+returns-in-Some-Gen-clause-fitting g c =
+    λ text left checked line is. absurd (subst (λ (status : Status). IsEndOfGen status) is c.write_script.ensures.end)
+
+pub returns-in-Some-Gen-clause-not_legal : goal.returns-in-Some-Gen-clause-not_legal
+returns-in-Some-Gen-clause-not_legal g c =
+    λ rule actor is. absurd (subst (λ (status : Status). IsEndOfGen status) is c.write_script.ensures.end)
+
+pub returns-in-Some-Gen-clause-seed_only : goal.returns-in-Some-Gen-clause-seed_only
+returns-in-Some-Gen-clause-seed_only g c =
+    λ seed is. (refl, c.write_script.ensures.end)
+
+pub returns-in-Some-Gen-clause-seed_ok : goal.returns-in-Some-Gen-clause-seed_ok
+returns-in-Some-Gen-clause-seed_ok g c =
+    let words = map (string_bytes {Z = Global}) c.args.words.now in
+    let chosen = ap (λ (command : Command). some_command command) (sym c.in-Some-Gen.field-0-is) ∙ c.in-Some-Gen.ensures in
+    λ seed is ok.
     let old = g.K.Sink.written c.args.sink.now in
-    let new = g.K.Sink.written c.write_verdict.new.sink in
-    let told = subst (λ (text : List ℕ). (out : List ℕ) × IsVerdictOf text (NotLegal rule actor) out × Appended old new out)
-    c.as_slice-in-Check.ensures.value (c.write_verdict.ensures.not_legal rule actor is) in (
-      check_is (map (string_bytes {Z = Global}) c.args.words.now) chosen,
-      c.in-Ok.text.items,
-      told.0,
-      record { whole = c.in-Ok.ensures.whole; within = subst (λ (count : ℕ). count ≤ 67108864) c.in-Ok.text.ok.0 c.in-Ok.ensures.within },
-      told.1,
-      told.2,
-    )
+    let new = g.K.Sink.written c.write_script.new.sink in
+    let same = one_seed words c.in-Some-Gen.seed seed (gen_is words c.in-Some-Gen.seed chosen) is in
+    subst (λ (n : ℕ). Appended old new (generated n)) same (c.write_script.ensures.ok ok)
 
-pub returns-clause-fitting_script : goal.returns-clause-fitting_script
-returns-clause-fitting_script g c = λ check text left checked.
-    let given = subst (λ (given : List ℕ). IsChecked given) (sym (c.as_slice-in-Check.ensures.value ∙ gave_is _ _ _ text c.in-Ok.ensures.whole left)) checked in (
-      λ line fault is. checked_no_fault _ given line fault (c.write_verdict.ensures.bad_script line fault is),
-      λ line limit is. absurd (checked_no_limit _ given line limit (c.write_verdict.ensures.over_limit line limit is).1),
-    )
-
-pub returns-in-Serial-clause-fitting_script : goal.returns-in-Serial-clause-fitting_script
-returns-in-Serial-clause-fitting_script g c = λ check.
-    absurd (not_both (map (string_bytes {Z = Global}) c.args.words.now) (ap (λ (command : Command). some_command command) (sym c.in-Serial.is) ∙ c.in-Some.ensures) check)
-
-pub returns-in-Serial-clause-accepted : goal.returns-in-Serial-clause-accepted
-returns-in-Serial-clause-accepted g c = λ serial text left accepted.
-    let given = subst (λ (given : List ℕ). IsAccepted given) (sym (c.as_slice.ensures.value ∙ gave_is _ _ _ text c.in-Ok.ensures.whole left)) accepted in (
-      λ line fault is. accepted_no_fault _ given line fault (c.write_log.ensures.bad_script line fault is),
-      λ line limit is. absurd (accepted_no_limit _ given line limit (c.write_log.ensures.over_limit line limit is).1),
-    )
-
-pub returns-clause-legal : goal.returns-clause-legal
-returns-clause-legal g c = λ check ok.
+pub returns-in-Some-Gen-clause-seed_part : goal.returns-in-Some-Gen-clause-seed_part
+returns-in-Some-Gen-clause-seed_part g c =
+    let words = map (string_bytes {Z = Global}) c.args.words.now in
+    let chosen = ap (λ (command : Command). some_command command) (sym c.in-Some-Gen.field-0-is) ∙ c.in-Some-Gen.ensures in
+    λ seed is written failed.
     let old = g.K.Sink.written c.args.sink.now in
-    let new = g.K.Sink.written c.write_verdict.new.sink in
-    let told = subst (λ (text : List ℕ). (causal : Bool) × (out : List ℕ) × IsVerdictOf text (Legal causal) out × Appended old new out)
-    c.as_slice-in-Check.ensures.value (c.write_verdict.ensures.legal ok) in (
-      told.0,
-      c.in-Ok.text.items,
-      told.1,
-      record { whole = c.in-Ok.ensures.whole; within = subst (λ (count : ℕ). count ≤ 67108864) c.in-Ok.text.ok.0 c.in-Ok.ensures.within },
-      told.2,
-      told.3,
-    )
+    let new = g.K.Sink.written c.write_script.new.sink in
+    let same = one_seed words c.in-Some-Gen.seed seed (gen_is words c.in-Some-Gen.seed chosen) is in
+    subst (λ (n : ℕ). (written < length (generated n)) × Appended old new (take written (generated n))) same (c.write_script.ensures.part written failed)
 
-pub returns-in_default-clause-promises : goal.returns-in_default-clause-promises
-returns-in_default-clause-promises g c = λ text log l. c.logs_of_serial_are_lawful.ensures _ _ text log l
+pub returns-in-None-clause-bad_words : goal.returns-in-None-clause-bad_words
+returns-in-None-clause-bad_words g c =
+    let words = map (string_bytes {Z = Global}) c.args.words.now in
+    (λ is. none_is words c.in-None.ensures, λ none. refl)
 
-pub returns-in-Err-ReadFault-clause-promises : goal.returns-in-Err-ReadFault-clause-promises
-returns-in-Err-ReadFault-clause-promises g c = λ text log l. c.logs_of_serial_are_lawful.ensures _ _ text log l
+pub returns-in-None-clause-seed_only : goal.returns-in-None-clause-seed_only
+returns-in-None-clause-seed_only g c =
+    let words = map (string_bytes {Z = Global}) c.args.words.now in
+    λ seed is. absurd (none_no_seed words seed c.in-None.ensures is)
 
-pub returns-in-Err-TooLong-clause-promises : goal.returns-in-Err-TooLong-clause-promises
-returns-in-Err-TooLong-clause-promises g c = λ text log l. c.logs_of_serial_are_lawful.ensures _ _ text log l
+pub returns-in-None-clause-seed_ok : goal.returns-in-None-clause-seed_ok
+returns-in-None-clause-seed_ok g c =
+    let words = map (string_bytes {Z = Global}) c.args.words.now in
+    λ seed is. absurd (none_no_seed words seed c.in-None.ensures is)
 
-pub returns-in-Err-OutOfMemory-clause-promises : goal.returns-in-Err-OutOfMemory-clause-promises
-returns-in-Err-OutOfMemory-clause-promises g c = λ text log l. c.logs_of_serial_are_lawful.ensures _ _ text log l
+pub returns-in-None-clause-seed_part : goal.returns-in-None-clause-seed_part
+returns-in-None-clause-seed_part g c =
+    let words = map (string_bytes {Z = Global}) c.args.words.now in
+    λ seed is. absurd (none_no_seed words seed c.in-None.ensures is)
 
-pub returns-in-Serial-clause-promises : goal.returns-in-Serial-clause-promises
-returns-in-Serial-clause-promises g c = λ text log l. c.logs_of_serial_are_lawful.ensures _ _ text log l
+pub returns-in-Some-Serial-clause-promises : goal.returns-in-Some-Serial-clause-promises
+returns-in-Some-Serial-clause-promises g c =
+    λ text log l. c.logs_of_serial_are_lawful.ensures _ _ text log l
 
-pub returns-clause-promises : goal.returns-clause-promises
-returns-clause-promises g c = λ text log l. c.logs_of_serial_are_lawful.ensures _ _ text log l
+pub returns-in-Some-Check-clause-promises : goal.returns-in-Some-Check-clause-promises
+returns-in-Some-Check-clause-promises g c =
+    λ text log l. c.logs_of_serial_are_lawful.ensures _ _ text log l
 
-pub returns-in-Serial-clause-called : goal.returns-in-Serial-clause-called
-returns-in-Serial-clause-called g c =
-    accepted_of _ _ _ _ c.in-Ok.text.items c.as_slice.ensures.value
-    (record { whole = c.in-Ok.ensures.whole; within = subst (λ (count : ℕ). count ≤ 67108864) c.in-Ok.text.ok.0 c.in-Ok.ensures.within }) c.write_log.ensures.called
+pub returns-in-Some-Gen-clause-promises : goal.returns-in-Some-Gen-clause-promises
+returns-in-Some-Gen-clause-promises g c =
+    λ text log l. c.logs_of_serial_are_lawful.ensures _ _ text log l
 
-pub returns-in-Serial-clause-verdict_part : goal.returns-in-Serial-clause-verdict_part
-returns-in-Serial-clause-verdict_part g c = λ check.
-    absurd (not_both (map (string_bytes {Z = Global}) c.args.words.now) (ap (λ (command : Command). some_command command) (sym c.in-Serial.is) ∙ c.in-Some.ensures) check)
-
-pub returns-clause-verdict_part : goal.returns-clause-verdict_part
-returns-clause-verdict_part g c = λ check written is.
-    let old = g.K.Sink.written c.args.sink.now in
-    let new = g.K.Sink.written c.write_verdict.new.sink in
-    let told = subst (λ (text : List ℕ). (verdict : Verdict) × (out : List ℕ) × IsVerdictOf text verdict out × (written < length out) × Appended old new (take written out))
-    c.as_slice-in-Check.ensures.value (c.write_verdict.ensures.part written is) in (
-      told.0,
-      c.in-Ok.text.items,
-      told.1,
-      record { whole = c.in-Ok.ensures.whole; within = subst (λ (count : ℕ). count ≤ 67108864) c.in-Ok.text.ok.0 c.in-Ok.ensures.within },
-      told.2,
-      told.3,
-      told.4,
-    )
+pub returns-in-None-clause-promises : goal.returns-in-None-clause-promises
+returns-in-None-clause-promises g c =
+    λ text log l. c.logs_of_serial_are_lawful.ensures _ _ text log l
