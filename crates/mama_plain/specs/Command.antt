@@ -22,6 +22,7 @@ seed_in (word ∷ []) = None
 seed_in (word ∷ seed ∷ []) = if bytes_eq word (codes "gen") then number_in seed else None
 seed_in (word ∷ seed ∷ next ∷ more) = None
 
+-- there is a seed
 abbrev pub is_there : Option ℕ → Bool
 is_there None = false
 is_there (Some seed) = true
