@@ -1,0 +1,6 @@
+use Rattle.std.proofs.Common.{◌≡◌, length}
+use Rattle.std.specs.List.{All}
+use Rattle.mama_work.proofs.worker.round.Given as goal
+
+abbrev pub invariant-loop-seat : goal.invariant-loop-seat
+invariant-loop-seat g l = All (g.S.Seat.sits l.script l.hall) l.seat-items × (length l.seat-items ≡ length l.initial.seat-items)
