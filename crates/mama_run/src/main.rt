@@ -49,8 +49,7 @@ fn main(rt: HostRuntime) -> io::Result<ExitCode> {
                 }
             }
         }
-        // Words that are no text are no command.
-        Err(_) => return Ok(end(&rt, Status::BadWords)),
+        Err(fault) => return Ok(end(&rt, without_words(fault.kind()))),
     }
     let words = if words.is_empty() {
         words.as_slice()
@@ -67,6 +66,15 @@ fn main(rt: HostRuntime) -> io::Result<ExitCode> {
     }
     let status = serve(&rt, words);
     Ok(end(&rt, status))
+}
+
+/// The answer where the words could not be had. Words that are no text are no command.
+fn without_words(kind: io::ErrorKind) -> Status {
+    if kind == io::ErrorKind::OutOfMemory {
+        Status::OutOfMemory
+    } else {
+        Status::BadWords
+    }
 }
 
 /// How a call ended that only writes.
