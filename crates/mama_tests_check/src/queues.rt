@@ -1,0 +1,157 @@
+use crate::lists::{bridge_puts, names_of, queue_journal, script_of, text_of, timers_puts};
+use mama_check_queue::{ServedQueue, serve_all};
+use mama_event::{
+    BridgeNote, CallNote, ImageHead, ObjectId, PublisherEntry, QueueNote, SubId, TimersNote,
+};
+use mama_log_line::Names;
+use mama_memory::OutOfMemory;
+use mama_msg::Msg;
+use mama_plans::{Plans, plans_of};
+use mama_record::{RunRecord, print_log};
+use mama_script::Script;
+use std::alloc::Global;
+use std::test::Fail;
+
+// A row has the lines that make the objects, the queue's journal, the callbacks and images, and what it put to the bridge
+// and to the timers.
+//
+// A subscription and a timer that end each other in their callbacks. Then a journal that no run has: a message comes
+// before the subscription does, which comes twice and goes twice, and one port ends twice. It is told the first message
+// as its strategy tells it, and the gap, until it ends itself as it asks for a recap; an order ends nothing that is not
+// there.
+const QUEUES: &str =
+    "sub 0 market 0 4 1000|at 2 disarm t0.0|timer 0 10|at 3 stop s0.0|@b create 0 s0.0|t create 0 t0.0|t tick 0 t0.0 5|b data 0 s0.0 initial 1 7|t tick 0 t0.0 9|t gone 0 t0.0|b data 0 s0.0 initial 1 7|b gone 0 s0.0|b fin|t fin|@on s0.0|create|msg initial 1 7 ok|order disarm t0.0|destroy|on t0.0|create|tick 5|destroy|order stop s0.0|images|s0.0 ok 1 7|end|@5 q0 leave s0.0|9 q0 bye|@3 q0 disarm t0.0|9 q0 bye|
+sub 0 market 0 4 1000|at 1 disarm t0.0|at 6 stop s0.0|at 5 disarm t0.0|timer 0 10|at 2 stop s0.0|@b data 0 s0.0 initial 1 7|t create 0 t0.0|t tick 0 t0.0 5|b create 0 s0.0|b create 0 s0.0|b data 0 s0.0 update 1 9|b data 0 s0.0 initial 1 20|t tick 0 t0.0 6|b gone 0 s0.0|b gone 0 s0.0|b fin|b fin|t fin|@on s0.0|msg initial 1 7 ok|order disarm t0.0|create|create|gap 8 8|quality stale 7|order disarm t0.0|request 1|order stop s0.0|destroy|destroy|on t0.0|create|tick 5|order stop s0.0|images|s0.0 stale 1 9|end|@2 q0 leave s0.0|5 q0 recap s0.0 1|5 q0 leave s0.0|11 q0 bye|@0 q0 disarm t0.0|5 q0 disarm t0.0|11 q0 bye|";
+
+fn script_with(alloc: Global, lines: &str) -> Result<Script, Fail> {
+    let head = "mama script 1|queues 1|topic \"A\"|client|";
+    let row = format!(in alloc; "{head}{lines}")?;
+    script_of(alloc, row.as_str())
+}
+
+type Calls = Vec<(ObjectId, Vec<CallNote>)>;
+
+type Images = Vec<(SubId, ImageHead, Msg)>;
+
+fn calls_of(queue: &ServedQueue, object: ObjectId) -> Result<Vec<CallNote>, OutOfMemory> {
+    queue.calls(&object)
+}
+
+fn image_of(queue: &ServedQueue, sub: SubId) -> Result<Option<(ImageHead, Msg)>, OutOfMemory> {
+    queue.image(sub)
+}
+
+// Adds what an object left to what those before it did.
+fn add_left(
+    queue: &ServedQueue,
+    object: ObjectId,
+    calls: &mut Calls,
+    images: &mut Images,
+) -> Result<(), Fail> {
+    calls.push((object, calls_of(queue, object)?))?;
+    if let ObjectId::Sub(sub) = object {
+        if let Some((head, body)) = image_of(queue, sub)? {
+            images.push((sub, head, body))?;
+        }
+    }
+    Ok(())
+}
+
+fn recorded(
+    clients: Vec<Vec<u64>>,
+    publishers: Vec<Vec<PublisherEntry>>,
+    bridge: Vec<(u32, BridgeNote)>,
+    timers: Vec<(u32, TimersNote)>,
+    queues: Vec<Vec<(u32, QueueNote)>>,
+    calls: Calls,
+    images: Images,
+) -> RunRecord {
+    RunRecord::new(clients, publishers, bridge, timers, queues, calls, images)
+}
+
+// The record of no journals.
+fn record_of(alloc: Global, calls: Calls, images: Images) -> RunRecord {
+    let clients = Vec::new(alloc);
+    let publishers = Vec::new(alloc);
+    let bridge = Vec::new(alloc);
+    let timers = Vec::new(alloc);
+    let queues = Vec::new(alloc);
+    recorded(clients, publishers, bridge, timers, queues, calls, images)
+}
+
+// The callbacks and the images that a queue left, of the objects of these plans.
+fn left(alloc: Global, plans: &Plans, queue: &ServedQueue) -> Result<RunRecord, Fail> {
+    let mut calls = Vec::new(alloc);
+    let mut images = Vec::new(alloc);
+    for planned in plans.objects() {
+        add_left(queue, planned.object, &mut calls, &mut images)?;
+    }
+    Ok(record_of(alloc, calls, images))
+}
+
+fn printed(alloc: Global, script: &Script, run: &RunRecord) -> Result<Vec<u8>, OutOfMemory> {
+    print_log(alloc, script.shape(), run)
+}
+
+// Whether the log of a record with no journals has this row behind its heads.
+fn is_logged(alloc: Global, script: &Script, run: &RunRecord, row: &str) -> Result<bool, Fail> {
+    let log = format!(in alloc; "mama log 1|bridge|timers|{row}")?;
+    Ok(printed(alloc, script, run)? == text_of(alloc, log.as_str())?)
+}
+
+// Whether a queue put this, behind a sign each: to the bridge, and to the timers.
+fn has_put(alloc: Global, names: &Names, queue: &ServedQueue, rows: &str) -> Result<bool, Fail> {
+    let (bridge, timers) = parted(rows)?;
+    let bridge = bridge_puts(alloc, names, bridge)?;
+    let timers = timers_puts(alloc, names, timers)?;
+    Ok(queue.to_bridge() == bridge.as_slice() && queue.to_timers() == timers.as_slice())
+}
+
+// The part of a row before a sign, and the part behind it.
+fn parted(row: &str) -> Result<(&str, &str), Fail> {
+    Ok(row.split_once('@').ok_or("a part")?)
+}
+
+fn planned(alloc: Global, script: &Script) -> Result<Plans, OutOfMemory> {
+    plans_of(alloc, script)
+}
+
+fn serve<'a>(
+    alloc: Global,
+    plans: &'a Plans,
+    journals: &'a [Vec<(u32, QueueNote)>],
+) -> Result<Vec<ServedQueue<'a>>, OutOfMemory> {
+    serve_all(alloc, plans, journals)
+}
+
+fn is_served_so(
+    alloc: Global,
+    script: &Script,
+    names: &Names,
+    journals: &[Vec<(u32, QueueNote)>],
+    row: &str,
+) -> Result<bool, Fail> {
+    let plans = planned(alloc, script)?;
+    let served = serve(alloc, &plans, journals)?;
+    let queue = served.first().ok_or("a queue")?;
+    let (calls, puts) = parted(row)?;
+    let run = left(alloc, &plans, queue)?;
+    Ok(is_logged(alloc, script, &run, calls)? && has_put(alloc, names, queue, puts)?)
+}
+
+fn is_served(alloc: Global, row: &str) -> Result<bool, Fail> {
+    let (lines, rest) = parted(row)?;
+    let (journal, rest) = parted(rest)?;
+    let script = script_with(alloc, lines)?;
+    let names = names_of(alloc, &script)?;
+    let journals = [queue_journal(alloc, &names, journal)?];
+    is_served_so(alloc, &script, &names, &journals[..], rest)
+}
+
+#[test]
+fn queues_are_served_by_any_journal(rt: HostRuntime) -> Result<(), Fail> {
+    for row in QUEUES.lines() {
+        assert!(rt; is_served(rt.alloc(), row)?, "{row}");
+    }
+    Ok(())
+}
