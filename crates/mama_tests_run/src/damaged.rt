@@ -1,0 +1,207 @@
+//! One log, damaged in one line at a time: which rule is broken first, and by whom.
+
+use crate::played::{add_row, is_causal, is_judged};
+use mama_check::Actor;
+use mama_event::{InboxId, ObjectId, SubId, TimerId};
+use mama_plain::Status;
+use std::alloc::{AllocError, Global};
+use std::test::Fail;
+
+const SCRIPT: &str = r#"mama script 1
+queues 1
+topic "T"
+publisher 0 1:a:u32:5
+update 1:a:u32:6
+client
+sub 0 market 0 10 1000
+timer 0 10
+now clock
+inbox 0
+ask i0.0 0 1
+"#;
+
+// A log of it, whose clock told 12.
+const LOG: &str = r#"mama log 1
+client 0
+clock 12
+publisher 0
+want s0.0 initial
+send
+done
+ask i0.0 1
+settle
+fin
+bridge
+c0 join s0.0
+p0 image s0.0 initial 1 0 1:a:u32:5
+p0 publish update 1 1 1:a:u32:6
+p0 done
+c0 open i0.0
+c0 ask i0.0 0 1
+p0 reply i0.0 1:a:u32:6
+c0 done
+p0 settled
+q0 bye
+timers
+c0 arm t0.0
+c0 now 12
+c0 done
+b fin
+q0 bye
+queue 0
+b create 0 s0.0
+b data 0 s0.0 initial 1 0 1:a:u32:5
+b data 0 s0.0 update 1 1 1:a:u32:6
+t create 0 t0.0
+t tick 0 t0.0 12
+b create 1 i0.0
+b reply 1 i0.0 1:a:u32:6
+b gone 0 s0.0
+b gone 1 i0.0
+b fin
+t gone 0 t0.0
+t fin
+on s0.0
+create
+msg initial 1 0 ok 1:a:u32:5
+msg update 1 1 ok 1:a:u32:6
+destroy
+on t0.0
+create
+tick 12
+destroy
+on i0.0
+create
+reply 1:a:u32:6
+destroy
+images
+s0.0 ok 1 1 1:a:u32:6
+end"#;
+
+// The number of a line, the rule that is broken first and by whom, and what stands in its place, which may be nothing or
+// several lines. In order: a moment too few, and one too many; a line that was not sent, done twice, no Fin; what was put
+// was not taken, by each kind of taker; a slot that is not the least; an event twice, and one before its object came;
+// callbacks left out, and with an order that no plan has; another image, and none.
+const DAMAGES: &str = r#"3 1 c0@
+3 1 c0@clock 12|clock 13|
+6 2 p0@
+8 2 p0@done|ask i0.0 1|
+10 2 p0@
+5 3 p0@
+14 3 b@p0 publish update 1 1 1:a:u32:7|
+21 3 b@
+24 3 t@c0 now 13|
+27 3 t@
+33 3 q0@t tick 0 t0.0 13|
+34 3 q0@b create 2 i0.0|
+31 3 q0@b data 0 s0.0 update 1 1 1:a:u32:6|b data 0 s0.0 update 1 1 1:a:u32:6|
+28 3 q0@queue 0|b data 0 s0.0 initial 1 0 1:a:u32:5|
+44 5 s0.0@
+43 5 s0.0@msg initial 1 0 ok 1:a:u32:5|order stop s0.0|
+48 6 t0.0@
+49 6 t0.0@
+52 7 i0.0@
+53 7 i0.0@destroy|reply 1:a:u32:6|
+55 8 s0.0@s0.0 stale 1 1 1:a:u32:6|
+55 8 s0.0@"#;
+
+const SUB: ObjectId = ObjectId::Sub(SubId {
+    client: 0,
+    number: 0,
+});
+
+const TIMER: ObjectId = ObjectId::Timer(TimerId {
+    client: 0,
+    number: 0,
+});
+
+const INBOX: ObjectId = ObjectId::Inbox(InboxId {
+    client: 0,
+    number: 0,
+});
+
+// The object that a verdict names so.
+fn object_of(word: &str) -> Option<Actor> {
+    if word == "s0.0" {
+        Some(Actor::Object(SUB))
+    } else if word == "t0.0" {
+        Some(Actor::Object(TIMER))
+    } else if word == "i0.0" {
+        Some(Actor::Object(INBOX))
+    } else {
+        None
+    }
+}
+
+// The actor that a verdict names so.
+fn actor_of(word: &str) -> Option<Actor> {
+    if word == "c0" {
+        Some(Actor::Client(0))
+    } else if word == "p0" {
+        Some(Actor::Publisher(0))
+    } else if word == "b" {
+        Some(Actor::Bridge)
+    } else if word == "t" {
+        Some(Actor::Timers)
+    } else if word == "q0" {
+        Some(Actor::Queue(0))
+    } else {
+        object_of(word)
+    }
+}
+
+fn add_line(log: &mut Vec<u8>, line: &str) -> Result<(), AllocError> {
+    log.extend_from_slice(line.as_bytes())?;
+    Ok(log.push(b'\n')?)
+}
+
+// The log with another text in place of the line of this number, from 1; 0 is no line.
+fn log_with(alloc: Global, place: usize, row: &str) -> Result<Vec<u8>, Fail> {
+    let mut log = Vec::new(alloc);
+    for (before, line) in LOG.lines().enumerate() {
+        if before.saturating_add(1) == place {
+            add_row(&mut log, row)?;
+        } else {
+            add_line(&mut log, line)?;
+        }
+    }
+    Ok(log)
+}
+
+// What a verdict says of a rule, by its number, and an actor.
+fn status_of(rule: &str, word: &str) -> Result<Status, Fail> {
+    Ok(Status::NotLegal {
+        rule: rule.parse::<u8>().unwrap_or(0),
+        actor: actor_of(word).ok_or("an actor")?,
+    })
+}
+
+// Whether a log is told to break this rule first, by this actor.
+fn breaks(alloc: Global, log: &[u8], rule: &str, word: &str) -> Result<bool, Fail> {
+    let verdict = format!(in alloc; "not legal L{rule} {word}\n")?;
+    let status = status_of(rule, word)?;
+    is_judged(alloc, SCRIPT.as_bytes(), log, status, verdict.as_str())
+}
+
+// Whether a damage is told with its rule and its actor.
+fn is_told(alloc: Global, row: &str) -> Result<bool, Fail> {
+    let (head, lines) = row.split_once('@').ok_or("lines")?;
+    let (place, rest) = head.split_once(' ').ok_or("a place")?;
+    let (rule, word) = rest.split_once(' ').ok_or("a rule")?;
+    let log = log_with(alloc, place.parse::<usize>().unwrap_or(0), lines)?;
+    breaks(alloc, &log, rule, word)
+}
+
+fn is_whole(alloc: Global) -> Result<bool, Fail> {
+    let log = log_with(alloc, 0, "")?;
+    is_causal(alloc, SCRIPT.as_bytes(), &log)
+}
+
+#[test]
+fn each_damage_is_told_with_its_rule_and_its_actor(rt: HostRuntime) -> Result<(), Fail> {
+    assert!(rt; is_whole(rt.alloc())?);
+    for row in DAMAGES.lines() {
+        assert!(rt; is_told(rt.alloc(), row)?, "{row}");
+    }
+    Ok(())
+}

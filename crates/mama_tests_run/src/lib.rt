@@ -1,0 +1,21 @@
+//! Tests of whole scripts and logs through the top call.
+#![tactic(auto)]
+
+#[cfg(test)]
+mod check;
+#[cfg(test)]
+mod damaged;
+#[cfg(test)]
+mod failing;
+#[cfg(test)]
+mod limits;
+#[cfg(test)]
+mod morning;
+#[cfg(test)]
+mod played;
+#[cfg(test)]
+mod refused;
+#[cfg(test)]
+mod serial;
+#[cfg(test)]
+mod worlds;
