@@ -1,4 +1,4 @@
--- believed: A run that is under way, and what a call that goes on with it promises.
+-- inner: A run that is under way, as `new`, `go` and `into_record` hand it on. What comes of it is told in the words of rounds.
 use Rattle.std.specs.Prelude.{ℕ, Bool, false, List, Option}
 use Rattle.mama_script.specs.Script.{ScriptData}
 use Rattle.mama_rules_rounds.specs.Round.{setting_of}

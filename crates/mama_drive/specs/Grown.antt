@@ -1,4 +1,4 @@
--- believed: What was done in a run stays done: the journals grow at their ends.
+-- inner: What was done in a run stays done: the journals grow at their ends.
 use Rattle.std.specs.Prelude.{◌≡◌, List, [], ◌∷◌, ◌++◌, map}
 use Rattle.mama_rules_rounds.specs.World.{World}
 use Rattle.mama_drive.specs.Scene.{Scene, world_in, AreMoments}

@@ -1,4 +1,4 @@
--- What a client's line and a listener's order put.
+-- believed: What a client's line and a listener's order put.
 use Rattle.mama_event.specs.declared.order.Order.{Order}
 use Rattle.mama_event.specs.declared.order.Order.TheVariants as order
 use Rattle.mama_event.specs.declared.to_bridge.ToBridge.TheVariants as bridge

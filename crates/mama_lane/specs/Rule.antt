@@ -1,4 +1,4 @@
--- The rule of a lane: what it holds and what its passes know fit together.
+-- inner: The rule of a lane: what it holds and what its passes know fit together.
 use Rattle.std.specs.Prelude.{◌≡◌, ◌≢◌, ℕ, ◌<◌, ◌≤◌, List, [], ◌++◌, map}
 use Rattle.std.specs.List.{AllByRecursion}
 use mathlib.Core.List.{IsPrefix}

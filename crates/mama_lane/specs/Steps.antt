@@ -1,4 +1,4 @@
--- What each step does to the view of the pass that makes it.
+-- inner: What each step does to the view of the pass that makes it.
 use Rattle.std.specs.Prelude.{ℕ, ◌+◌, List, [], ◌∷◌, ◌++◌, map}
 use Rattle.mama_event.specs.declared.shape.Bounds.{Bounds}
 use Rattle.mama_lane.specs.declared.view.View.{View}

@@ -1,4 +1,4 @@
--- What a taker keeps beside its pass.
+-- inner: What a taker keeps beside its pass.
 use Rattle.std.specs.Prelude.{◌≡◌, ℕ, Bool, false, List, [], length, slice_index_or}
 use Rattle.std.specs.List.{list_any}
 use Rattle.mama_event.specs.declared.shape.Bounds.{Bounds}

@@ -1,4 +1,4 @@
--- What clauses see of a lane, a port, a note and a taker.
+-- believed: What clauses see of a lane, a port, a note and a taker.
 use Rattle.std.specs.Prelude.{ℕ, zero, suc, List, [], ◌∷◌, ◌++◌}
 use Rattle.std.specs.declared.alloc.Global.{Global}
 use Rattle.crossbeam_queue.specs.SegTies.{SegId}

@@ -5,9 +5,9 @@
 //! tells its plan, a list of rows of which [`has_few_rows`] says whether a callback can give them all, and which
 //! [`order_rows`] puts in the order in which they are given fastest.
 //!
-//! No clause says that a callback is kept, or that rows are put in order: [`PlanListener::heard`] may answer None, and
-//! `order_rows` false, as if no memory was found. What is told is then still true, and no order is lost. Tests show
-//! that neither is answered where memory is ample.
+//! No clause says that a callback is kept, that rows are put in order or counted: [`PlanListener::heard`] may answer None,
+//! `order_rows` false, and `has_few_rows` its error, as if no memory was found. What is told is then still true, and no
+//! order is lost. Tests show that none of these is answered where memory is ample.
 #![tactic(auto)]
 
 mod few;
