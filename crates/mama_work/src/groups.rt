@@ -3,7 +3,7 @@ ghost use Rattle.std.specs.List.{All};
 ghost use Rattle.mama_work.specs.Kept.{IsOf, seats_of};
 
 use crate::seat::Seat;
-use crate::worker::{Report, work, work_or_hold};
+use crate::worker::{Report, Shared, work, work_or_hold};
 use crossbeam_utils::CachePadded;
 use mama_edge::{Clock, Gate};
 use mama_memory::OutOfMemory;
@@ -46,32 +46,28 @@ fn start<
 >(
     scope: &Scope<'s, E>,
     rt: &'s Rt,
-    script: &'s S::Script,
-    hall: &'s S::Hall,
-    clock: &'s Mutex<&'c mut C>,
-    gate: &'s G,
-    stop: &'s AtomicBool,
+    shared: &'s Shared<'s, 'c, S, C, G>,
     held: &'s AtomicBool,
     seats: Vec<S>,
 ) -> Result<PromisedHandle<Report<S>, Kept<S>>, Report<S>>
 where
     S::Script: Sync,
     S::Hall: Sync,
-    requires { All (S.sits script.now hall.now) seats.items }
-    ensures started { IfOk result (λ h. IsOf script.now hall.now h.promise × (h.promise.number ≡ length seats.items)) }
-    ensures refused { IfErr result (λ r. All (S.sits script.now hall.now) r.seats.items × (length r.seats.items ≡ length seats.items)) }
+    requires { All (S.sits shared.now.script.now shared.now.hall.now) seats.items }
+    ensures started { IfOk result (λ h. IsOf shared.now.script.now shared.now.hall.now h.promise × (h.promise.number ≡ length seats.items)) }
+    ensures refused { IfErr result (λ r. All (S.sits shared.now.script.now shared.now.hall.now) r.seats.items × (length r.seats.items ≡ length seats.items)) }
 {
     let promise = Kept {
-        script: Snapshot::of(script),
-        hall: Snapshot::of(hall),
+        script: Snapshot::of(shared.script),
+        hall: Snapshot::of(shared.hall),
         number: seats.len(),
     };
     let job = move || -> Report<S>
-        requires { All (S.sits script.now hall.now) seats.items }
-        ensures seats { All (S.sits script.entry.now hall.entry.now) result.seats.items }
+        requires { All (S.sits shared.now.script.now shared.now.hall.now) seats.items }
+        ensures seats { All (S.sits shared.entry.now.script.now shared.entry.now.hall.now) result.seats.items }
         ensures all { length result.seats.items ≡ length seats.items }
         ensures ended { result.ended ≡ true → All S.is_over result.seats.items }
-    { work_or_hold(*rt, script, hall, clock, gate, stop, held, seats) };
+    { work_or_hold(*rt, shared, held, seats) };
     match scope.spawn_with(promise, job) {
         Ok(child) => Ok(child),
         Err(refused) => {
@@ -182,11 +178,7 @@ fn start_one<
 >(
     scope: &Scope<'s, E>,
     rt: &'s Rt,
-    script: &'s S::Script,
-    hall: &'s S::Hall,
-    clock: &'s Mutex<&'c mut C>,
-    gate: &'s G,
-    stop: &'s AtomicBool,
+    shared: &'s Shared<'s, 'c, S, C, G>,
     held: Option<&'s AtomicBool>,
     seats: Vec<S>,
     started: Started<S>,
@@ -194,11 +186,11 @@ fn start_one<
 where
     S::Script: Sync,
     S::Hall: Sync,
-    requires seats { All (S.sits script.now hall.now) seats.items }
-    requires children { All (λ h. IsOf script.now hall.now h.promise) started.children.items }
-    requires left { All (S.sits script.now hall.now) started.left.items }
-    ensures children { All (λ h. IsOf script.now hall.now h.promise) result.children.items }
-    ensures left { All (S.sits script.now hall.now) result.left.items }
+    requires seats { All (S.sits shared.now.script.now shared.now.hall.now) seats.items }
+    requires children { All (λ h. IsOf shared.now.script.now shared.now.hall.now h.promise) started.children.items }
+    requires left { All (S.sits shared.now.script.now shared.now.hall.now) started.left.items }
+    ensures children { All (λ h. IsOf shared.now.script.now shared.now.hall.now h.promise) result.children.items }
+    ensures left { All (S.sits shared.now.script.now shared.now.hall.now) result.left.items }
     ensures all { result.short ≡ false → (started.short ≡ false) × (seats_of result.children.items + length result.left.items ≡ seats_of started.children.items + length started.left.items + length seats.items) }
 {
     let Started {
@@ -213,7 +205,7 @@ where
             short: true,
         };
     };
-    match start(scope, rt, script, hall, clock, gate, stop, held, seats) {
+    match start(scope, rt, shared, held, seats) {
         Ok(child) => {
             let is_lost = children.push(child).is_err();
             Started {
@@ -250,20 +242,16 @@ fn start_all<
     scope: &Scope<'s, E>,
     rt: &'s Rt,
     alloc: Global,
-    script: &'s S::Script,
-    hall: &'s S::Hall,
-    clock: &'s Mutex<&'c mut C>,
-    gate: &'s G,
-    stop: &'s AtomicBool,
+    shared: &'s Shared<'s, 'c, S, C, G>,
     flags: &'s [AtomicBool],
     groups: Vec<Vec<S>>,
 ) -> Started<S>
 where
     S::Script: Sync,
     S::Hall: Sync,
-    requires { All (λ group. All (S.sits script.now hall.now) group.items) groups.items }
-    ensures children { All (λ h. IsOf script.now hall.now h.promise) result.children.items }
-    ensures left { All (S.sits script.now hall.now) result.left.items }
+    requires { All (λ group. All (S.sits shared.now.script.now shared.now.hall.now) group.items) groups.items }
+    ensures children { All (λ h. IsOf shared.now.script.now shared.now.hall.now h.promise) result.children.items }
+    ensures left { All (S.sits shared.now.script.now shared.now.hall.now) result.left.items }
     ensures all { result.short ≡ false → seats_of result.children.items + length result.left.items ≡ sum_by (λ group. length group.items) groups.items }
 {
     let mut started = Started {
@@ -274,9 +262,7 @@ where
     let mut flags = flags.iter();
     for group in groups {
         let held = flags.next();
-        started = start_one(
-            scope, rt, script, hall, clock, gate, stop, held, group, started,
-        );
+        started = start_one(scope, rt, shared, held, group, started);
     }
     started
 }
@@ -294,19 +280,15 @@ fn turn_all<
     scope: &Scope<'s, E>,
     rt: &'s Rt,
     alloc: Global,
-    script: &'s S::Script,
-    hall: &'s S::Hall,
-    clock: &'s Mutex<&'c mut C>,
-    gate: &'s G,
-    stop: &'s AtomicBool,
+    shared: &'s Shared<'s, 'c, S, C, G>,
     flags: &'s [AtomicBool],
     groups: Vec<Vec<S>>,
 ) -> Report<S>
 where
     S::Script: Sync,
     S::Hall: Sync,
-    requires { All (λ group. All (S.sits script.now hall.now) group.items) groups.items }
-    ensures seats { All (S.sits script.now hall.now) result.seats.items }
+    requires { All (λ group. All (S.sits shared.now.script.now shared.now.hall.now) group.items) groups.items }
+    ensures seats { All (S.sits shared.now.script.now shared.now.hall.now) result.seats.items }
     ensures ended { result.ended ≡ true → All S.is_over result.seats.items }
     ensures all { result.ended ≡ true → length result.seats.items ≡ sum_by (λ group. length group.items) groups.items }
 {
@@ -314,14 +296,12 @@ where
         children,
         left,
         short,
-    } = start_all(
-        scope, rt, alloc, script, hall, clock, gate, stop, flags, groups,
-    );
+    } = start_all(scope, rt, alloc, shared, flags, groups);
     if short {
-        stop.store(true, SeqCst);
+        shared.stop.store(true, SeqCst);
     }
-    let own = work(*rt, script, hall, clock, gate, stop, left);
-    let back = join_all(rt, script, hall, children, own);
+    let own = work(*rt, shared, left);
+    let back = join_all(rt, shared.script, shared.hall, children, own);
     Report {
         seats: back.seats,
         ended: back.ended && !short,
@@ -337,8 +317,44 @@ fn flags_for(alloc: Global, number: usize) -> Result<Vec<AtomicBool>, OutOfMemor
     Ok(flags)
 }
 
-// Turns the groups, with what their threads share: the clock, a flag by which all leave off, and one for each group.
+// Turns the groups, with what their threads share, and a flag for each group.
 fn turn_with<
+    'a,
+    'c: 'a,
+    S: Seat + Send,
+    C: Clock + Send,
+    G: Gate + Sync,
+    Rt: Threads + Wait + Copy + Sync,
+>(
+    rt: &'a Rt,
+    alloc: Global,
+    shared: &'a Shared<'a, 'c, S, C, G>,
+    flags: &'a [AtomicBool],
+    groups: Vec<Vec<S>>,
+) -> Turned<S>
+where
+    S::Script: Sync,
+    S::Hall: Sync,
+    requires { All (λ group. All (S.sits shared.now.script.now shared.now.hall.now) group.items) groups.items }
+    ensures seats { All (S.sits shared.now.script.now shared.now.hall.now) result.seats.items }
+    ensures ended { result.ended ≡ true → All S.is_over result.seats.items }
+    ensures all { result.ended ≡ true → length result.seats.items ≡ sum_by (λ group. length group.items) groups.items }
+{
+    let Report { seats, ended } = thread::scope(
+        thread::scope_env(),
+        rt,
+        move |scope| -> Report<S>
+            requires { All (λ group. All (S.sits shared.now.script.now shared.now.hall.now) group.items) groups.items }
+            ensures seats { All (S.sits shared.entry.now.script.now shared.entry.now.hall.now) result.seats.items }
+            ensures ended { result.ended ≡ true → All S.is_over result.seats.items }
+            ensures all { result.ended ≡ true → length result.seats.items ≡ sum_by (λ group. length group.items) groups.items }
+        { turn_all(scope, rt, alloc, shared, flags, groups) },
+    );
+    Turned { seats, ended }
+}
+
+// Turns the groups, with what their threads share.
+fn turn_under<
     'a,
     'c: 'a,
     S: Seat + Send,
@@ -364,21 +380,14 @@ where
     ensures ended { result.ended ≡ true → All S.is_over result.seats.items }
     ensures all { result.ended ≡ true → length result.seats.items ≡ sum_by (λ group. length group.items) groups.items }
 {
-    let Report { seats, ended } = thread::scope(
-        thread::scope_env(),
-        rt,
-        move |scope| -> Report<S>
-            requires { All (λ group. All (S.sits script.now hall.now) group.items) groups.items }
-            ensures seats { All (S.sits script.entry.now hall.entry.now) result.seats.items }
-            ensures ended { result.ended ≡ true → All S.is_over result.seats.items }
-            ensures all { result.ended ≡ true → length result.seats.items ≡ sum_by (λ group. length group.items) groups.items }
-        {
-            turn_all(
-                scope, rt, alloc, script, hall, clock, gate, stop, flags, groups,
-            )
-        },
-    );
-    Turned { seats, ended }
+    let shared = Shared {
+        script,
+        hall,
+        clock,
+        gate,
+        stop,
+    };
+    turn_with(rt, alloc, &shared, flags, groups)
 }
 
 /// Turns the seats of each group in a thread of its own until all have ended, or until one finds no memory; the seats of a
@@ -410,8 +419,8 @@ where
 {
     let flags = flags_for(alloc, groups.len())?;
     let stop = CachePadded::new(AtomicBool::new(false));
-    let clock = Mutex::new(clock);
-    Ok(turn_with(
+    let clock = Mutex::new(&mut *clock);
+    Ok(turn_under(
         rt,
         alloc,
         script,

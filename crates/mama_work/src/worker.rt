@@ -9,6 +9,16 @@ use std::sync::atomic::AtomicBool;
 use std::sync::atomic::Ordering::SeqCst;
 use std::sync::{Mutex, Wait};
 
+/// What all threads share: the script and the hall of their seats, the clock, the gate, and a flag by which all leave off.
+#[derive(Drop)]
+pub(crate) struct Shared<'s, 'c, S: Seat, C: Clock, G: Gate> {
+    pub(crate) script: &'s S::Script,
+    pub(crate) hall: &'s S::Hall,
+    pub(crate) clock: &'s Mutex<&'c mut C>,
+    pub(crate) gate: &'s G,
+    pub(crate) stop: &'s AtomicBool,
+}
+
 /// The seats of a thread that left off, and whether it did since all of them have ended.
 #[derive(Drop)]
 pub(crate) struct Report<S: Seat> {
@@ -19,41 +29,35 @@ pub(crate) struct Report<S: Seat> {
 // Makes a step of a seat. The clock is locked only where the step uses a moment.
 fn step<S: Seat, C: Clock, G: Gate, Rt: Wait + Copy>(
     rt: Rt,
-    script: &S::Script,
-    hall: &S::Hall,
-    clock: &Mutex<&mut C>,
-    gate: &G,
+    shared: &Shared<'_, '_, S, C, G>,
     seat: &mut S,
 ) -> Result<bool, OutOfMemory>
-    requires { S.sits script.now hall.now seat.old }
-    ensures { S.sits script.now hall.now seat.new }
+    requires { S.sits shared.now.script.now shared.now.hall.now seat.old }
+    ensures { S.sits shared.now.script.now shared.now.hall.now seat.new }
 {
-    gate.turn(seat.actor());
+    shared.gate.turn(seat.actor());
     let moment = if seat.reads_clock() {
-        clock.lock(&rt).now()
+        shared.clock.lock(&rt).now()
     } else {
         0
     };
-    seat.turn(rt, script, hall, moment)
+    seat.turn(rt, shared.script, shared.hall, moment)
 }
 
 // Makes a step of each seat that has not ended, and says whether one moved.
 fn round<S: Seat, C: Clock, G: Gate, Rt: Wait + Copy>(
     rt: Rt,
-    script: &S::Script,
-    hall: &S::Hall,
-    clock: &Mutex<&mut C>,
-    gate: &G,
+    shared: &Shared<'_, '_, S, C, G>,
     seats: &mut Vec<S>,
 ) -> Result<bool, OutOfMemory>
-    requires { All (S.sits script.now hall.now) seats.old.items }
-    ensures sits { All (S.sits script.now hall.now) seats.new.items }
+    requires { All (S.sits shared.now.script.now shared.now.hall.now) seats.old.items }
+    ensures sits { All (S.sits shared.now.script.now shared.now.hall.now) seats.new.items }
     ensures all { length seats.new.items ≡ length seats.old.items }
 {
     let mut moved = false;
     for seat in seats.iter_mut() {
         if !seat.ended() {
-            moved = step(rt, script, hall, clock, gate, seat)? || moved;
+            moved = step(rt, shared, seat)? || moved;
         }
     }
     Ok(moved)
@@ -69,15 +73,11 @@ fn have_ended<S: Seat>(seats: &[S]) -> bool
 /// Turns the seats in rotation until all have ended, or until the flag is raised, which a turn that finds no memory does.
 pub(crate) fn work<S: Seat, C: Clock, G: Gate, Rt: Wait + Copy>(
     rt: Rt,
-    script: &S::Script,
-    hall: &S::Hall,
-    clock: &Mutex<&mut C>,
-    gate: &G,
-    stop: &AtomicBool,
+    shared: &Shared<'_, '_, S, C, G>,
     seats: Vec<S>,
 ) -> Report<S>
-    requires { All (S.sits script.now hall.now) seats.items }
-    ensures seats { All (S.sits script.now hall.now) result.seats.items }
+    requires { All (S.sits shared.now.script.now shared.now.hall.now) seats.items }
+    ensures seats { All (S.sits shared.now.script.now shared.now.hall.now) result.seats.items }
     ensures all { length result.seats.items ≡ length seats.items }
     ensures ended { result.ended ≡ true → All S.is_over result.seats.items }
 {
@@ -87,13 +87,13 @@ pub(crate) fn work<S: Seat, C: Clock, G: Gate, Rt: Wait + Copy>(
         if have_ended(seats.as_slice()) {
             return Report { seats, ended: true };
         }
-        if stop.load(SeqCst) {
+        if shared.stop.load(SeqCst) {
             break;
         }
-        match round(rt, script, hall, clock, gate, &mut seats) {
+        match round(rt, shared, &mut seats) {
             Ok(true) => backoff.reset(),
             Ok(false) => backoff.snooze(),
-            Err(OutOfMemory) => stop.store(true, SeqCst),
+            Err(OutOfMemory) => shared.stop.store(true, SeqCst),
         }
     }
     Report {
@@ -105,16 +105,12 @@ pub(crate) fn work<S: Seat, C: Clock, G: Gate, Rt: Wait + Copy>(
 /// The same; but where the group's own flag stands the seats come back as they are.
 pub(crate) fn work_or_hold<S: Seat, C: Clock, G: Gate, Rt: Wait + Copy>(
     rt: Rt,
-    script: &S::Script,
-    hall: &S::Hall,
-    clock: &Mutex<&mut C>,
-    gate: &G,
-    stop: &AtomicBool,
+    shared: &Shared<'_, '_, S, C, G>,
     held: &AtomicBool,
     seats: Vec<S>,
 ) -> Report<S>
-    requires { All (S.sits script.now hall.now) seats.items }
-    ensures seats { All (S.sits script.now hall.now) result.seats.items }
+    requires { All (S.sits shared.now.script.now shared.now.hall.now) seats.items }
+    ensures seats { All (S.sits shared.now.script.now shared.now.hall.now) result.seats.items }
     ensures all { length result.seats.items ≡ length seats.items }
     ensures ended { result.ended ≡ true → All S.is_over result.seats.items }
 {
@@ -124,5 +120,5 @@ pub(crate) fn work_or_hold<S: Seat, C: Clock, G: Gate, Rt: Wait + Copy>(
             ended: false,
         };
     }
-    work(rt, script, hall, clock, gate, stop, seats)
+    work(rt, shared, seats)
 }
