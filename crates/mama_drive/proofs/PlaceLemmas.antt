@@ -1,6 +1,6 @@
 -- One place of a run after another: what of its rounds was done.
-use Rattle.std.proofs.Common.{◌≡◌, ℕ, ◌+◌, ◌<◌, ◌≤◌, Bool, false, List, [], ◌++◌, length, refl, sym, ◌∙◌, ap, arith, subst}
-use Rattle.std.specs.Prelude.{Option, Some, None, is_some, IfSome, Result, IfOk}
+use Rattle.std.proofs.Common.{◌≡◌, ℕ, ◌+◌, ◌<◌, ◌≤◌, Bool, List, [], ◌++◌, length, refl, sym, ◌∙◌, ap, arith, subst}
+use Rattle.std.specs.Prelude.{Option, Some, None, IfSome, Result, IfOk}
 use Rattle.mama_event.specs.Ports.{clients_of, publishers_of}
 use Rattle.mama_script.specs.Script.{ScriptData}
 use Rattle.mama_record.specs.RunData.{RunData}
@@ -353,7 +353,3 @@ stays_grown run seen is = subst (λ (c : Course). HasGrown c.scene run.scene) is
 
 pub end_of : (o : Option Parts) (parts : Parts) (s : Scene) (at : Place) → o ≡ Some parts → IfSome o (IsEnd s at) → IsEnd s at parts
 end_of o parts s at is h = subst (λ (p : Option Parts). IfSome p (IsEnd s at)) is h
-
-pub none_ends : (o : Option Parts) (s : Scene) (at : Place) → is_some o ≡ false → IfSome o (IsEnd s at)
-none_ends None s at h = tt
-none_ends (Some parts) s at h = cc

@@ -17,7 +17,7 @@ use Rattle.mama_rules_rounds.specs.World.{World}
 use Rattle.mama_rules_rounds.specs.Round.{setting_of, publishers_from, sends_in, publisher_steps, all_client_steps}
 use Rattle.mama_seats.specs.Sender.{steps_in}
 use Rattle.mama_seats.specs.Stand.{reading}
-use Rattle.mama_drive.specs.Scene.{Scene, world_in, script_in, entries_in, lane_in, journal_in, waiting_in, lefts, AreMoments, AllEnd}
+use Rattle.mama_drive.specs.Scene.{world_in, script_in, entries_in, lane_in, journal_in, waiting_in, lefts, AreMoments, AllEnd}
 use Rattle.mama_drive.specs.Start.{stands_from, senders_from, new_servers, started, Starts}
 
 scripts_are : (n : ℕ) (parts : List PublisherPart) → map script_in (senders_from n parts) ≡ publishers_from n parts
@@ -96,9 +96,6 @@ starts script =
       told = told_at_first queues 0 script.clients;
       ends = ends_at_first queues 0 script.clients;
     }
-
-pub starts_to : (script : ScriptData) (objects : List Planned) (s : Scene) → objects ≡ (setting_of script).objects → s ≡ started objects script → Starts script s
-starts_to script objects s known is = subst (Starts script) (sym (is ∙ ap (λ (o : List Planned). started o script) known)) (starts script)
 
 -- THE COUNTS OF A SCRIPT
 

@@ -17,9 +17,6 @@ use Rattle.mama_drive.proofs.GrownLemmas.{grown_same, moves_grown, bridge_grown,
 pub draining_none : (s : Scene) → IsDraining s turn.Bridge s
 draining_none s = record { mid = s; passes = passes_none s; moves = moves_none s; within = tt }
 
-pub goes_same : (t : Turn) (a b : Scene) → b ≡ a → GoesOn t a t b
-goes_same t a b is = subst (λ (s : Scene). GoesOn t a t s) (sym is) (record { on = λ first d. d; clients = refl; grown = grown_same (world_in a) })
-
 -- a turn that changes nothing
 stays : (t next : Turn) (a b : Scene) → b ≡ a → ((first : Scene) → IsDraining first t a → IsDraining first next a) → GoesOn t a next b
 stays t next a b is on = subst (λ (s : Scene). GoesOn t a next s) (sym is) (record { on = on; clients = refl; grown = grown_same (world_in a) })

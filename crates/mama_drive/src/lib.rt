@@ -4,7 +4,9 @@
 //! each step of a client or a publisher everything is drained, so that no event waits when the next step begins.
 //!
 //! A turn of an actor takes the memory that it needs before anything changes that a reader of the run can see: what the
-//! actor puts is held by the run ([`held`]) until there is room for it on its lanes.
+//! actor puts is held by the run ([`held`]) until there is room for it on its lanes. So a [`SerialRun`] always stands
+//! between two turns, and goes on from there after want of memory. `IsGoneOn` of `specs/Course.antt` and `HasGrown` of
+//! `specs/Grown.antt` say what a call that goes on with it keeps.
 #![tactic(auto)]
 
 mod bridge_seat;
