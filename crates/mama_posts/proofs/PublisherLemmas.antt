@@ -1,7 +1,7 @@
 -- How a publisher's seat keeps what it promises, at an event and at a line.
 use Rattle.std.specs.Prelude.{not, replicate}
 use Rattle.std.specs.List.{list_any, list_all, flat_map}
-use Rattle.std.proofs.Common.{◌≡◌, ◌↔◌, ℕ, zero, suc, Bool, true, false, ◌&&◌, ◌||◌, List, [], ◌∷◌, ◌++◌, map, None, Result, Ok, Err, OnOk, refl, sym, ◌∙◌, ap, subst, append-nil, append_assoc}
+use Rattle.std.proofs.Common.{◌≡◌, ◌↔◌, ℕ, zero, suc, Bool, true, false, ◌&&◌, ◌||◌, List, [], ◌∷◌, ◌++◌, Result, Ok, Err, OnOk, refl, sym, ◌∙◌, ap, subst, append-nil, append_assoc}
 use Rattle.std.proofs.lemmas.Bool.{and_parts, and_from, both_ways}
 use Rattle.std.proofs.lemmas.List.{map-append}
 use Rattle.std.proofs.lemmas.List.Concat.{flat_map-append}
@@ -28,7 +28,6 @@ use Rattle.mama_laws_allowed.specs.Allowed.{comes_in_time, own_by, own_in, Stops
 use Rattle.mama_lane.specs.Values.{PortValue}
 use Rattle.mama_ends.specs.Inlet.{InletValue}
 use Rattle.mama_seats.specs.Sender.{Progress, IsSeatedAt, IsSenderStep, script_of, sender_of, steps_in, steps_after, first_step, later_steps}
-use Rattle.mama_seats.specs.Waiting.{Queued, waits}
 use Rattle.mama_posts.specs.Publisher.{PublisherPostValue, IsPublisherOf, HasEnded, MadeStep, finished, took, did, holding}
 
 -- ---- entries that take nothing
@@ -259,12 +258,6 @@ event_seat part number old note progress port inlet left seat clear in_time is s
         each = ap (each_fits comes_in_time []) more ∙ each_fits-append comes_in_time [] journal (Took note ∷ []) seat.stops.each (and_from (comes_in_time journal (Took note)) true in_time refl);
       };
     }
-
--- what is left where nothing was, after some puts
-pub lays_all : {A : Type 0} (f : A → BridgeNote) (left : Queued A) (items before : List A) (puts : List BridgeNote)
-    → left ≡ record { apart = None; rest = items } → map f items ≡ map f before ++ puts → before ≡ [] → map f (waits left) ≡ puts
-lays_all {A} f left items before puts is lays none =
-    ap (λ (w : Queued A). map f (waits w)) is ∙ lays ∙ ap (λ (xs : List A). map f xs ++ puts) none
 
 -- ---- the end
 

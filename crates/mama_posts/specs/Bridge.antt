@@ -1,5 +1,5 @@
 -- believed: What the seat of the bridge keeps.
-use Rattle.std.specs.Prelude.{◌≡◌, ℕ, Bool, List, [], map}
+use Rattle.std.specs.Prelude.{◌≡◌, ℕ, Bool, List, map}
 use Rattle.std.specs.List.{flat_map}
 use Rattle.mama_event.specs.declared.shape.Shape.{Shape}
 use Rattle.mama_event.specs.declared.shape.Bounds.{Bounds}

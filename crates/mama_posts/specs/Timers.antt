@@ -1,5 +1,5 @@
 -- believed: What the seat of the timer service keeps.
-use Rattle.std.specs.Prelude.{◌≡◌, ℕ, ◌+◌, Bool, List}
+use Rattle.std.specs.Prelude.{ℕ, ◌+◌, Bool, List}
 use Rattle.mama_journal.specs.Lane.{by_port}
 use Rattle.mama_event.specs.declared.shape.Shape.{Shape}
 use Rattle.mama_event.specs.declared.shape.Bounds.{Bounds}

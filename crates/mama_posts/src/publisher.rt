@@ -1,18 +1,19 @@
-ghost use Rattle.std.specs.Prelude.{◌≡◌, ◌↔◌, ◌+◌, ◌^◌, ◌<◌, ◌≤◌, true, false, [], ◌∷◌, ◌++◌, length, IfOk, OnOk, OnErr, Ok};
+ghost use Rattle.std.specs.Prelude.{◌≡◌, ◌↔◌, ℕ, ◌+◌, ◌^◌, ◌<◌, ◌≤◌, true, false, [], ◌∷◌, ◌++◌, length, IfOk, IsOk, OnOk, OnErr, Ok};
 ghost use Rattle.std.specs.List.{list_any};
 ghost use mathlib.Core.List.{IsPrefix};
-ghost use Rattle.mama_event.specs.declared.publisher_entry.PublisherEntry.{PublisherEntry};
 ghost use Rattle.mama_event.specs.ToPublisher.{note_of as publisher_note_of};
 ghost use Rattle.mama_rules_legal.specs.Edges.{taken_by};
 ghost use Rattle.mama_rules_legal.specs.Lines.{is_done, takes_settle};
 ghost use Rattle.mama_laws_allowed.specs.Allowed.{comes_in_time};
 ghost use Rattle.mama_journal.specs.Lane.{from_port};
+ghost use Rattle.mama_script.specs.declared.publisher.PublisherPart.{PublisherPart as PublisherPartData};
+ghost use Rattle.mama_lane.specs.Values.{note_of_port, after_learn};
 ghost use Rattle.mama_posts.specs.Publisher.{IsPublisherOf, HasEnded, DidLine, MadeStep, IsCaughtUp, holding};
 
 use crate::pace::Pace;
 use mama_carry::{Carried, Listener};
-use mama_ends::{Inlet, Lane, Port, Taker, Waiting, flush};
-use mama_event::{ToBridge, ToPublisher};
+use mama_ends::{Inlet, Lane, Port, PutNote, Taker, Waiting, flush};
+use mama_event::{PublisherEntry, ToBridge, ToPublisher};
 use mama_laws_allowed::publisher_puts_are_lawful;
 use mama_memory::{OutOfMemory, Outbox};
 use mama_script::PublisherPart;
@@ -46,6 +47,14 @@ impl<L: Listener> Model for PublisherPost<L> {
     ghost view = { λ p. record { progress = p.state; inlet = p.inlet; port = p.port; left = map (note_of (λ c. L.tagged c.listener)) (waits p.left) } };
 
     ghost invariant = { λ p. p.settled ≡ list_any takes_settle p.state.journal };
+}
+
+/// What a publisher's seat has where it is taken apart: its taker, its port, and its journal.
+#[derive(Drop)]
+pub struct PublisherParts<L: Listener> {
+    pub taker: Taker<ToPublisher>,
+    pub port: Port<ToBridge<Carried<L>>>,
+    pub journal: Vec<PublisherEntry>,
 }
 
 // Whether the event is a Settle.
@@ -135,6 +144,63 @@ impl<L: Listener> PublisherPost<L> {
             }
             Pace::Waiting => Ok(Pace::Waiting),
             Pace::Ended => Ok(Pace::Ended),
+        }
+    }
+
+    /// Whether it has ended.
+    pub fn ended(&mut self) -> bool
+        requires { self.old.inlet.taker.taken ≡ from_port 0 (taken_by self.old.progress.journal) ++ self.old.inlet.kept }
+        ensures ended { (result ≡ true) ↔ HasEnded self.old }
+        ensures same { self.new ≡ self.old }
+    {
+        if self.has_left() {
+            return false;
+        }
+        self.has_ended()
+    }
+
+    /// From now on the seat knows that the note's port has put what the note names. It takes no memory.
+    pub fn learn<Rt: Copy>(&mut self, rt: Rt, lane: &Lane<ToPublisher>, note: PutNote<ToPublisher>)
+        requires lane { self.old.inlet.taker.lane ≡ lane.now.id }
+        requires note { note.lane ≡ lane.now.id }
+        ensures seat { (part : PublisherPartData) (number : ℕ) → IsPublisherOf part number self.old → IsPublisherOf part number self.new }
+        ensures learnt { self.new ≡ record self.old { inlet = record self.old.inlet { taker = after_learn self.old.inlet.taker note } } }
+    {
+        self.inlet.learn(rt, lane, note);
+    }
+
+    /// A note of what was put to the bridge so far. It takes no memory, and always succeeds.
+    pub fn tell_bridge<Rt: Copy>(
+        &mut self,
+        rt: Rt,
+        bridge: &Lane<ToBridge<Carried<L>>>,
+    ) -> Result<PutNote<ToBridge<Carried<L>>>, OutOfMemory>
+        requires { self.old.port.lane ≡ bridge.now.id }
+        ensures ok { IsOk result }
+        ensures note { IfOk result (λ note. note ≡ note_of_port self.old.port) }
+        ensures same { self.new ≡ self.old }
+    {
+        self.port.tell(rt, bridge)
+    }
+
+    /// The taker, the port and the journal. An event that is kept, and what is left, are dropped. It takes no memory.
+    pub fn into_parts(self) -> PublisherParts<L>
+        ensures taker { result.taker ≡ self.inlet.taker }
+        ensures port { result.port ≡ self.port }
+        ensures journal { result.journal.items ≡ self.progress.journal }
+    {
+        let PublisherPost {
+            alloc: _,
+            state,
+            inlet,
+            port,
+            left: _,
+            settled: _,
+        } = self;
+        PublisherParts {
+            taker: inlet.into_taker(),
+            port,
+            journal: state.into_journal(),
         }
     }
 

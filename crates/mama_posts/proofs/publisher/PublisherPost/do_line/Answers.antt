@@ -3,7 +3,8 @@ use Rattle.std.proofs.Common.{◌∙◌, ap, sym, subst}
 use Rattle.mama_rules_legal.specs.Lines.{takes_settle}
 use Rattle.mama_seats.specs.Sender.{Progress, sender_of, IsSenderStep}
 use Rattle.mama_posts.specs.Publisher.{PublisherPostValue}
-use Rattle.mama_posts.proofs.PublisherLemmas.{line_seat, line_settled, lays_all}
+use Rattle.mama_posts.proofs.PublisherLemmas.{line_seat, line_settled}
+use Rattle.mama_posts.proofs.ServiceLemmas.{lays_all}
 use Rattle.mama_posts.proofs.publisher.PublisherPost.do_line.Goals as goal
 
 pub invariant_of-self-2 : goal.invariant_of-self-2

@@ -4,7 +4,8 @@ use Rattle.mama_event.specs.ToPublisher.{note_of}
 use Rattle.mama_event.specs.declared.publisher_entry.PublisherEntry.TheVariants.{Took}
 use Rattle.mama_seats.specs.Sender.{Progress, IsSeated, IsSeatedAt, script_of}
 use Rattle.mama_posts.specs.Publisher.{PublisherPostValue}
-use Rattle.mama_posts.proofs.PublisherLemmas.{event_seat, lays_all}
+use Rattle.mama_posts.proofs.PublisherLemmas.{event_seat}
+use Rattle.mama_posts.proofs.ServiceLemmas.{lays_all}
 use Rattle.mama_posts.proofs.publisher.PublisherPost.take.Goals as goal
 
 pub returns-clause-seat : goal.returns-clause-seat
