@@ -1,3 +1,5 @@
+pub mod Client
+pub mod Outlets
 pub mod Publisher
 pub mod Ports
 pub mod Service
