@@ -7,3 +7,4 @@ pub mod Bridge
 pub mod Timers
 pub mod Laying
 pub mod Byes
+pub mod Queue
