@@ -1,6 +1,10 @@
+pub mod ClientLemmas
+pub mod OutletLemmas
 pub mod PublisherLemmas
 pub mod PortsLemmas
 pub mod ServiceLemmas
 pub mod BridgeLemmas
 pub mod TimersLemmas
 pub mod ByesLemmas
+pub mod QueueLemmas
+pub mod ReturnLemmas

@@ -8,6 +8,13 @@
 
 mod bridge;
 mod laws;
+//! the section and the number, since the seat may go to another thread and its section stays.
+//! So it is of [`ClientPost`], a client's (`specs/Client.antt`), and [`QueuePost`], a queue's (`specs/Queue.antt`).
+#![tactic(auto)]
+
+mod client;
+mod dressing;
+mod outlets;
 mod pace;
 mod ports;
 mod publisher;
@@ -18,3 +25,10 @@ pub use laws::{bridges_end_by_byes, timers_end_by_byes};
 pub use pace::Pace;
 pub use publisher::{PublisherParts, PublisherPost};
 pub use timers::{TimersParts, TimersPost};
+mod queue;
+
+pub use client::{ClientParts, ClientPost};
+pub use dressing::ClientListeners;
+pub use pace::Pace;
+pub use publisher::PublisherPost;
+pub use queue::{QueueParts, QueuePost};
