@@ -48,6 +48,16 @@ invariant_of-self-in-Err-3 g c =
     serving_roomy c.self.inside.journal.items c.reserve.new.self.items c.self.inside.fins c.self.inside.seats c.serve.new.self c.self.inside.room c.prepare.new.room c.self.inside.images.items c.prepare.new.images.items
     c.reserve.ensures.items c.in-Err.ensures.err c.prepare.ensures.none c.prepare.ensures.capacity c.prepare.ensures.images c.self.invariant
 
+pub invariant_of-self-in-Err-4 : goal.invariant_of-self-in-Err-4
+invariant_of-self-in-Err-4 g c =
+    serving_roomy c.self.inside.journal.items c.reserve.new.self.items c.self.inside.fins c.self.inside.seats c.serve.new.self c.self.inside.room c.prepare.new.room c.self.inside.images.items c.prepare.new.images.items
+    c.reserve.ensures.items c.in-Err.ensures.err c.prepare.ensures.none c.prepare.ensures.capacity c.prepare.ensures.images c.self.invariant
+
+pub invariant_of-self-in-Err-5 : goal.invariant_of-self-in-Err-5
+invariant_of-self-in-Err-5 g c =
+    serving_roomy c.self.inside.journal.items c.reserve.new.self.items c.self.inside.fins c.self.inside.seats c.serve.new.self c.self.inside.room c.prepare.new.room c.self.inside.images.items c.prepare.new.images.items
+    c.reserve.ensures.items c.in-Err.ensures.err c.prepare.ensures.none c.prepare.ensures.capacity c.prepare.ensures.images c.self.invariant
+
 pub returns-in-Ok-serve-clause-puts : goal.returns-in-Ok-serve-clause-puts
 returns-in-Ok-serve-clause-puts g c = λ orders fits.
     let of : QueueNote = note_of g.L.Tagged.tagged c.args.event in
