@@ -7,7 +7,7 @@ use Rattle.std.proofs.lemmas.List.{take_all}
 use Rattle.mama_msg.specs.Field.{FieldData, key_of}
 use Rattle.mama_msg.specs.Message.{AreDistinct, has_key, with_key, with_fid, apply}
 use Rattle.mama_msg.proofs.Applying.{AreDistinct-apply}
-use Rattle.mama_msg.proofs.Indexing.{AreDistinct-updated}
+use Rattle.mama_msg.proofs.DistinctKeys.{AreDistinct-updated}
 use Rattle.mama_event.specs.FidList.{is_ascending_above}
 use Rattle.mama_event.specs.Publisher.{asked_fields}
 use Rattle.mama_words.specs.Field.{IsField, are_distinct, IsMessage}
