@@ -18,10 +18,10 @@ pub returns : goal.returns
 returns c =
     let o = c.args.object.now in
     let orders : ObjectId → ℕ → List Order = orders_in c.args.book.now in
-    on_ok_weaker c.call.result (λ changed.
-    makes_call orders c.args.entry o c.args.call c.orders-orders.result c.args.self.now.objects c.call.new.self c.args.self.now.puts c.put_call.new.self
+    on_ok_weaker c.call-2.result (λ changed.
+    makes_call orders c.args.entry o c.args.call c.orders-orders.result c.args.self.now.objects c.call-2.new.self c.args.self.now.puts c.put_call.new.self
     (sym c.is_left_out.ensures ∙ c.if-is_left_out.false)
     (c.orders-orders.ensures ∙ ap (λ (cs : List CallNote). orders o (length cs + 1)) c.calls.ensures)
     (c.in_ok-put_call.ensures ∙ ap (λ (os : List Order). put_all c.args.entry (puts_of (called o c.args.call os)) c.args.self.now.puts) c.as_slice.ensures)
     changed)
-    c.call.ensures
+    c.call-2.ensures
