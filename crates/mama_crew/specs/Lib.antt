@@ -1,0 +1,3 @@
+pub mod Hall
+pub mod Client
+pub mod Seat

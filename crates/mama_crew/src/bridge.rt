@@ -1,0 +1,67 @@
+ghost use Rattle.std.specs.Prelude.{◌≡◌, ◌↔◌, true, [], Ok};
+ghost use mathlib.Core.List.{IsPrefix};
+ghost use Rattle.mama_posts.specs.Bridge.{is_over};
+ghost use Rattle.mama_posts.specs.Service.{HasEnded, IsIdle, MadeStep};
+ghost use Rattle.mama_crew.specs.Seat.{IsBridgeIn};
+
+use crate::hall::Hall;
+use mama_carry::Listener;
+use mama_memory::OutOfMemory;
+use mama_posts::{BridgePost, Pace};
+use mama_script::Script;
+use std::marker::Model;
+use std::sync::Wait;
+
+/// The bridge's seat in a crew.
+#[derive(Drop)]
+pub struct BridgeSeat<L: Listener> {
+    post: BridgePost<L>,
+    // Whether it has ended.
+    ended: bool,
+}
+
+impl<L: Listener> Model for BridgeSeat<L> {
+    ghost use Rattle.std.specs.Prelude.{◌≡◌, ◌↔◌, true};
+    ghost use Rattle.mama_posts.specs.Bridge.{BridgePostValue, is_over};
+    ghost use Rattle.mama_posts.specs.Service.{HasEnded};
+
+    ghost Value = { BridgePostValue };
+
+    ghost view = { λ s. s.post };
+
+    ghost invariant = { λ s. (s.ended ≡ true) ↔ HasEnded (is_over s.post.service.shape) s.post.service };
+}
+
+impl<L: Listener> BridgeSeat<L> {
+    // Whether it has ended.
+    pub(crate) fn ended(&self) -> bool
+        ensures { (result ≡ true) ↔ HasEnded (is_over self.now.service.shape) self.now.service }
+    {
+        self.ended
+    }
+
+    // A turn of the bridge's seat.
+    pub(crate) fn turn<Rt: Wait + Copy>(
+        &mut self,
+        rt: Rt,
+        _script: &Script,
+        hall: &Hall<L>,
+    ) -> Result<Pace, OutOfMemory>
+        requires { IsBridgeIn _script.now hall.now self.old }
+        ensures seat { IsBridgeIn _script.now hall.now self.new }
+        ensures grows { IsPrefix self.old.service.journal self.new.service.journal }
+        ensures waiting { result ≡ Ok Pace.Waiting → (self.new ≡ self.old) × IsIdle self.old.service }
+        ensures ended { (result ≡ Ok Pace.Ended) ↔ HasEnded (is_over self.old.service.shape) self.old.service }
+        ensures over { result ≡ Ok Pace.Ended → self.new ≡ self.old }
+        ensures moved { result ≡ Ok Pace.Moved → MadeStep self.old.service self.new.service × (self.new.service.left ≡ []) }
+    {
+        let lane = hall.to_bridge();
+        let publishers = hall.to_publishers();
+        let queues = hall.to_queues();
+        let timers = hall.to_timers();
+        let pace = self.post.turn(rt, lane, publishers, queues, timers);
+        let ended = self.post.ended();
+        self.ended = ended;
+        pace
+    }
+}

@@ -1,0 +1,77 @@
+ghost use Rattle.std.specs.Prelude.{◌≡◌, ◌↔◌, ◌<◌, true, [], Ok};
+ghost use mathlib.Core.List.{IsPrefix};
+ghost use Rattle.mama_posts.specs.Client.{HasEnded, MadeStep};
+ghost use Rattle.mama_crew.specs.Client.{reads_now};
+ghost use Rattle.mama_crew.specs.Seat.{IsClientIn};
+
+use crate::hall::Hall;
+use mama_carry::Listener;
+use mama_memory::OutOfMemory;
+use mama_posts::{ClientPost, Pace};
+use mama_script::Script;
+use std::marker::Model;
+use std::sync::Wait;
+
+/// A client's seat in a crew.
+#[derive(Drop)]
+pub struct ClientSeat<L: Listener> {
+    post: ClientPost<L>,
+    // Whether its next step reads the clock.
+    reads: bool,
+}
+
+impl<L: Listener> Model for ClientSeat<L> {
+    ghost use Rattle.mama_crew.specs.Client.{ClientSeatValue};
+
+    ghost Value = { ClientSeatValue };
+
+    ghost view = { λ s. record { post = s.post; reads = s.reads } };
+}
+
+// Whether the next step of a client's post reads the clock.
+fn is_reading<L: Listener>(post: &ClientPost<L>, script: &Script, number: u32) -> bool
+    ensures { result ≡ reads_now script.now number post.now }
+{
+    post.reads_clock(script, number)
+}
+
+impl<L: Listener> ClientSeat<L> {
+    // Whether it has ended.
+    pub(crate) fn ended(&self) -> bool
+        ensures { (result ≡ true) ↔ HasEnded self.now.post }
+    {
+        self.post.ended()
+    }
+
+    // Whether its next step reads the clock.
+    pub(crate) fn reads_clock(&self) -> bool
+        ensures { result ≡ self.now.reads }
+    {
+        self.reads
+    }
+
+    // A turn of the seat of the client of this number.
+    pub(crate) fn turn<Rt: Wait + Copy>(
+        &mut self,
+        rt: Rt,
+        script: &Script,
+        hall: &Hall<L>,
+        number: u32,
+        moment: u64,
+    ) -> Result<Pace, OutOfMemory>
+        requires { IsClientIn script.now hall.now number self.old }
+        ensures seat { IsClientIn script.now hall.now number self.new }
+        ensures grows { IsPrefix self.old.post.walk.read self.new.post.walk.read }
+        ensures waiting { result ≡ Ok Pace.Waiting → (self.new ≡ self.old) × ⊥ }
+        ensures ended { (result ≡ Ok Pace.Ended) ↔ HasEnded self.old.post }
+        ensures over { result ≡ Ok Pace.Ended → self.new ≡ self.old }
+        ensures moved { result ≡ Ok Pace.Moved → MadeStep script.now number moment self.old.post self.new.post × (self.new.post.left ≡ []) }
+    {
+        let bridge = hall.to_bridge();
+        let timers = hall.to_timers();
+        let pace = self.post.turn(rt, bridge, timers, script, number, moment);
+        let reads = is_reading(&self.post, script, number);
+        self.reads = reads;
+        pace
+    }
+}

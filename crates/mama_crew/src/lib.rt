@@ -1,0 +1,25 @@
+//! The crew of a script: the seats of all its actors, and the hall with their lanes. Threads may turn the seats in any order.
+//!
+//! A [`Seat`] keeps the state of its actor and the actor's ends of lanes; script and hall are shared, and handed to each turn.
+//! What a seat keeps from turn to turn is `IsSeatOf` of `specs/Seat.antt`. [`Seat::turn`] makes one step.
+#![tactic(auto)]
+
+mod bridge;
+mod client;
+mod hall;
+mod publisher;
+mod queue;
+mod seat;
+mod timers;
+
+pub use bridge::BridgeSeat;
+pub use client::ClientSeat;
+pub use hall::Hall;
+pub use mama_carry::Listener;
+pub use mama_edge::GateActor;
+pub use mama_memory::OutOfMemory;
+pub use mama_posts::Pace;
+pub use mama_script::Script;
+pub use publisher::PublisherSeat;
+pub use seat::Seat;
+pub use timers::TimersSeat;

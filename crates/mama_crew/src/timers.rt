@@ -1,0 +1,65 @@
+ghost use Rattle.std.specs.Prelude.{◌≡◌, ◌↔◌, true, [], Ok};
+ghost use mathlib.Core.List.{IsPrefix};
+ghost use Rattle.mama_posts.specs.Timers.{is_over};
+ghost use Rattle.mama_posts.specs.Service.{HasEnded, IsIdle, MadeStep};
+ghost use Rattle.mama_crew.specs.Seat.{IsTimersIn};
+
+use crate::hall::Hall;
+use mama_carry::Listener;
+use mama_memory::OutOfMemory;
+use mama_posts::{Pace, TimersPost};
+use mama_script::Script;
+use std::marker::Model;
+use std::sync::Wait;
+
+/// The timer service's seat in a crew.
+#[derive(Drop)]
+pub struct TimersSeat<L: Listener> {
+    post: TimersPost<L>,
+    // Whether it has ended.
+    ended: bool,
+}
+
+impl<L: Listener> Model for TimersSeat<L> {
+    ghost use Rattle.std.specs.Prelude.{◌≡◌, ◌↔◌, true};
+    ghost use Rattle.mama_posts.specs.Timers.{TimersPostValue, is_over};
+    ghost use Rattle.mama_posts.specs.Service.{HasEnded};
+
+    ghost Value = { TimersPostValue };
+
+    ghost view = { λ s. s.post };
+
+    ghost invariant = { λ s. (s.ended ≡ true) ↔ HasEnded (is_over s.post.service.shape) s.post.service };
+}
+
+impl<L: Listener> TimersSeat<L> {
+    // Whether it has ended.
+    pub(crate) fn ended(&self) -> bool
+        ensures { (result ≡ true) ↔ HasEnded (is_over self.now.service.shape) self.now.service }
+    {
+        self.ended
+    }
+
+    // A turn of the timer service's seat.
+    pub(crate) fn turn<Rt: Wait + Copy>(
+        &mut self,
+        rt: Rt,
+        _script: &Script,
+        hall: &Hall<L>,
+    ) -> Result<Pace, OutOfMemory>
+        requires { IsTimersIn _script.now hall.now self.old }
+        ensures seat { IsTimersIn _script.now hall.now self.new }
+        ensures grows { IsPrefix self.old.service.journal self.new.service.journal }
+        ensures waiting { result ≡ Ok Pace.Waiting → (self.new ≡ self.old) × IsIdle self.old.service }
+        ensures ended { (result ≡ Ok Pace.Ended) ↔ HasEnded (is_over self.old.service.shape) self.old.service }
+        ensures over { result ≡ Ok Pace.Ended → self.new ≡ self.old }
+        ensures moved { result ≡ Ok Pace.Moved → MadeStep self.old.service self.new.service × (self.new.service.left ≡ []) }
+    {
+        let lane = hall.to_timers();
+        let queues = hall.to_queues();
+        let pace = self.post.turn(rt, lane, queues);
+        let ended = self.post.ended();
+        self.ended = ended;
+        pace
+    }
+}
