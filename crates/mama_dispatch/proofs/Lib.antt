@@ -19,3 +19,4 @@ pub mod AnswerLemmas
 pub mod ServingLemmas
 pub mod NoteLemmas
 pub mod AppendLemmas
+pub mod CallbackLemmas

@@ -10,6 +10,7 @@ pub mod Hearing
 pub mod Keeping
 pub mod Served
 pub mod Notes
+pub mod Callbacks
 pub mod Noted
 pub mod SameNotes
 pub mod SameNotesLaws

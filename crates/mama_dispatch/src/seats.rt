@@ -6,7 +6,7 @@ ghost use Rattle.std.specs.Option.{option_and_then};
 ghost use Rattle.mama_event.specs.declared.ids.ObjectId.TheVariants.{Sub};
 ghost use Rattle.mama_dq.specs.Strategy.{callbacks_of};
 ghost use Rattle.mama_event.specs.Listener.{told};
-ghost use Rattle.mama_dispatch.specs.Seats.{has_seat, AreApart, seat_of, listener_in, is_muted_in, context_in, room_in, at, muted_by, muted_by_all, muted_where_live, called_with, with_listener, stepped, with_room, HeardIn};
+ghost use Rattle.mama_dispatch.specs.Seats.{SeatData, has_seat, AreApart, seat_of, listener_in, is_muted_in, context_in, room_in, at, muted_by, muted_by_all, muted_where_live, called_with, with_listener, stepped, with_room, HeardIn};
 ghost use Rattle.mama_dispatch.specs.Places.{IsPlace, IsEnded, IsOpened};
 ghost use Rattle.mama_dispatch.specs.Journals.{image_in};
 ghost use Rattle.mama_dispatch.specs.Keeping.{AreFew};
@@ -119,12 +119,13 @@ impl<L: Listener> Seats<L> {
         self.rows.len()
     }
 
-    /// The objects, in the order in which they were made.
-    pub(crate) fn into_rows(self) -> Vec<Row<L>>
-        ensures { map (row_data (told L.tagged L.calls L.heard L.given L.plan)) result.items ≡ self }
+    /// The index of the objects, and the objects, in the order in which they were made.
+    pub(crate) fn into_parts(self) -> (IndexSet<ObjectId>, Vec<Row<L>>)
+        ensures index { result.0.keys ≡ map (λ (s : SeatData). s.object) self }
+        ensures rows { map (row_data (told L.tagged L.calls L.heard L.given L.plan)) result.1.items ≡ self }
     {
-        let Seats { places: _, rows } = self;
-        rows
+        let Seats { places, rows } = self;
+        (places, rows)
     }
 
     /// Whether an object was made here.

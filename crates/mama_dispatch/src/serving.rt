@@ -23,7 +23,9 @@ ghost use Rattle.mama_event.specs.declared.ids.ObjectId.TheVariants.{Sub};
 ghost use Rattle.mama_event.specs.Record.{IsGenuine};
 ghost use Rattle.mama_dispatch.specs.Images.{lent, IsRecord};
 ghost use Rattle.mama_dispatch.specs.Notes.{lists_of, calls_made};
+ghost use Rattle.mama_dispatch.specs.Callbacks.{calls_to};
 
+use crate::callbacks::Callbacks;
 use crate::notes::{ServingNotes, add_image, calls_of_rows, prepare};
 use crate::row::ImageRow;
 use crate::seats::Seats;
@@ -267,6 +269,24 @@ impl<L: Listener> Serving<L> {
         journal
     }
 
+    /// What it took, each event with its port, and the callbacks of its objects, to be moved out object by object. It
+    /// takes no memory: there is room since the turns of the Creates.
+    pub fn into_callbacks(self) -> (Vec<(u32, QueueNote)>, Callbacks)
+        ensures taken { result.0.items ≡ self.journal }
+        ensures calls { (orders : ObjectId → ℕ → List Order) → Fits orders self.seats → (o : ObjectId) → calls_to o result.1 ≡ notes_of o (deeds orders self.journal) }
+    {
+        let Serving {
+            alloc,
+            queue: _,
+            seats,
+            journal,
+            fins: _,
+            room,
+            images: _,
+        } = self;
+        (journal, Callbacks::of(alloc, seats, room))
+    }
+
     /// What it took, each event with its port; the callbacks of each object, in the order of the Creates; and the image
     /// of each subscription that had one when its Gone was taken, in the order of the Gones. It takes no memory: there
     /// is room since the turns of the Creates, and the images were copied in the turns of the Gones.
@@ -284,9 +304,10 @@ impl<L: Listener> Serving<L> {
             room,
             images,
         } = self;
+        let (_, rows) = seats.into_parts();
         ServingNotes {
             taken: journal,
-            calls: calls_of_rows(seats.into_rows(), room),
+            calls: calls_of_rows(rows, room),
             images,
         }
     }

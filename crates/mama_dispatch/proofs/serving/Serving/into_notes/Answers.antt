@@ -10,7 +10,7 @@ use Rattle.mama_dispatch.proofs.serving.Serving.into_notes.Goals as goal
 
 pub returns-clause-calls : goal.returns-clause-calls
 returns-clause-calls g c = λ orders fits.
-    c.calls_of_rows.ensures ∙ ap lists_in c.into_rows.ensures
+    c.calls_of_rows.ensures ∙ ap lists_in c.into_parts-rows.ensures.rows
     ∙ lists_there orders c.self.inside.journal.items c.self.inside.seats
     (c.self.invariant.served.stands orders (fits_untold orders c.self.inside.seats (subst (λ (s : Served). Fits orders s.seats) (sym c.self.view_is) fits)))
     ∙ ap (λ (s : Served). calls_made orders s.journal) c.self.view_is
