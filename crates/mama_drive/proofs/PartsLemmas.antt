@@ -1,5 +1,5 @@
 -- The parts of a record, whatever is held.
-use Rattle.std.proofs.Common.{◌≡◌, ℕ, ◌≤◌, map, length, refl, sym, ◌∙◌, ap, subst}
+use Rattle.std.proofs.Common.{◌≡◌, ℕ, ◌≤◌, List, map, length, refl, sym, ◌∙◌, ap, subst}
 use Rattle.std.specs.Prelude.{vec_capacity}
 use Rattle.std.specs.List.{flat_map}
 use Rattle.mama_event.specs.Ports.{queue_port_of_bridge, queue_port_of_timers}
@@ -7,10 +7,11 @@ use Rattle.mama_rules_services.specs.Bridge.{BridgePut, to_publisher, to_queue}
 use Rattle.mama_rules_services.specs.Bridge as bridge
 use Rattle.mama_rules_queue.specs.Queue.{QueuePut}
 use Rattle.mama_rules_queue.specs.Queue as queue
+use Rattle.mama_rules_rounds.specs.Client.{Planned}
 use Rattle.mama_drive.specs.declared.held.Held.{Held}
 use Rattle.mama_drive.specs.declared.recording.Parts.{Parts}
 use Rattle.mama_drive.specs.Scene.{Scene, journal_in}
-use Rattle.mama_drive.specs.Record.{calls_by, images_by}
+use Rattle.mama_drive.specs.Record.{images_by}
 use Rattle.mama_drive.specs.Parts.{ArePartsOf}
 use Rattle.mama_drive.specs.Held.{seen, lay_put, lay_out, with_event}
 use Rattle.mama_drive.proofs.HeldLemmas.{seen_keeps, map_kept}
@@ -20,11 +21,14 @@ use Rattle.mama_drive.proofs.RunLemmas.{clients_seen, senders_seen, servers_seen
 parts_same : (a b : Scene) (parts : Parts) → a.objects ≡ b.objects → map journal_in a.servers ≡ map journal_in b.servers → length a.clients ≡ length b.clients
     → length a.senders ≡ length b.senders → length a.servers ≡ length b.servers → ArePartsOf a parts → ArePartsOf b parts
 parts_same a b parts objects journals clients senders servers h = record {
-  calls = h.calls ∙ ap (λ o. map (calls_by o (map journal_in a.servers)) o) objects ∙ ap (λ j. map (calls_by b.objects j) b.objects) journals;
   images = h.images ∙ ap (λ o. flat_map (images_by o (map journal_in a.servers)) o) objects ∙ ap (λ j. flat_map (images_by b.objects j) b.objects) journals;
+  no_calls = h.no_calls;
+  no_given = h.no_given;
   no_moments = h.no_moments;
   no_entries = h.no_entries;
   no_events = h.no_events;
+  calls_fit = subst (λ (o : List Planned). length o ≤ vec_capacity parts.calls) objects h.calls_fit;
+  given_fit = subst (λ n. n ≤ vec_capacity parts.given) servers h.given_fit;
   moments_fit = subst (λ n. n ≤ vec_capacity parts.moments) clients h.moments_fit;
   entries_fit = subst (λ n. n ≤ vec_capacity parts.entries) senders h.entries_fit;
   events_fit = subst (λ n. n ≤ vec_capacity parts.events) servers h.events_fit;

@@ -6,6 +6,7 @@ pub mod Heard
 pub mod Start
 pub mod Record
 pub mod Parts
+pub mod Given
 pub mod Grown
 pub mod Turns
 pub mod Place

@@ -1,15 +1,16 @@
 ghost use Rattle.std.specs.Prelude.{◌≡◌, ◌≤◌, [], ◌++◌, map, length, vec_capacity, IfOk, OnOk};
 ghost use Rattle.std.specs.List.{flat_map};
-ghost use Rattle.mama_rules_rounds.specs.Round.{noted};
 ghost use Rattle.mama_record.specs.RunView.{moments_of, entries_of, events_of, calls_of, images_of, calls_in};
-ghost use Rattle.mama_plans.specs.Plans.{planned_object};
+ghost use Rattle.mama_plans.specs.Plans.{planned_object, planned_objects, AreApart};
 ghost use Rattle.mama_seats.specs.Server.{Server};
 ghost use Rattle.mama_drive.specs.Scene.{journal_in, entries_in, objects_in};
-ghost use Rattle.mama_drive.specs.Record.{read_in, recorded, calls_by, image_by, images_by, journal_at};
+ghost use Rattle.mama_drive.specs.Record.{read_in, recorded, image_by, images_by, journal_at};
+ghost use Rattle.mama_drive.specs.Given.{calls_given, less, HaveGiven};
 ghost use Rattle.mama_drive.specs.Parts.{ArePartsOf};
 
 use crate::run::Run;
 use crate::system::System;
+use mama_dispatch::Callbacks;
 use mama_event::{CallNote, ImageHead, ObjectId, PublisherEntry, QueueNote, SubId};
 use mama_memory::OutOfMemory;
 use mama_msg::Msg;
@@ -18,10 +19,12 @@ use mama_record::RunRecord;
 use mama_seats::{ClientSeat, PublisherSeat, QueueSeat};
 use std::alloc::Global;
 
-/// The callbacks and images of a record, and empty lists with room for its journals and moments.
+/// The images of a record, and empty lists with room for its callbacks, journals and moments, and for the callbacks of
+/// each queue.
 #[derive(Drop)]
 pub(crate) struct Parts {
     pub(crate) calls: Vec<(ObjectId, Vec<CallNote>)>,
+    pub(crate) given: Vec<Callbacks>,
     pub(crate) images: Vec<(SubId, ImageHead, Msg)>,
     pub(crate) moments: Vec<Vec<u64>>,
     pub(crate) entries: Vec<Vec<PublisherEntry>>,
@@ -29,7 +32,7 @@ pub(crate) struct Parts {
 }
 
 impl<'a> Run<'a> {
-    /// The callbacks and images of its record, and room for all journals and moments.
+    /// The images of its record, and room for all callbacks, journals and moments.
     pub(crate) fn parts(&self) -> Result<Parts, OutOfMemory>
         ensures { IfOk result (ArePartsOf self.now) }
     {
@@ -47,17 +50,19 @@ impl<'a> Run<'a> {
 }
 
 impl<'a> System<'a> {
-    /// The callbacks and images of its record, and room for all journals and moments.
+    /// The images of its record, and room for all callbacks, journals and moments.
     fn parts(&self) -> Result<Parts, OutOfMemory>
         ensures { IfOk result (ArePartsOf self.now) }
     {
-        let calls = self.calls()?;
         let images = self.images()?;
+        let calls = Vec::with_capacity(self.alloc, self.plans.objects().len())?;
+        let given = Vec::with_capacity(self.alloc, self.queues.len())?;
         let moments = Vec::with_capacity(self.alloc, self.clients.len())?;
         let entries = Vec::with_capacity(self.alloc, self.publishers.len())?;
         let events = Vec::with_capacity(self.alloc, self.queues.len())?;
         Ok(Parts {
             calls,
+            given,
             images,
             moments,
             entries,
@@ -71,9 +76,9 @@ impl<'a> System<'a> {
         ensures { result ≡ recorded self.entry }
     {
         let System {
-            alloc: _,
+            alloc,
             shape: _,
-            plans: _,
+            plans,
             clients,
             publishers,
             queues,
@@ -84,27 +89,23 @@ impl<'a> System<'a> {
         } = self;
         let Parts {
             calls,
+            given,
             images,
             moments,
             entries,
             events,
         } = parts;
+        plans.are_apart();
+        let (events, given) = all_events(queues, events, given);
         RunRecord::new(
             all_moments(clients, moments),
             all_entries(publishers, entries),
             bridge.into_journal(),
             timers.into_journal(),
-            all_events(queues, events),
-            calls,
+            events,
+            all_calls(alloc, plans.objects(), given, calls),
             images,
         )
-    }
-
-    /// The callbacks of each object.
-    fn calls(&self) -> Result<Vec<(ObjectId, Vec<CallNote>)>, OutOfMemory>
-        ensures { IfOk result (λ found. calls_of found.items ≡ map (calls_by self.now.objects (map journal_in self.now.servers)) self.now.objects) }
-    {
-        all_calls(self.alloc, self.plans, self.queues.as_slice())
     }
 
     /// The last images, in the order of the objects.
@@ -144,52 +145,61 @@ fn all_entries(
     found
 }
 
-/// The journal of each queue, moved likewise.
-fn all_events(seats: Vec<QueueSeat>, room: Vec<Vec<(u32, QueueNote)>>) -> Vec<Vec<(u32, QueueNote)>>
+/// The journal of each queue, and the callbacks of its objects, moved likewise.
+fn all_events(
+    seats: Vec<QueueSeat>,
+    room: Vec<Vec<(u32, QueueNote)>>,
+    room_for_calls: Vec<Callbacks>,
+) -> (Vec<Vec<(u32, QueueNote)>>, Vec<Callbacks>)
     requires none { room.items ≡ [] }
     requires enough { length seats.items ≤ vec_capacity room }
-    ensures { events_of result.items ≡ map journal_in seats.entry.items }
+    requires no_calls { room_for_calls.items ≡ [] }
+    requires enough_calls { length seats.items ≤ vec_capacity room_for_calls }
+    ensures journals { events_of result.0.items ≡ map journal_in seats.entry.items }
+    ensures calls { HaveGiven seats.entry.items result.1.items }
 {
-    let mut found = room;
+    let mut events = room;
+    let mut given = room_for_calls;
     for seat in seats {
-        found.push_reserved(seat.into_journal());
+        let (journal, calls) = seat.into_parts();
+        events.push_reserved(journal);
+        given.push_reserved(calls);
     }
-    found
+    (events, given)
 }
 
-/// The callbacks of each object. The queues know the plans of these objects.
+/// The callbacks of each object, moved out of what the queues gave up into a list that has room for them.
 fn all_calls(
     alloc: Global,
-    plans: &Plans,
-    seats: &[QueueSeat],
-) -> Result<Vec<(ObjectId, Vec<CallNote>)>, OutOfMemory>
-    requires { map objects_in seats.now ≡ map (λ (s : Server). plans.now) seats.now }
-    ensures { IfOk result (λ found. calls_of found.items ≡ map (calls_by plans.now (map journal_in seats.now)) plans.now) }
+    objects: &[PlannedObject],
+    given: Vec<Callbacks>,
+    room: Vec<(ObjectId, Vec<CallNote>)>,
+) -> Vec<(ObjectId, Vec<CallNote>)>
+    requires none { room.items ≡ [] }
+    requires enough { length objects.now ≤ vec_capacity room }
+    requires apart { AreApart (planned_objects objects.now) }
+    ensures { calls_of result.items ≡ map (calls_given given.items) (planned_objects objects.now) }
 {
-    let mut found = Vec::new(alloc);
-    let objects = plans.objects();
+    let mut left = given;
+    let mut calls = room;
     for planned in objects {
-        let calls = calls_at(alloc, plans, seats, planned)?;
-        found.push((planned.object, calls))?;
+        let notes = take_calls(alloc, &mut left, planned);
+        calls.push_reserved((planned.object, notes));
     }
-    Ok(found)
+    calls
 }
 
-/// The callbacks of one object.
-fn calls_at(
-    alloc: Global,
-    plans: &Plans,
-    seats: &[QueueSeat],
-    planned: &PlannedObject,
-) -> Result<Vec<CallNote>, OutOfMemory>
-    requires { map objects_in seats.now ≡ map (λ (s : Server). plans.now) seats.now }
-    ensures { IfOk result (λ calls. calls.items ≡ (calls_by plans.now (map journal_in seats.now) (planned_object planned.now)).calls) }
+/// Moves the callbacks of one object out of what its queue gave up.
+fn take_calls(alloc: Global, given: &mut Vec<Callbacks>, planned: &PlannedObject) -> Vec<CallNote>
+    ensures calls { result.items ≡ (calls_given given.old.items (planned_object planned.now)).calls }
+    ensures rest { given.new.items ≡ less (planned_object planned.now) given.old.items }
 {
     let queue = planned.queue as usize;
-    if queue < seats.len() {
-        return seats[queue].calls(&planned.object);
+    if queue < given.len() {
+        let lists = &mut given[queue];
+        return lists.take(&planned.object);
     }
-    Ok(Vec::new(alloc))
+    Vec::new(alloc)
 }
 
 /// The last images, in the order of the objects. The queues know the plans of these objects.

@@ -3,3 +3,4 @@ pub mod PlanLemmas
 pub mod FewLemmas
 pub mod RoomLemmas
 pub mod ImageLemmas
+pub mod ApartLemmas

@@ -42,15 +42,15 @@ word_turns : (s : Standing) (word : QueueWord) → (after_word s word).turns ≤
 word_turns s (Number q) = omega arith
 word_turns s Any = omega arith
 
-word_subs : (s : Standing) (word : QueueWord) → (after_word s word).subs ≡ s.subs
+pub word_subs : (s : Standing) (word : QueueWord) → (after_word s word).subs ≡ s.subs
 word_subs s (Number q) = refl
 word_subs s Any = refl
 
-word_timers : (s : Standing) (word : QueueWord) → (after_word s word).timers ≡ s.timers
+pub word_timers : (s : Standing) (word : QueueWord) → (after_word s word).timers ≡ s.timers
 word_timers s (Number q) = refl
 word_timers s Any = refl
 
-word_inboxes : (s : Standing) (word : QueueWord) → (after_word s word).inboxes ≡ s.inboxes
+pub word_inboxes : (s : Standing) (word : QueueWord) → (after_word s word).inboxes ≡ s.inboxes
 word_inboxes s (Number q) = refl
 word_inboxes s Any = refl
 

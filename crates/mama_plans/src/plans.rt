@@ -2,7 +2,7 @@ ghost use Rattle.std.specs.Prelude.{◌≡◌, ◌++◌, ◌∷◌, [], List, le
 ghost use Rattle.mama_rules_rounds.specs.World.{plan_in, rows_of};
 ghost use Rattle.mama_journal.specs.Journal.{first_said};
 ghost use Rattle.mama_event.specs.declared.ids.ObjectId.{ObjectId};
-ghost use Rattle.mama_plans.specs.Plans.{planned_objects, AreFew};
+ghost use Rattle.mama_plans.specs.Plans.{planned_objects, AreFew, AreApart};
 ghost use Rattle.mama_plans.specs.Places.{objects_in, ArePlaced};
 
 use indexmap::IndexMap;
@@ -42,9 +42,10 @@ impl Model for Plans {
 }
 
 impl Plans {
-    /// The plans of these objects. Of objects that are one the first counts.
+    /// The plans of these objects.
     pub(crate) fn new(alloc: Global, objects: Vec<PlannedObject>) -> Result<Plans, OutOfMemory>
-        requires { AreFew (planned_objects objects.items) }
+        requires few { AreFew (planned_objects objects.items) }
+        requires apart { AreApart (planned_objects objects.items) }
         ensures { IfOk result (λ plans. plans ≡ planned_objects objects.items) }
     {
         let places = places_of(alloc, &objects)?;
@@ -54,6 +55,13 @@ impl Plans {
     /// A fact about any plans: each has at most 8 orders for a call.
     pub fn are_few(&self)
         ensures { AreFew self.now }
+    {
+        let _ = &self.objects;
+    }
+
+    /// A fact about any plans: no two of the objects are one.
+    pub fn are_apart(&self)
+        ensures { AreApart self.now }
     {
         let _ = &self.objects;
     }

@@ -1,7 +1,9 @@
 ghost use Rattle.std.specs.Prelude.{◌≡◌, ◌++◌, ◌∷◌, [], OnOk, OnErr, IfOk, IfErr, map};
 ghost use Rattle.mama_event.specs.ToQueue.{note_of};
 ghost use Rattle.mama_rules_queue.specs.Queue.{deeds, calls_of, queue_puts_at};
+ghost use Rattle.mama_event.specs.declared.ids.ObjectId.{ObjectId};
 ghost use Rattle.mama_dispatch.specs.Hearing.{ArePlanned};
+ghost use Rattle.mama_dispatch.specs.Callbacks.{calls_to};
 ghost use Rattle.mama_rules_rounds.specs.World.{is_empty};
 ghost use Rattle.mama_rules_rounds.specs.Round.{noted};
 ghost use Rattle.mama_plans.specs.Put.{own_tag, notes_of};
@@ -10,8 +12,8 @@ ghost use Rattle.mama_plans.specs.Orders.{orders_in};
 ghost use Rattle.mama_plans.specs.Image.{found_image, image_of};
 
 use crate::listening::{with_plan, without_plan};
-use mama_dispatch::Serving;
-use mama_event::{CallNote, ImageHead, ObjectId, QueueNote, SubId, ToQueue, ToService};
+use mama_dispatch::{Callbacks, Serving};
+use mama_event::{ImageHead, ObjectId, QueueNote, SubId, ToQueue, ToService};
 use mama_listener::PlanListener;
 use mama_memory::{OutOfMemory, Outbox};
 use mama_msg::Msg;
@@ -98,14 +100,6 @@ impl<'a> QueueSeat<'a> {
         }
     }
 
-    /// The callbacks of an object.
-    pub fn calls(&self, object: &ObjectId) -> Result<Vec<CallNote>, OutOfMemory>
-        ensures { IfOk result (λ calls. calls.items ≡ map noted (calls_of object.now (deeds (orders_in self.now.objects) self.now.journal))) }
-    {
-        self.serving.planned_orders_fit();
-        self.serving.calls_of(object)
-    }
-
     /// The last image of a subscription.
     pub fn image(&self, sub: SubId) -> Result<Option<(ImageHead, Msg)>, OutOfMemory>
         ensures { IfOk result (λ found. found_image sub found ≡ image_of self.now.objects self.now.journal sub) }
@@ -114,17 +108,19 @@ impl<'a> QueueSeat<'a> {
         self.serving.image_of(sub)
     }
 
-    /// The journal.
-    pub fn into_journal(self) -> Vec<(u32, QueueNote)>
-        ensures { result.items ≡ self.entry.journal }
+    /// The journal, and the callbacks of its objects, to be moved out object by object. It takes no memory.
+    pub fn into_parts(self) -> (Vec<(u32, QueueNote)>, Callbacks)
+        ensures journal { result.0.items ≡ self.entry.journal }
+        ensures calls { (o : ObjectId) → calls_to o result.1 ≡ map noted (calls_of o (deeds (orders_in self.entry.objects) self.entry.journal)) }
     {
+        self.serving.planned_orders_fit();
         let QueueSeat {
             alloc: _,
             plans: _,
             serving,
             lane: _,
         } = self;
-        serving.into_journal()
+        serving.into_callbacks()
     }
 }
 

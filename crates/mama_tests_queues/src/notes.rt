@@ -118,3 +118,16 @@ fn a_queue_that_took_nothing_has_no_notes(rt: HostRuntime) -> Result<(), Fail> {
     assert_eq!(rt; notes.images.len(), 0);
     Ok(())
 }
+
+#[test]
+fn callbacks_are_taken_object_by_object(rt: HostRuntime) -> Result<(), Fail> {
+    let (taken, mut callbacks) = four(rt.alloc())?.into_callbacks();
+    assert_eq!(rt; taken.len(), 11);
+    let wanted: [(u32, usize); 5] = [(2, 3), (0, 3), (3, 2), (4, 0), (1, 3)];
+    for (number, count) in wanted {
+        let object = ObjectId::Sub(sub(number));
+        assert_eq!(rt; callbacks.take(&object).len(), count);
+        assert_eq!(rt; callbacks.take(&object).len(), 0);
+    }
+    Ok(())
+}
