@@ -174,20 +174,23 @@ fn close_both<E: Stream, R: Wait + Copy>(
     close_lane(rt, lane, ports, taker);
 }
 
-// Puts one event.
+// Puts one event. Where no memory was found it comes back and all is as before, so it is put again.
 fn put_one<E: Stream, R: Wait + Copy>(
     rt: R,
     lane: &Lane<E>,
     port: &mut Port<E>,
     event: E,
-) -> Result<(), OutOfMemory>
+) -> Result<(), Fail>
     requires lane { port.old.lane ≡ lane.now.id }
     requires lawful { E.lawful port.old.bounds port.old.number (port.old.put ++ E.noted event ∷ []) }
     ensures { OnOk result (port.new ≡ after_put port.old (E.noted event)) }
 {
+    let Err(event) = port.put(rt, lane, event) else {
+        return Ok(());
+    };
     match port.put(rt, lane, event) {
         Ok(()) => Ok(()),
-        Err(_) => Err(OutOfMemory),
+        Err(_) => Err(Fail::new("a put is refused twice")),
     }
 }
 
