@@ -1,7 +1,7 @@
 use crate::orderer::Orderer;
 use mama_dispatch::{Listener, ObjectId, Order, QueueNote, Serving, ToQueue, ToService, Turn};
 use mama_event::{Make, MarketMsg, MsgKind, SubId, SubKind};
-use mama_memory::{OutOfMemory, Outbox};
+use mama_memory::Outbox;
 use mama_msg::Msg;
 use std::alloc::Global;
 use std::test::Fail;
@@ -27,13 +27,13 @@ fn made(number: u32, kind: SubKind) -> ToQueue<Orderer> {
     }
 }
 
-// A first image with no fields.
-fn image<L>(alloc: Global, number: u32, seq: u32) -> ToQueue<L> {
+// A message with no fields.
+fn message<L>(alloc: Global, number: u32, kind: MsgKind, seq: u32) -> ToQueue<L> {
     ToQueue::Deliver {
         slot: number,
         sub: sub(number),
         msg: MarketMsg {
-            kind: MsgKind::Initial,
+            kind,
             sender: 1,
             seq,
             body: Msg::new(alloc),
@@ -48,34 +48,53 @@ fn gone<L>(number: u32) -> ToQueue<L> {
     }
 }
 
-// Takes an event that may come.
-fn take<L: Listener>(
+// Takes an event if it may come.
+fn take_once<L: Listener>(
     serving: &mut Serving<L>,
+    port: u32,
     event: ToQueue<L>,
     out: &mut Outbox<ToService<ObjectId>>,
-) -> Result<Turn<L>, OutOfMemory> {
+) -> Result<Turn<L>, ToQueue<L>> {
     if !serving.may_take(&event) {
-        return Err(OutOfMemory);
+        return Err(event);
     }
-    match serving.turn(1, event, out) {
+    serving.turn(port, event, out)
+}
+
+/// Takes an event that may come. Where no memory was found it comes back and all is as before, so it is taken again.
+pub fn take<L: Listener>(
+    serving: &mut Serving<L>,
+    port: u32,
+    event: ToQueue<L>,
+    out: &mut Outbox<ToService<ObjectId>>,
+) -> Result<Turn<L>, Fail> {
+    let event = match take_once(serving, port, event, out) {
+        Ok(turn) => return Ok(turn),
+        Err(event) => event,
+    };
+    match take_once(serving, port, event, out) {
         Ok(turn) => Ok(turn),
-        Err(_) => Err(OutOfMemory),
+        Err(_) => Err(Fail::new("a turn is refused twice")),
     }
 }
 
-// The first two go in the other order; the third is basic, and the fourth gets no message.
-fn four(alloc: Global) -> Result<Serving<Orderer>, OutOfMemory> {
+// The first two go in the other order, and the first lacks an update before; the third is basic, and the fourth gets no
+// message.
+fn four(alloc: Global) -> Result<Serving<Orderer>, Fail> {
     let mut serving = Serving::new(alloc, 0);
     let mut out = Outbox::new(alloc);
-    let _turn = take(&mut serving, made(0, SubKind::Market), &mut out)?;
-    let _turn = take(&mut serving, made(1, SubKind::Market), &mut out)?;
-    let _turn = take(&mut serving, made(2, SubKind::Basic), &mut out)?;
-    let _turn = take(&mut serving, made(3, SubKind::Market), &mut out)?;
+    let _turn = take(&mut serving, 1, made(0, SubKind::Market), &mut out)?;
+    let _turn = take(&mut serving, 1, made(1, SubKind::Market), &mut out)?;
+    let _turn = take(&mut serving, 1, made(2, SubKind::Basic), &mut out)?;
+    let _turn = take(&mut serving, 1, made(3, SubKind::Market), &mut out)?;
     for (number, seq) in [(0, 7), (1, 9), (2, 5)] {
-        let _turn = take(&mut serving, image(alloc, number, seq), &mut out)?;
+        let image = message(alloc, number, MsgKind::Initial, seq);
+        let _turn = take(&mut serving, 1, image, &mut out)?;
     }
+    let update = message(alloc, 0, MsgKind::Update, 9);
+    let _turn = take(&mut serving, 1, update, &mut out)?;
     for number in [1, 2, 0, 3] {
-        let _turn = take(&mut serving, gone(number), &mut out)?;
+        let _turn = take(&mut serving, 1, gone(number), &mut out)?;
     }
     Ok(serving)
 }
@@ -83,9 +102,9 @@ fn four(alloc: Global) -> Result<Serving<Orderer>, OutOfMemory> {
 #[test]
 fn notes_come_in_their_orders(rt: HostRuntime) -> Result<(), Fail> {
     let notes = four(rt.alloc())?.into_notes();
-    assert_eq!(rt; notes.taken.len(), 11);
+    assert_eq!(rt; notes.taken.len(), 12);
     assert!(rt;
-        notes.taken[10]
+        notes.taken[11]
             == (
                 1,
                 QueueNote::Gone {
@@ -95,13 +114,13 @@ fn notes_come_in_their_orders(rt: HostRuntime) -> Result<(), Fail> {
             )
     );
     assert_eq!(rt; notes.calls.len(), 4);
-    let wanted: [(u32, usize); 4] = [(0, 3), (1, 3), (2, 3), (3, 2)];
+    let wanted: [(u32, usize); 4] = [(0, 7), (1, 3), (2, 3), (3, 2)];
     for ((object, calls), (number, count)) in notes.calls.iter().zip(wanted.iter()) {
         assert!(rt; *object == ObjectId::Sub(sub(*number)));
         assert_eq!(rt; calls.len(), *count);
     }
     assert_eq!(rt; notes.images.len(), 2);
-    let wanted: [(u32, u32); 2] = [(1, 9), (0, 7)];
+    let wanted: [(u32, u32); 2] = [(1, 9), (0, 9)];
     for ((from, head, _body), (number, last)) in notes.images.iter().zip(wanted.iter()) {
         assert!(rt; *from == sub(*number));
         assert_eq!(rt; head.last, *last);

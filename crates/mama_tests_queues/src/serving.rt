@@ -1,3 +1,4 @@
+use crate::notes::take;
 use crate::orderer::Orderer;
 use mama_dispatch::{
     ImageHead, Listener, ObjectId, Order, Orders, Serving, ToQueue, ToService, Turn,
@@ -6,7 +7,7 @@ use mama_event::{
     Make, MarketMsg, MsgKind, PlanRow, Quality, SubId, SubKind, Tagged, TimerId, ToBridge, ToTimers,
 };
 use mama_listener::{PlanListener, has_few_rows};
-use mama_memory::{OutOfMemory, Outbox};
+use mama_memory::Outbox;
 use mama_msg::Msg;
 use std::alloc::Global;
 use std::process::Abort;
@@ -65,12 +66,9 @@ fn took<L: Listener>(
     serving: &mut Serving<L>,
     event: ToQueue<L>,
     out: &mut Outbox<ToService<ObjectId>>,
-) -> Result<(char, u64), OutOfMemory> {
+) -> Result<(char, u64), Fail> {
     assert!(rt; serving.may_take(&event));
-    match serving.turn(0, event, out) {
-        Ok(turn) => Ok(letter(turn)),
-        Err(_) => Err(OutOfMemory),
-    }
+    Ok(letter(take(serving, 0, event, out)?))
 }
 
 fn letter<L: Listener>(turn: Turn<L>) -> (char, u64) {

@@ -146,7 +146,10 @@ fn step(
         seq,
         body: body(alloc, bid, ask)?,
     };
-    context.step(&msg, calls)?;
+    // Where no memory was found all is as before, so the step is made again.
+    if context.step(&msg, calls).is_err() && context.step(&msg, calls).is_err() {
+        return Err(Fail::new("a step is refused twice"));
+    }
     Ok(())
 }
 
