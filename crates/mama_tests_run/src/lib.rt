@@ -8,6 +8,8 @@ mod damaged;
 #[cfg(test)]
 mod failing;
 #[cfg(test)]
+mod going_on;
+#[cfg(test)]
 mod limits;
 #[cfg(test)]
 mod morning;
