@@ -1,12 +1,20 @@
 #!/bin/bash
-# Refuses each request for memory in turn while the proved program plays a small script or judges its log: there is a script
-# for every kind of line. It wants the proved program (./mama --version builds it) and a C compiler, for a library that is
-# loaded before the C library and answers one request of `malloc` or `realloc` with nothing. `rt try --fail-alloc` builds the
-# program anew for each number, which is why it is not used. After a refusal the program has to say that no memory was found,
-# by its line and its status, with nothing written; or else to do what it does when nothing is refused. Ends with 1 where it
-# does anything else.
+# Refuses each request for memory in turn: while the proved program plays a small script or judges its log, a script for every
+# kind of line; and while tests make single calls, each of which they make again where no memory was found.
+#
+# It wants the proved program (./mama --version builds it), the tests of mama_tests_run, mama_tests_queues and mama_lane (rt
+# test in their folders builds them), and a C compiler, for a library that is loaded before the C library and answers one
+# request of `malloc` or `realloc` with nothing. `rt try --fail-alloc` builds the program anew for each number, which is why it
+# is not used.
+#
+# After a refusal the program has to say that no memory was found, by its line and its status, with nothing written; or else to
+# do what it does when nothing is refused. A test ends with that error where the refused request was not of its call; else it
+# has to pass: the call left all as it was, and came to the same when it was made again. Ends with 1 where anything else comes.
 . "$(dirname "$0")/scratch.sh"
 proved_program
+for name in mama_tests_run mama_tests_queues mama_lane; do
+    proved_tests "$name"
+done
 cat > "$scratch/refuse.c" <<'END'
 #include <stdio.h>
 #include <stdlib.h>
@@ -44,10 +52,10 @@ __attribute__((destructor)) static void end(void) {
 }
 END
 cc -O1 -shared -fPIC -o "$scratch/refuse.so" "$scratch/refuse.c" || exit 2
-exec python3 - "$program" "$scratch" "$top/examples" <<'PROGRAM'
+exec python3 - "$program" "$scratch" "$top/crates" <<'PROGRAM'
 import os, re, shutil, subprocess, sys
 
-program, scratch, examples = sys.argv[1:]
+program, scratch, crates = sys.argv[1:]
 HEAD = "mama script 1|queues 1|"
 MARKET = HEAD + 'topic "A"|publisher 0 22:bid:u32:100|update 22:bid:u32:101|update 25:ask:u32:103|update 22:bid:u32:102|client|sub 0 market 0 10 1000|'
 # a script of each kind of line
@@ -67,16 +75,41 @@ SCRIPTS = {
     "two publishers and two clients": HEAD + 'topic "A"|topic "B"|publisher 0 1:a:u8:1|recap|publisher 1 1:a:i64:-1|update 1:a:i64:2 2::bool:true|client|sub 0 market 0 10 1000|sub 1 market 0 10 1000|client|sub 0 market 0 0 0|fault hold 1 2|',
 }
 OUT_OF_MEMORY = (8, b"", b"mama_run: out of memory\n")
+# the tests of each call, with their crate
+TESTS = {
+    "`SerialRun::go`": ("mama_tests_run", ["going_on::a_run_goes_on"]),
+    "`parse_log`": ("mama_tests_run", ["going_on::a_log_is_read"]),
+    "`print_log`": ("mama_tests_run", ["going_on::a_record_is_printed"]),
+    "`check`": ("mama_tests_run", ["going_on::a_record_is_judged"]),
+    "`Serving::turn`": (
+        "mama_tests_queues",
+        [
+            "notes::notes_come_in_their_orders",
+            "serving::a_muted_subscription_gets_its_notice_alone",
+            "serving::one_that_lives_is_stopped_by_another",
+            "serving::the_second_fin_says_bye",
+        ],
+    ),
+    "`DqContext::step`": ("mama_tests_queues", ["strategies::each_cell_steps", "strategies::lists_of_messages_are_told", "strategies::kinds_differ"]),
+    "`Port::put`": ("mama_lane", ["tests::the_lane_of_a_timer_service"]),
+}
+# how a test ends where a request was refused that is not of its call
+APART = re.compile(rb"error: (AllocError|AllocFailed|OutOfMemory)|not played")
 
 
-def run(word, text, number):
-    """What the program answers where the request of this number is refused, with a letter for each moment of the day's clock, and how many it made."""
+def ended(words, text, number):
+    """How a process ends where the request of this number is refused, and how many it made."""
     name = f"{scratch}/asked"
     env = {**os.environ, "LD_PRELOAD": f"{scratch}/refuse.so", "REFUSED": str(number), "ASKED": name}
     if os.path.exists(name):
         os.remove(name)
-    ran = subprocess.run([program, word], input=text, capture_output=True, env=env, timeout=60)
-    count = int(open(name).read()) if os.path.exists(name) else None
+    ran = subprocess.run(words, input=text, capture_output=True, env=env, timeout=60)
+    return ran, int(open(name).read()) if os.path.exists(name) else None
+
+
+def run(word, text, number):
+    """What the program answers where the request of this number is refused, with a letter for each moment of the day's clock, and how many it made."""
+    ran, count = ended([program, word], text, number)
     return (ran.returncode, re.sub(rb"\d{12,}", b"M", ran.stdout), ran.stderr), count
 
 
@@ -99,6 +132,23 @@ def tried(title, word, text):
     return whole[1], count, wrong
 
 
+def tried_again(words):
+    """Refuses each request of a test in turn. Tells how many there were, after how many it passed, and how many answers were wrong."""
+    whole, count = ended(words, b"", 0)
+    if whole.returncode or count is None:
+        print(f"{words[1]} does not pass where nothing is refused: status {whole.returncode}, {whole.stderr[:200]!r}")
+        return 0, 0, 1
+    passed = wrong = 0
+    for number in range(1, count + 1):
+        ran, _ = ended(words, b"", number)
+        passed += ran.returncode == 0
+        if ran.returncode and not (ran.returncode == 101 and APART.match(ran.stderr)):
+            wrong += 1
+            if wrong <= 3:
+                print(f"{words[1]} with request {number} of {count} refused: status {ran.returncode}, {ran.stderr[:200]!r}")
+    return count, passed, wrong
+
+
 print("| script | requests, each refused once | no memory, it said | it did all the same | another answer |\n|---|---|---|---|---|")
 asked = wrong = 0
 for title, row in SCRIPTS.items():
@@ -114,7 +164,14 @@ for title, row in SCRIPTS.items():
     if verdict != b"legal\ncausal yes\n":
         print(f"{title}: another verdict: {verdict[:200]!r}")
         wrong += 1
-print(f"refuse: {asked} requests refused in turn, {wrong} wrong answers")
+print("\n| call | requests of its tests, each refused once | not of the call | it went on | another answer |\n|---|---|---|---|---|")
+again = 0
+for call, (crate, tests) in TESTS.items():
+    tries = [tried_again([f"{crates}/{crate}/out/{crate}_tests", test]) for test in tests]
+    count, passed, bad = (sum(column) for column in zip(*tries))
+    print(f"| {call} | {count} | {count - passed - bad} | {passed} | {bad} |", flush=True)
+    asked, again, wrong = asked + count, again + passed, wrong + bad + (passed == 0)
+print(f"refuse: {asked} requests refused in turn, after {again} of which a call went on, {wrong} wrong answers")
 shutil.rmtree(scratch, ignore_errors=True)
 sys.exit(1 if wrong else 0)
 PROGRAM

@@ -27,6 +27,11 @@ proved_program() {
     [ -x "$program" ] || { echo "no $program: run ./mama --version once" >&2; exit 1; }
 }
 
+# proved_tests CRATE: wants the crate's tests as a program, which rt test builds in the crate's folder.
+proved_tests() {
+    [ -x "$top/crates/$1/out/$1_tests" ] || { echo "no tests of $1: run rt test in its folder once" >&2; exit 1; }
+}
+
 # play SCRIPT: plays it by the proved program, and prints seconds and the peak memory in KiB.
 play() {
     /usr/bin/env time -f '%e %M' -o "$scratch/cost" "$program" serial < "$1" > "$scratch/log" || echo "status $?" >&2
