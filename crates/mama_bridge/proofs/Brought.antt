@@ -74,7 +74,7 @@ module _ {L : Type 0} (tagged : L → ObjectId) where
   hears_join shape s terms listener before after o0 o1 h table stands sound =
       subst (λ (ls : List L). Heard tagged shape table (joins s terms (tagged listener)) after o0 o1 ls)
       (ap (λ (b : Bool). cond b [] (listener ∷ [])) (stands.subs.known s)
-      ∙ carried (has_joined s table) (to_queue terms.queue (q.Create (slot_for terms.queue table) (Sub s) (make.Sub terms.kind terms.cache) (tagged listener))) (wants_image shape s terms.kind terms.topic) listener refl)
+      ∙ carried (has_joined s table) (to_queue terms.queue (q.Create (slot_for terms.queue table) (Sub s) (make.Sub terms.kind terms.cache shape.strategy) (tagged listener))) (wants_image shape s terms.kind terms.topic) listener refl)
       (h table stands sound)
 
   pub hears_opening : (shape : Shape) (i : InboxId) (terms : InboxTerms) (listener : L) (before after : Desk) (o0 o1 : List (BridgeOut L))

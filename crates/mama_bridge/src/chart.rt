@@ -2,7 +2,7 @@ ghost use Rattle.std.specs.Prelude.{◌≡◌, ◌==◌, ◌<◌, ◌++◌, [], 
 ghost use Rattle.mama_event.specs.Ports.{clients_of, queues_of};
 ghost use Rattle.mama_bridge.specs.Chart.{AreFirsts};
 
-use mama_event::{Shape, Topics};
+use mama_event::{Shape, Strategy, Topics};
 use mama_memory::OutOfMemory;
 use std::alloc::Global;
 use std::collections::BTreeMap;
@@ -38,6 +38,7 @@ impl Chart {
                 clients: shape.clients,
                 publisher_topics: Topics::new(topics),
                 bounds: shape.bounds,
+                strategy: shape.strategy,
             },
             firsts,
         })
@@ -62,6 +63,13 @@ impl Chart {
         ensures { result ≡ queues_of self.now }
     {
         self.shape.bounds.queues
+    }
+
+    /// The strategy of all market subscriptions.
+    pub(crate) fn strategy(&self) -> Strategy
+        ensures { result ≡ self.now.strategy }
+    {
+        self.shape.strategy
     }
 
     /// The topic of publisher `i`.

@@ -249,7 +249,12 @@ impl Desk {
         self.add_sub(ended, link);
         hold_unless(ended, &mut self.slots, queue, slot);
         let object = ObjectId::Sub(sub);
-        let make = Make::Sub { kind, cache };
+        let strategy = shape.strategy();
+        let make = Make::Sub {
+            kind,
+            cache,
+            strategy,
+        };
         out.push_reserved(BridgeOut::Queue(
             queue,
             ToQueue::Create {

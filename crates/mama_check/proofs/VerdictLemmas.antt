@@ -13,7 +13,7 @@ use Rattle.mama_event.specs.declared.market.SubKind.TheVariants.{Market, Snapsho
 use Rattle.mama_event.specs.declared.to_queue.QueueNote.{QueueNote}
 use Rattle.mama_dq.specs.Context.{ContextData}
 use Rattle.mama_dq.specs.declared.table.Phase.{Phase}
-use Rattle.mama_dq.specs.declared.table.Phase.TheVariants.{Await, LiveOk, LiveStale}
+use Rattle.mama_dq.specs.declared.table.Phase.TheVariants.{Await, LiveOk, LiveStale, LiveKept}
 use Rattle.mama_script.specs.Script.{ScriptData}
 use Rattle.mama_record.specs.RunData.{RunData, LastImage}
 use Rattle.mama_rules_rounds.specs.Client.{Planned}
@@ -48,9 +48,11 @@ module _ (P : List LastImage → Type 0) (s : SubId) (c : ContextData) (none : P
   image_with Market Await = none
   image_with Market LiveOk = some _ _
   image_with Market LiveStale = some _ _
+  image_with Market LiveKept = some _ _
   image_with Snapshot Await = none
   image_with Snapshot LiveOk = some _ _
   image_with Snapshot LiveStale = some _ _
+  image_with Snapshot LiveKept = some _ _
 
   pub image_cases : P (image_in s c)
   image_cases = image_with c.kind c.phase

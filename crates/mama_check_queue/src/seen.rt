@@ -6,7 +6,7 @@ ghost use Rattle.mama_check_queue.specs.Seen.{unseen, begun, silenced, called_so
 ghost use Rattle.mama_check_queue.specs.Rows.{seen_data};
 
 use mama_dq::{Calls, DqContext};
-use mama_event::{CallNote, Callback, ImageHead, Make, MarketMsg, Orders, SubKind};
+use mama_event::{CallNote, Callback, ImageHead, Make, MarketMsg, Orders, Strategy, SubKind};
 use mama_memory::{Duplicate, OutOfMemory};
 use mama_msg::Msg;
 use std::alloc::Global;
@@ -52,7 +52,7 @@ pub(crate) fn new_seen(alloc: Global) -> Seen
         live: false,
         muted: false,
         calls: Vec::new(alloc),
-        context: DqContext::new(alloc, SubKind::Basic, 0),
+        context: DqContext::new(alloc, SubKind::Basic, 0, Strategy::One),
         waiting: Vec::new(alloc),
     }
 }
@@ -129,9 +129,12 @@ fn context_for(alloc: Global, make: Make) -> DqContext
     ensures { result ≡ context_of (Some make) [] }
 {
     match make {
-        Make::Sub { kind, cache } => DqContext::new(alloc, kind, cache),
-        Make::Timer => DqContext::new(alloc, SubKind::Basic, 0),
-        Make::Inbox => DqContext::new(alloc, SubKind::Basic, 0),
+        Make::Sub {
+            kind,
+            cache,
+            strategy,
+        } => DqContext::new(alloc, kind, cache, strategy),
+        Make::Timer | Make::Inbox => DqContext::new(alloc, SubKind::Basic, 0, Strategy::One),
     }
 }
 

@@ -186,7 +186,7 @@ after_all-more c [] m = refl
 after_all-more c (n ∷ ms) m = after_all-more (after c n) ms m
 
 pub context_more : (k : Make) (ms : List MarketMsg) (m : MarketMsg) → context_of (Some k) (ms ++ m ∷ []) ≡ after (context_of (Some k) ms) m
-context_more (make.Sub kind cache) ms m = after_all-more _ ms m
+context_more (make.Sub kind cache strategy) ms m = after_all-more _ ms m
 context_more make.Timer ms m = after_all-more _ ms m
 context_more make.Inbox ms m = after_all-more _ ms m
 

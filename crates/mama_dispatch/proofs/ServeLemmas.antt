@@ -21,6 +21,7 @@ use Rattle.mama_dq.specs.Context.{ContextData, new_context}
 use Rattle.mama_dq.specs.Strategy.{callbacks_of}
 use Rattle.mama_event.specs.declared.market.SubKind.TheVariants.{Basic}
 use Rattle.mama_event.specs.Listener.{ListenerData}
+use Rattle.mama_event.specs.declared.shape.Strategy.TheVariants.{One}
 use Rattle.mama_rules_queue.specs.Queue.{Deed, QueuePut, handled, called, is_create, is_destroy, calls_of, is_muted, make_in, context_of, messages_of, made, served, puts_of}
 use Rattle.mama_dispatch.specs.Journals.{Born, born}
 use Rattle.mama_dispatch.specs.Seats.{SeatData, seat_of, has_seat, listener_in, is_muted_in, context_in, room_in, stepped, at, with_room, with_listener, new_seat, AreOrders, Fits}
@@ -93,7 +94,7 @@ pub muted_room : (o : ObjectId) (n : ℕ) (ss : List SeatData) → is_muted_in o
 muted_room o n ss = kept o (with_room n) (λ (s : Option SeatData). option_map_or (λ (x : SeatData). x.muted) s false) (λ s. refl) (λ s. refl) ss
 
 pub context_room : (o : ObjectId) (n : ℕ) (ss : List SeatData) → context_in o (map (at o (with_room n)) ss) ≡ context_in o ss
-context_room o n ss = kept o (with_room n) (λ (s : Option SeatData). option_map_or (λ (x : SeatData). x.context) s (new_context Basic 0)) (λ s. refl) (λ s. refl) ss
+context_room o n ss = kept o (with_room n) (λ (s : Option SeatData). option_map_or (λ (x : SeatData). x.context) s (new_context One Basic 0)) (λ s. refl) (λ s. refl) ss
 
 pub listener_stepped : (o : ObjectId) (m : MarketMsg) (ss : List SeatData) → listener_in o (map (at o (stepped m)) ss) ≡ listener_in o ss
 listener_stepped o m ss = kept o (stepped m) (λ (s : Option SeatData). option_and_then (λ (x : SeatData). x.listener) s) (λ s. refl) (λ s. refl) ss
@@ -150,7 +151,7 @@ served_delivered orders journal ds slot s m before here unmuted stands =
     let loud : is_muted (Sub s) ds ≡ false = sym f.muted ∙ sym (ap (λ (x : Option SeatData). option_map_or (λ (t : SeatData). t.muted) x false) has.is) ∙ unmuted in
     let context : context_of (first_said (λ (e : ℕ × QueueNote). make_in (Sub s) e.1) journal) (messages_of s ds) ≡ context_in (Sub s) before =
     ap (λ (k : Option Make). context_of k (messages_of s ds)) (first_make (Sub s) journal ∙ f.made)
-    ∙ sym f.context ∙ sym (ap (λ (x : Option SeatData). option_map_or (λ (t : SeatData). t.context) x (new_context Basic 0)) has.is) in
+    ∙ sym f.context ∙ sym (ap (λ (x : Option SeatData). option_map_or (λ (t : SeatData). t.context) x (new_context One Basic 0)) has.is) in
     ap (λ (t : Bool). if t then [] else handled s m ∷ made orders (Sub s) es (callbacks_of (context_of (first_said (λ (e : ℕ × QueueNote). make_in (Sub s) e.1) journal) (messages_of s ds)) m)) loud
     ∙ ap (λ (c : ContextData). handled s m ∷ made orders (Sub s) es (callbacks_of c m)) context
 

@@ -11,6 +11,7 @@ use Rattle.mama_event.specs.declared.ids.ObjectId.TheVariants.{Sub, Timer, Inbox
 use Rattle.mama_event.specs.declared.callback.CallNote.{CallNote}
 use Rattle.mama_event.specs.declared.callback.Callback.TheVariants as on
 use Rattle.mama_event.specs.declared.market.MarketMsg.{MarketMsg}
+use Rattle.mama_event.specs.declared.market.Quality.TheVariants as quality
 use Rattle.mama_event.specs.declared.market.SubKind.TheVariants.{Basic}
 use Rattle.mama_event.specs.declared.order.Order.{Order}
 use Rattle.mama_event.specs.declared.to_bridge.BridgeNote.TheVariants as bridge_note
@@ -22,7 +23,7 @@ use Rattle.mama_event.specs.declared.to_queue.ToQueue.{ToQueue}
 use Rattle.mama_event.specs.declared.to_queue.ToQueue.TheVariants as event
 use Rattle.mama_event.specs.ToQueue.{note_of}
 use Rattle.mama_event.specs.Object.{same_object}
-use Rattle.mama_dq.specs.Context.{ContextData, new_context}
+use Rattle.mama_dq.specs.Context.{quality_in, ContextData, new_context}
 use Rattle.mama_event.specs.Listener.{ListenerData}
 use Rattle.mama_rules_queue.specs.Queue.{Deed, QueuePut, to_bridge, to_timers, make_in, context_of, messages_of, deeds, is_fin, bye_put, queue_puts_at}
 use Rattle.mama_dispatch.specs.Journals.{Born, born, is_born, is_live_here, may_come, noted, notes_of, context_after, image_in}
@@ -39,8 +40,9 @@ use Rattle.mama_msg.specs.Field.{FieldData}
 use Rattle.mama_event.specs.Record.{IsGenuine}
 use Rattle.mama_event.specs.declared.market.ImageHead.{ImageHead}
 use Rattle.mama_event.specs.declared.to_queue.Make.TheVariants as make
+use Rattle.mama_event.specs.declared.shape.Strategy.TheVariants.{One}
 use Rattle.mama_dq.specs.declared.table.Phase.{Phase}
-use Rattle.mama_dq.specs.declared.table.Phase.TheVariants.{Await, LiveOk, LiveStale}
+use Rattle.mama_dq.specs.declared.table.Phase.TheVariants.{Await, LiveOk, LiveStale, LiveKept}
 use Rattle.mama_dq.specs.Image.{IsSendersRecord}
 use Rattle.mama_dq.proofs.ImageLaw.{image_law}
 use Rattle.mama_dispatch.specs.Images.{image_at, IsRecord}
@@ -222,7 +224,7 @@ never o (b ∷ bs) none =
     let parts = or_parts (same_object o b.object) (list_any (λ (c : Born). same_object o c.object) bs) none in
     ap (λ (t : Bool). if t then Some b.make else make_among o bs) parts.0 ∙ never o bs parts.1
 
-context_unborn : (make : Option Make) → make ≡ None → context_of make [] ≡ new_context Basic 0
+context_unborn : (make : Option Make) → make ≡ None → context_of make [] ≡ new_context One Basic 0
 context_unborn None none = refl
 context_unborn (Some k) none = cc
 
@@ -234,16 +236,16 @@ context_there orders journal ss o stands = go (seat_of (Sub o) ss) refl
     ds = deeds orders journal
 
     go : (x : Option SeatData) → seat_of (Sub o) ss ≡ x
-        → option_map_or (λ (s : SeatData). s.context) (seat_of (Sub o) ss) (new_context Basic 0)
+        → option_map_or (λ (s : SeatData). s.context) (seat_of (Sub o) ss) (new_context One Basic 0)
         ≡ context_of (first_said (λ (e : ℕ × QueueNote). make_in (Sub o) e.1) journal) (messages_of o ds)
     go None is =
         let gone : is_born (Sub o) journal ≡ false = unborn journal ds ss (Sub o) stands is in
-        ap (λ (y : Option SeatData). option_map_or (λ (s : SeatData). s.context) y (new_context Basic 0)) is
+        ap (λ (y : Option SeatData). option_map_or (λ (s : SeatData). s.context) y (new_context One Basic 0)) is
         ∙ sym (context_unborn (first_said (λ (e : ℕ × QueueNote). make_in (Sub o) e.1) journal) (first_make (Sub o) journal ∙ never (Sub o) (born journal) gone))
         ∙ ap (context_of (first_said (λ (e : ℕ × QueueNote). make_in (Sub o) e.1) journal)) (sym (stands.silent (Sub o) gone))
     go (Some s) is =
         let f = found (is_live ds) ds (born journal) ss (Sub o) s stands.seated is in
-        ap (λ (y : Option SeatData). option_map_or (λ (z : SeatData). z.context) y (new_context Basic 0)) is
+        ap (λ (y : Option SeatData). option_map_or (λ (z : SeatData). z.context) y (new_context One Basic 0)) is
         ∙ f.context ∙ sym (ap (λ (k : Option Make). context_of k (messages_of o ds)) (first_make (Sub o) journal ∙ f.made))
 
 -- AN ENTRY THAT MAY COME
@@ -346,7 +348,7 @@ calls_served journal fins ss served orders fits o =
 
 -- IMAGES
 
-seat_image : (x : Option SeatData) → option_and_then image_at x ≡ (if is_some (option_and_then (λ (s : SeatData). s.listener) x) then image_in (option_map_or (λ (s : SeatData). s.context) x (new_context Basic 0)) else None)
+seat_image : (x : Option SeatData) → option_and_then image_at x ≡ (if is_some (option_and_then (λ (s : SeatData). s.listener) x) then image_in (option_map_or (λ (s : SeatData). s.context) x (new_context One Basic 0)) else None)
 seat_image None = refl
 seat_image (Some s) = refl
 
@@ -359,22 +361,23 @@ row_there orders journal ss o stands =
     ∙ ap (λ (c : ContextData). if is_live_here (Sub o) journal then image_in c else None) (context_there orders journal ss o stands)
 
 -- an image that is ok is its sender's record, where its context is so
-record_of : (bases : ℕ → List FieldData) (updates : ℕ → List (List FieldData)) (c : ContextData) → (c.phase ≡ LiveOk → IsSendersRecord bases updates c)
+record_of : (bases : ℕ → List FieldData) (updates : ℕ → List (List FieldData)) (c : ContextData) → (quality_in c.phase ≡ quality.Ok → IsSendersRecord bases updates c)
     → (live : Bool) → IfSome (if live then image_in c else None) (λ image. IsRecord bases updates image)
 record_of bases updates c law false = tt
 record_of bases updates c law true = go c.phase refl
   where
     go : (p : Phase) → c.phase ≡ p → IfSome (image_in c) (λ image. IsRecord bases updates image)
     go Await is = subst (λ (x : Option (ImageHead × List FieldData)). IfSome x (λ image. IsRecord bases updates image)) (sym (ap (λ (p : Phase). image_in (record c { phase = p })) is)) tt
-    go LiveOk is = subst (λ (x : Option (ImageHead × List FieldData)). IfSome x (λ image. IsRecord bases updates image)) (sym (ap (λ (p : Phase). image_in (record c { phase = p })) is)) (λ ok. law is)
+    go LiveOk is = subst (λ (x : Option (ImageHead × List FieldData)). IfSome x (λ image. IsRecord bases updates image)) (sym (ap (λ (p : Phase). image_in (record c { phase = p })) is)) (λ ok. law (ap quality_in is))
+    go LiveKept is = subst (λ (x : Option (ImageHead × List FieldData)). IfSome x (λ image. IsRecord bases updates image)) (sym (ap (λ (p : Phase). image_in (record c { phase = p })) is)) (λ ok. law (ap quality_in is))
     go LiveStale is = subst (λ (x : Option (ImageHead × List FieldData)). IfSome x (λ image. IsRecord bases updates image)) (sym (ap (λ (p : Phase). image_in (record c { phase = p })) is)) (λ ok. cc ok)
 
 context_law : (bases : ℕ → List FieldData) (updates : ℕ → List (List FieldData)) (made : Option Make) (ms : List MarketMsg) → AllByRecursion (IsGenuine bases updates) ms
-    → (context_of made ms).phase ≡ LiveOk → IsSendersRecord bases updates (context_of made ms)
-context_law bases updates (Some (make.Sub kind cache)) ms genuine = image_law bases updates kind cache ms genuine
-context_law bases updates (Some make.Timer) ms genuine = image_law bases updates Basic 0 ms genuine
-context_law bases updates (Some make.Inbox) ms genuine = image_law bases updates Basic 0 ms genuine
-context_law bases updates None ms genuine = image_law bases updates Basic 0 ms genuine
+    → quality_in (context_of made ms).phase ≡ quality.Ok → IsSendersRecord bases updates (context_of made ms)
+context_law bases updates (Some (make.Sub kind cache strategy)) ms genuine = image_law bases updates strategy kind cache ms genuine
+context_law bases updates (Some make.Timer) ms genuine = image_law bases updates One Basic 0 ms genuine
+context_law bases updates (Some make.Inbox) ms genuine = image_law bases updates One Basic 0 ms genuine
+context_law bases updates None ms genuine = image_law bases updates One Basic 0 ms genuine
 
 pub row_record : (orders : ObjectId → ℕ → List Order) (journal : List (ℕ × QueueNote)) (o : SubId) (bases : ℕ → List FieldData) (updates : ℕ → List (List FieldData))
     → AllByRecursion (IsGenuine bases updates) (messages_of o (deeds orders journal))

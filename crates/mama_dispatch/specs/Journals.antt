@@ -16,7 +16,7 @@ use Rattle.mama_event.specs.declared.to_queue.QueueNote.{QueueNote}
 use Rattle.mama_event.specs.declared.to_queue.QueueNote.TheVariants as q
 use Rattle.mama_event.specs.Object.{same_object}
 use Rattle.mama_dq.specs.declared.table.Phase.{Phase}
-use Rattle.mama_dq.specs.declared.table.Phase.TheVariants.{Await, LiveOk, LiveStale}
+use Rattle.mama_dq.specs.declared.table.Phase.TheVariants.{Await, LiveOk, LiveStale, LiveKept}
 use Rattle.mama_dq.specs.Context.{ContextData, quality_in}
 use Rattle.mama_rules_queue.specs.Queue.{Deed, make_in, context_of, messages_of, calls_of, deeds}
 
@@ -81,6 +81,7 @@ image_in c = image_by c.phase c
     image_by Await c = None
     image_by LiveOk c = Some (record { sender = c.sender; last = c.last; quality = quality_in LiveOk }, c.image)
     image_by LiveStale c = Some (record { sender = c.sender; last = c.last; quality = quality_in LiveStale }, c.image)
+    image_by LiveKept c = Some (record { sender = c.sender; last = c.last; quality = quality_in LiveKept }, c.image)
 
 -- a subscription with its image
 abbrev pub image_put : SubId → Option (ImageHead × List FieldData) → List (SubId × ImageHead × List FieldData)

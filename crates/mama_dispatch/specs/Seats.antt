@@ -14,6 +14,7 @@ use Rattle.mama_dq.specs.Strategy.{after}
 use Rattle.mama_dq.specs.Context.{ContextData, new_context}
 use Rattle.mama_rules_queue.specs.Queue.{ends, context_of}
 use Rattle.mama_event.specs.Listener.{ListenerData, Heard}
+use Rattle.mama_event.specs.declared.shape.Strategy.TheVariants.{One}
 
 -- An object that was made on this queue: its listener until that is handed back, whether it is muted, its context, its
 -- callbacks, and for how many more there is room.
@@ -46,7 +47,7 @@ abbrev pub is_muted_in : ObjectId → List SeatData → Bool
 is_muted_in o seats = option_map_or (λ s. s.muted) (seat_of o seats) false
 
 abbrev pub context_in : ObjectId → List SeatData → ContextData
-context_in o seats = option_map_or (λ s. s.context) (seat_of o seats) (new_context Basic 0)
+context_in o seats = option_map_or (λ s. s.context) (seat_of o seats) (new_context One Basic 0)
 
 abbrev pub room_in : ObjectId → List SeatData → ℕ
 room_in o seats = option_map_or (λ s. s.room) (seat_of o seats) 0

@@ -29,6 +29,10 @@ pub(crate) fn make<L: Listener>(listener: &mut L, call: &Callback) -> Orders
             listener.on_recap_request(*sender, &mut orders);
             orders
         }
+        Callback::Late { sender, seq } => {
+            listener.on_late(*sender, *seq, &mut orders);
+            orders
+        }
         Callback::Error { code } => {
             listener.on_error(*code, &mut orders);
             orders

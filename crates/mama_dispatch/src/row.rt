@@ -12,7 +12,8 @@ ghost use Rattle.mama_dispatch.specs.Journals.{image_in};
 use crate::calling::make;
 use mama_dq::{Calls, DqContext};
 use mama_event::{
-    CallNote, Callback, ImageHead, Listener, Make, MarketMsg, ObjectId, Orders, SubKind,
+    CallNote, Callback, ImageHead, Listener, Make, MarketMsg, ObjectId, Orders, Quality, Strategy,
+    SubKind,
 };
 use mama_memory::{Duplicate, OutOfMemory};
 use mama_msg::Msg;
@@ -101,9 +102,12 @@ fn context_for(alloc: Global, make: Make) -> DqContext
     ensures small { IsSmall result.cache }
 {
     match make {
-        Make::Sub { kind, cache } => DqContext::new(alloc, kind, cache),
-        Make::Timer => DqContext::new(alloc, SubKind::Basic, 0),
-        Make::Inbox => DqContext::new(alloc, SubKind::Basic, 0),
+        Make::Sub {
+            kind,
+            cache,
+            strategy,
+        } => DqContext::new(alloc, kind, cache, strategy),
+        Make::Timer | Make::Inbox => DqContext::new(alloc, SubKind::Basic, 0, Strategy::One),
     }
 }
 
@@ -134,10 +138,11 @@ pub(crate) fn most_calls(context: &DqContext) -> usize
     ensures calls { (msg : MarketMsg) → length (callbacks_of context.now msg) ≤ result }
     ensures few { result ≤ 4 * 2 ^ 32 }
 {
-    if context.image().is_some() {
-        return 4;
+    match (context.image(), context.quality()) {
+        // While an image may lack updates, no message has the cached ones handled.
+        (Some(_), Quality::Stale) => 4,
+        _ => (context.cached() + 1) * 4,
     }
-    (context.cached() + 1) * 4
 }
 
 /// The image of a context, if it has one.

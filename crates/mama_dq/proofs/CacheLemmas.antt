@@ -1,18 +1,20 @@
 -- What the cache's parts do to its list of updates.
-use Rattle.std.proofs.Common.{◌≡◌, ◌≢◌, ℕ, suc, ◌<◌, ◌≤◌, Bool, true, false, cond, not, ◌&&◌, List, [], ◌∷◌, map, nat_lt, ◌==◌, Option, Some, None, is_some, if◌then◌else◌, refl, arith, Less, Ordering, ◌∙◌, ap, sym}
+use Rattle.std.proofs.Common.{◌≡◌, ◌≢◌, ℕ, suc, ◌<◌, ◌≤◌, Bool, true, false, cond, not, ◌&&◌, List, [], ◌∷◌, map, length, drop, nat_lt, ◌==◌, Option, Some, None, is_some, if◌then◌else◌, refl, arith, Less, Ordering, ◌∙◌, ap, sym}
 use Rattle.std.proofs.lemmas.Bool.Decides.{nat_tests}
-use Rattle.std.specs.Ordering.{nat_cmp, is_lt}
-use Rattle.std.specs.List.{AllByRecursion, filter}
+use Rattle.std.specs.Ordering.{nat_cmp, is_lt, is_gt}
+use Rattle.std.specs.List.{All, AllByRecursion, filter, slice_get}
+use Rattle.std.proofs.lemmas.List.Elements.{recursion_from_All}
 use Rattle.std.specs.List.Sorted.{IsStrictlySortedBy}
 use Rattle.std.proofs.lemmas.Map.Keys.{sorted_head, sorted_tail}
 use Rattle.std.specs.Map.{lookup, remove_entry, keys_of}
 use Rattle.std.specs.BTreeMap.{is_at, insert_entry}
-use Rattle.std.specs.BTreeMap.Range.{entries_between}
+use Rattle.std.specs.BTreeMap.Range.{entries_between, IsLeBy}
 use Rattle.std.specs.declared.ops.Bound.{Bound}
-use Rattle.std.specs.declared.ops.Bound.TheVariants.{Excluded, Unbounded}
+use Rattle.std.specs.declared.ops.Bound.TheVariants.{Included, Excluded, Unbounded}
+use Rattle.std.specs.Range.Bound.{IsForward}
 use Rattle.mama_msg.specs.Field.{FieldData}
 use Rattle.mama_msg.specs.Message.{apply}
-use Rattle.mama_dq.specs.Cache.{has_number, put, above, reached, Reached, CacheData}
+use Rattle.mama_dq.specs.Cache.{has_number, put, above, from_bound, lowest_number, reached, Reached, CacheData}
 use Rattle.mama_dq.proofs.Comparisons.{lt_true, less_is}
 
 -- an entry that was inserted where there was none with its key is removed again
@@ -54,6 +56,60 @@ ascend_above n (e ∷ es) sorted =
 pub between_above : (n : ℕ) (es : List (ℕ × List FieldData)) → entries_between nat_cmp (Excluded n) Unbounded es ≡ above n es
 between_above n [] = refl
 between_above n (e ∷ es) = grind (arith, nat_tests, between_above n es)
+
+-- so it is with any bound
+pub between_bound : (from : Bound ℕ) (es : List (ℕ × List FieldData)) → entries_between nat_cmp from Unbounded es ≡ from_bound from es
+between_bound Unbounded [] = refl
+between_bound Unbounded (e ∷ es) = ap (λ (xs : List (ℕ × List FieldData)). e ∷ xs) (between_bound Unbounded es)
+between_bound (Excluded n) es = between_above n es
+between_bound (Included n) [] = refl
+between_bound (Included n) (e ∷ es) = grind (arith, nat_tests, between_bound (Included n) es)
+
+-- a range with no end is one
+pub forward_from : (P Q : ℕ → ℕ → Type 0) (from : Bound ℕ) → IsForward P Q from Unbounded
+forward_from P Q Unbounded = tt
+forward_from P Q (Excluded n) = tt
+forward_from P Q (Included n) = tt
+
+-- ---- the lowest number
+
+pub lowest_first : (es : List (ℕ × List FieldData)) (k : ℕ) (body : List FieldData) → slice_get es 0 ≡ Some (k, body) → Some k ≡ lowest_number es
+lowest_first [] k body is = absurd cc
+lowest_first (e ∷ es) k body is = let same : e ≡ (k, body) = cc in ap (λ (x : ℕ × List FieldData). Some x.0) (sym same)
+
+pub lowest_of_none : (es : List (ℕ × List FieldData)) → length es ≡ 0 → None ≡ lowest_number es
+lowest_of_none [] is = refl
+lowest_of_none (e ∷ es) is = absurd (omega arith)
+
+at_least : (a b : ℕ) → is_gt (nat_cmp a b) ≡ false → a ≤ b
+at_least a b is = grind (arith, nat_tests)
+
+above_low : (n k : ℕ) (es : List (ℕ × List FieldData)) → n < k → AllByRecursion (IsLeBy nat_cmp k) (keys_of es) → above n es ≡ es
+above_low n k [] low all = refl
+above_low n k (e ∷ es) low all =
+    let up : k ≤ e.0 = at_least k e.0 all.0 in
+    let here : nat_lt n e.0 ≡ true = grind (arith, nat_tests) in
+    rw here (ap (λ (xs : List (ℕ × List FieldData)). e ∷ xs) (above_low n k es low all.1))
+
+-- what is all at or above a number is all above a lower one
+pub all_above_lowest : (n k : ℕ) (es : List (ℕ × List FieldData)) → n < k → All (IsLeBy nat_cmp k) (keys_of es) → above n es ≡ es
+all_above_lowest n k es low all = above_low n k es low (recursion_from_All (IsLeBy nat_cmp k) (keys_of es) all)
+
+-- the lowest number may be dropped, if it is not above
+pub above_dropped : (n k : ℕ) (es : List (ℕ × List FieldData)) → lowest_number es ≡ Some k → k ≤ n → above n (drop 1 es) ≡ above n es
+above_dropped n k [] is low = refl
+above_dropped n k (e ∷ es) is low =
+    let same : e.0 ≡ k = cc in
+    let here : nat_lt n e.0 ≡ false = grind (arith, nat_tests) in
+    rw here refl
+
+pub fewer_dropped : (k : ℕ) (es : List (ℕ × List FieldData)) → lowest_number es ≡ Some k → length (drop 1 es) < length es
+fewer_dropped k [] is = absurd cc
+fewer_dropped k (e ∷ es) is = omega arith
+
+pub none_above : (n : ℕ) (es : List (ℕ × List FieldData)) → lowest_number es ≡ None → above n es ≡ []
+none_above n [] is = refl
+none_above n (e ∷ es) is = absurd cc
 
 -- updates up to n play no part in what a record at n or after it reaches
 pub reached_above : (n at : ℕ) (es : List (ℕ × List FieldData)) (body : List FieldData) → n ≤ at → reached (above n es) at body ≡ reached es at body

@@ -48,6 +48,13 @@ ascend_put es n body ascend = elim (has_number es n) as (λ b. Ascend (if b then
   | false ↦ ascend_inserted es n body ascend
 ]
 
+-- an update above a number may be put among some that ascend from above it
+pub ascend_from_put : (a : ℕ) (es : List (ℕ × List FieldData)) (n : ℕ) (body : List FieldData) → a < n → AscendFrom a es → AscendFrom a (put es n body)
+ascend_from_put a es n body below ascend = elim (has_number es n) as (λ b. AscendFrom a (if b then es else insert_entry nat_cmp es n body)) [
+  | true ↦ ascend
+  | false ↦ ascend_from_inserted a es n body below ascend
+]
+
 ascend_dropped : (es : List (ℕ × List FieldData)) → Ascend es → Ascend (drop 1 es)
 ascend_dropped [] ascend = tt
 ascend_dropped (e ∷ es) ascend = ascend_from e.0 es ascend

@@ -3,6 +3,8 @@ use Rattle.std.proofs.Common.{◌≡◌, ◌≢◌, ℕ, suc, ◌+◌, ◌-◌, 
 use Rattle.std.proofs.lemmas.Bool.Decides.{nat_tests}
 use Rattle.std.specs.List.{AllByRecursion, list_any}
 use Rattle.mama_msg.specs.Field.{FieldData}
+use Rattle.mama_event.specs.declared.shape.Strategy.{Strategy}
+use Rattle.mama_event.specs.declared.shape.Strategy.TheVariants.{One, Two}
 use Rattle.mama_event.specs.declared.market.SubKind.{SubKind}
 use Rattle.mama_event.specs.declared.market.SubKind.TheVariants.{Market, Snapshot, Basic}
 use Rattle.mama_event.specs.declared.market.MsgKind.{MsgKind}
@@ -12,20 +14,21 @@ use Rattle.mama_event.specs.declared.callback.Callback.{Callback}
 use Rattle.mama_event.specs.declared.callback.Callback.TheVariants as on
 use Rattle.mama_event.specs.declared.market.Quality.TheVariants as quality
 use Rattle.mama_dq.specs.declared.table.Phase.{Phase}
-use Rattle.mama_dq.specs.declared.table.Phase.TheVariants.{Await, LiveOk, LiveStale}
+use Rattle.mama_dq.specs.declared.table.Phase.TheVariants.{Await, LiveOk, LiveStale, LiveKept}
 use Rattle.mama_dq.specs.declared.table.Relation.{Relation}
 use Rattle.mama_dq.specs.declared.table.Relation.TheVariants.{Next, Same, Old, Ahead, Other}
 use Rattle.mama_dq.specs.declared.table.Action.{Action}
-use Rattle.mama_dq.specs.declared.table.Action.TheVariants.{Keep, Start, Apply, ApplyKeep, KeepOnly, Ignore, Gap, Switch, Replace, Heal, Adopt}
+use Rattle.mama_dq.specs.declared.table.Action.TheVariants.{Keep, Start, Apply, ApplyKeep, KeepOnly, Ignore, Gap, Switch, Replace, Heal, Adopt, StartKeep, Catch, Late, KeepLate}
 use Rattle.mama_dq.specs.Table.{is_update, decided, relation_of}
 use Rattle.mama_dq.specs.Cache.{CacheData, has_number, put, trimmed, added, emptied, above, reached, Reached}
 use Rattle.mama_dq.specs.Context.{ContextData, new_context}
-use Rattle.mama_dq.specs.Strategy.{Step, updated, update_acted, acted, action_of, as_message, handled, started, cached_above, healed, reached_last, stopped_short, with_update, with_cached, turned_to, waiting_for, with_image_of, gap_calls, switch_calls, adopt_calls, step_by, snapshot_acted, after, after_all, callbacks_of, fold}
+use Rattle.mama_dq.specs.Strategy.{Step, ok_with, settled, started_keeping, caught, updated, update_acted, acted, action_of, as_message, handled, started, cached_above, healed, reached_last, stopped_short, with_update, with_cached, turned_to, waiting_for, with_image_of, gap_calls, switch_calls, adopt_calls, step_by, snapshot_acted, after, after_all, callbacks_of, fold}
 use Rattle.mama_dq.specs.Gap.{Taken, last_is_of_another, turns_at, stretched, stretch_after, stretch_of, is_update_numbered, was_taken, is_lowest, is_waiting, with_taken, drops, AreDropped, IsMissing, IsDropped, IsTrueGap, TellsTrueGap, GapLaw}
 use Rattle.mama_dq.proofs.CacheLemmas.{AscendFrom}
-use Rattle.mama_dq.proofs.CacheOrder.{Ascend, ascend_added, ascend_above, absent_put, absent_above, absent_below, absent_cons, cons_absent, lowest_dropped}
+use Rattle.mama_dq.proofs.CacheOrder.{ascend_above, ascend_from_put, absent_put, absent_above, absent_below, absent_cons, cons_absent, lowest_dropped}
 use Rattle.mama_dq.proofs.Relations.{Related, related}
-use Rattle.mama_dq.proofs.StrategyLemmas.{updated_sender}
+use Rattle.mama_dq.proofs.StrategyLemmas.{either_way}
+use Rattle.mama_dq.proofs.KeptLaw.{Keeps, after_keeps, new_keeps}
 use Rattle.mama_dq.proofs.SameKind.{after_kind, after_all_kind}
 use Rattle.mama_dq.proofs.Comparisons.{eq_true, eq_same, le_true}
 
@@ -77,16 +80,19 @@ gap_calls_true : (phase : Phase) (s : List Taken) (sender other last : ℕ) (m :
 gap_calls_true Await s sender other last m gap = (gap, (tt, tt))
 gap_calls_true LiveOk s sender other last m gap = (gap, (tt, (tt, (tt, tt))))
 gap_calls_true LiveStale s sender other last m gap = (gap, (tt, tt))
+gap_calls_true LiveKept s sender other last m gap = (gap, (tt, (tt, (tt, tt))))
 
 switch_calls_true : (phase : Phase) (s : List Taken) (sender last : ℕ) (m : MarketMsg) → AllByRecursion (TellsTrueGap s sender) (switch_calls phase last m)
 switch_calls_true Await s sender last m = (tt, (tt, tt))
 switch_calls_true LiveOk s sender last m = (tt, (tt, (tt, tt)))
 switch_calls_true LiveStale s sender last m = (tt, (tt, tt))
+switch_calls_true LiveKept s sender last m = (tt, (tt, (tt, tt)))
 
 adopt_calls_true : (phase : Phase) (s : List Taken) (sender : ℕ) (m : MarketMsg) → AllByRecursion (TellsTrueGap s sender) (adopt_calls phase m)
 adopt_calls_true Await s sender m = (tt, tt)
 adopt_calls_true LiveOk s sender m = (tt, tt)
 adopt_calls_true LiveStale s sender m = (tt, (tt, tt))
+adopt_calls_true LiveKept s sender m = (tt, tt)
 
 all_append : {X : Type 0} (P : X → Type 0) (xs ys : List X) → AllByRecursion P xs → AllByRecursion P ys → AllByRecursion P (xs ++ ys)
 all_append P [] ys all others = others
@@ -94,25 +100,52 @@ all_append P (x ∷ xs) ys all others = (all.0, all_append P xs ys all.1 others)
 
 -- ---- what is known of the numbers that a context lacks
 
+-- the updates that are kept past the first image
+abbrev pub kept_of : Phase → List (ℕ × List FieldData) → List (ℕ × List FieldData)
+kept_of Await es = []
+kept_of LiveOk es = []
+kept_of LiveStale es = []
+kept_of LiveKept es = es
+
+kept_absent : (phase : Phase) (es : List (ℕ × List FieldData)) (n : ℕ) → has_number es n ≡ false → has_number (kept_of phase es) n ≡ false
+kept_absent Await es n absent = refl
+kept_absent LiveOk es n absent = refl
+kept_absent LiveStale es n absent = refl
+kept_absent LiveKept es n absent = absent
+
+kept_with : (es : List (ℕ × List FieldData)) → kept_of (ok_with es) es ≡ es
+kept_with [] = refl
+kept_with (e ∷ es) = refl
+
+ok_is_live : (es : List (ℕ × List FieldData)) → is_waiting (ok_with es) ≡ false
+ok_is_live [] = refl
+ok_is_live (e ∷ es) = refl
+
 pub record Accounts (c : ContextData) (s : List Taken) : Type 0 where
   -- before the first image, a number that the cache lacks was dropped each time that it was taken
   pub waiting : c.phase ≡ Await → (n : ℕ) → has_number c.cache.updates n ≡ false → AreDropped c.sender n s
-  -- later, a number above the last
-  pub live : is_waiting c.phase ≡ false → (n : ℕ) → c.last < n → AreDropped c.sender n s
-  pub ascend : Ascend c.cache.updates
+  -- later, a number above the last that is not kept
+  pub live : is_waiting c.phase ≡ false → (n : ℕ) → c.last < n → has_number (kept_of c.phase c.cache.updates) n ≡ false → AreDropped c.sender n s
   -- before the first image the last message, if there is one, is of the context's sender
   pub latest : c.phase ≡ Await → ((sender : ℕ) → last_is_of_another s sender ≡ not (c.sender == sender)) ⊎ (s ≡ [])
 
 not_waiting : (c : ContextData) → is_waiting c.phase ≡ false → c.phase ≡ Await → ⊥
 not_waiting c live waits = let clash : is_waiting c.phase ≡ true = rw waits refl in cc
 
-live_accounts : (c : ContextData) (s : List Taken) → is_waiting c.phase ≡ false → ((n : ℕ) → c.last < n → AreDropped c.sender n s) → Ascend c.cache.updates → Accounts c s
-live_accounts c s live dropped ascend = record {
+live_accounts : (c : ContextData) (s : List Taken) → is_waiting c.phase ≡ false
+    → ((n : ℕ) → c.last < n → has_number (kept_of c.phase c.cache.updates) n ≡ false → AreDropped c.sender n s) → Accounts c s
+live_accounts c s live dropped = record {
   waiting = λ waits. absurd (not_waiting c live waits);
   live = λ is. dropped;
-  ascend = ascend;
   latest = λ waits. absurd (not_waiting c live waits);
 }
+
+-- an image that is the sender's record, with what is kept above it
+settled_accounts : (c : ContextData) (s : List Taken) → ((n : ℕ) → c.last < n → has_number c.cache.updates n ≡ false → AreDropped c.sender n s) → Accounts (settled c) s
+settled_accounts c s dropped =
+    live_accounts (settled c) s (ok_is_live (above c.last c.cache.updates))
+    (λ n past absent. dropped n past (absent_above c.last n c.cache.updates past
+    (subst (λ (es : List (ℕ × List FieldData)). has_number es n ≡ false) (kept_with (above c.last c.cache.updates)) absent)))
 
 -- the stretch with a message of this action
 abbrev stretch_by : Action → List Taken → ContextData → MarketMsg → List Taken
@@ -132,77 +165,99 @@ module _ (c : ContextData) (s : List Taken) (m : MarketMsg) (known : Accounts c 
   abbrev alone : List Taken
   alone = record { context = c; message = m } ∷ []
 
-  more_numbers : (last : ℕ) → c.last ≤ last → m.seq ≤ last → (n : ℕ) → last < n → AreDropped c.sender n with_message
-  more_numbers last up seen n past =
-      dropped_more c.sender n s (record { context = c; message = m }) (known.live live n (omega arith)) (not_numbered c.sender n (record { context = c; message = m }) (λ same. omega arith))
+  abbrev taken : Taken
+  taken = record { context = c; message = m }
 
-  more_images : (last : ℕ) → c.last ≤ last → is_update m.kind ≡ false → (n : ℕ) → last < n → AreDropped c.sender n with_message
-  more_images last up image n past =
-      dropped_more c.sender n s (record { context = c; message = m }) (known.live live n (omega arith)) (not_update c.sender n (record { context = c; message = m }) image)
+  more_numbers : (last : ℕ) → c.last ≤ last → m.seq ≤ last → (n : ℕ) → last < n → has_number (kept_of c.phase c.cache.updates) n ≡ false → AreDropped c.sender n with_message
+  more_numbers last up seen n past absent =
+      dropped_more c.sender n s taken (known.live live n (omega arith) absent) (not_numbered c.sender n taken (λ same. omega arith))
+
+  more_images : (last : ℕ) → c.last ≤ last → is_update m.kind ≡ false → (n : ℕ) → last < n → has_number (kept_of c.phase c.cache.updates) n ≡ false → AreDropped c.sender n with_message
+  more_images last up image n past absent =
+      dropped_more c.sender n s taken (known.live live n (omega arith) absent) (not_update c.sender n taken image)
 
   apply_step : m.seq ≡ suc c.last → StepAccounts Apply c s m
   apply_step next = record {
-    next = live_accounts (with_update LiveOk c m) with_message refl (more_numbers m.seq (omega arith) (omega arith)) known.ascend;
+    next = settled_accounts (with_update LiveOk c m) with_message
+        (λ n past absent. more_numbers m.seq (omega arith) (omega arith) n past (kept_absent c.phase c.cache.updates n absent));
     gaps = (tt, tt);
   }
 
-  apply_keep_step : m.seq ≡ suc c.last → StepAccounts ApplyKeep c s m
-  apply_keep_step next = record {
-    next = live_accounts (with_cached (with_update LiveStale c m) m) with_message refl (more_numbers m.seq (omega arith) (omega arith)) (ascend_added c.cache m.seq m.body known.ascend);
-    gaps = (tt, tt);
-  }
-
-  keep_only_step : m.seq ≤ c.last → StepAccounts KeepOnly c s m
-  keep_only_step seen = record {
-    next = live_accounts (with_cached c m) with_message live (more_numbers c.last (omega arith) seen) (ascend_added c.cache m.seq m.body known.ascend);
-    gaps = tt;
-  }
+  -- an update up to the last number, and an image below it, change no number
+  seen_next : m.seq ≤ c.last → Accounts c with_message
+  seen_next seen = live_accounts c with_message live (more_numbers c.last (omega arith) seen)
 
   ignore_update_step : m.seq ≤ c.last → StepAccounts Ignore c s m
-  ignore_update_step seen = record { next = live_accounts c with_message live (more_numbers c.last (omega arith) seen) known.ascend; gaps = tt }
+  ignore_update_step seen = record { next = seen_next seen; gaps = tt }
+
+  late_step : m.seq ≤ c.last → StepAccounts Late c s m
+  late_step seen = record { next = seen_next seen; gaps = (tt, tt) }
 
   ignore_image_step : is_update m.kind ≡ false → StepAccounts Ignore c s m
-  ignore_image_step image = record { next = live_accounts c with_message live (more_images c.last (omega arith) image) known.ascend; gaps = tt }
-
-  gap_step : m.sender ≡ c.sender → suc c.last < m.seq → StepAccounts Gap c s m
-  gap_step same ahead = record {
-    next = live_accounts (with_cached (with_update LiveStale c m) m) with_message refl (more_numbers m.seq (omega arith) (omega arith)) (ascend_added c.cache m.seq m.body known.ascend);
-    gaps = gap_calls_true c.phase with_message m.sender c.sender c.last m
-        (subst (λ (x : ℕ). IsTrueGap with_message x (suc c.last) (m.seq - 1)) (sym same)
-        (true_gap with_message c.sender c.last m.seq ahead (λ n past before.
-        dropped_more c.sender n s (record { context = c; message = m }) (known.live live n past) (not_numbered c.sender n (record { context = c; message = m }) (λ is. omega arith)))));
-  }
+  ignore_image_step image = record { next = live_accounts c with_message live (more_images c.last (omega arith) image); gaps = tt }
 
   switch_step : StepAccounts Switch c s m
   switch_step = record {
     next = live_accounts (with_cached (with_update LiveStale (turned_to m.sender c) m) m) alone refl
-        (λ n past. dropped_more m.sender n [] (record { context = c; message = m }) tt (not_numbered m.sender n (record { context = c; message = m }) (λ same. omega arith)))
-        (ascend_added (emptied c.cache) m.seq m.body tt);
+        (λ n past absent. dropped_more m.sender n [] taken tt (not_numbered m.sender n taken (λ same. omega arith)));
     gaps = switch_calls_true c.phase alone m.sender c.last m;
   }
 
   replace_step : is_update m.kind ≡ false → c.last ≤ m.seq → StepAccounts Replace c s m
   replace_step image up = record {
-    next = live_accounts (with_image_of m c) with_message refl (more_images m.seq up image) known.ascend;
+    next = settled_accounts (with_image_of m c) with_message (λ n past absent. more_images m.seq up image n past (kept_absent c.phase c.cache.updates n absent));
     gaps = (tt, tt);
   }
 
   adopt_step : is_update m.kind ≡ false → StepAccounts Adopt c s m
   adopt_step image = record {
     next = live_accounts (with_image_of m (turned_to m.sender c)) alone refl
-        (λ n past. dropped_more m.sender n [] (record { context = c; message = m }) tt (not_update m.sender n (record { context = c; message = m }) image)) tt;
+        (λ n past absent. dropped_more m.sender n [] taken tt (not_update m.sender n taken image));
     gaps = adopt_calls_true c.phase alone m.sender m;
   }
 
-  heal_next : (r : Reached) → is_update m.kind ≡ false → Accounts (healed r c m).context with_message
+-- while nothing is kept
+module _ (c : ContextData) (s : List Taken) (m : MarketMsg) (known : Accounts c s) (live : is_waiting c.phase ≡ false) (bare : kept_of c.phase c.cache.updates ≡ []) where
+  abbrev bare_message : List Taken
+  bare_message = s ++ record { context = c; message = m } ∷ []
+
+  none_kept : (n : ℕ) → has_number (kept_of c.phase c.cache.updates) n ≡ false
+  none_kept n = ap (λ (es : List (ℕ × List FieldData)). has_number es n) bare
+
+  next_stale : c.last ≤ m.seq → Accounts (with_cached (with_update LiveStale c m) m) bare_message
+  next_stale up = live_accounts (with_cached (with_update LiveStale c m) m) bare_message refl
+      (λ n past absent. more_numbers c s m known live m.seq up (omega arith) n past (none_kept n))
+
+  apply_keep_step : m.seq ≡ suc c.last → StepAccounts ApplyKeep c s m
+  apply_keep_step next = record { next = next_stale (omega arith); gaps = (tt, tt) }
+
+  seen_kept : m.seq ≤ c.last → Accounts (with_cached c m) bare_message
+  seen_kept seen = live_accounts (with_cached c m) bare_message live (λ n past absent. more_numbers c s m known live c.last (omega arith) seen n past (none_kept n))
+
+  keep_only_step : m.seq ≤ c.last → StepAccounts KeepOnly c s m
+  keep_only_step seen = record { next = seen_kept seen; gaps = tt }
+
+  keep_late_step : m.seq ≤ c.last → StepAccounts KeepLate c s m
+  keep_late_step seen = record { next = seen_kept seen; gaps = (tt, tt) }
+
+  gap_step : m.sender ≡ c.sender → suc c.last < m.seq → StepAccounts Gap c s m
+  gap_step same far = record {
+    next = next_stale (omega arith);
+    gaps = gap_calls_true c.phase bare_message m.sender c.sender c.last m
+        (subst (λ (x : ℕ). IsTrueGap bare_message x (suc c.last) (m.seq - 1)) (sym same)
+        (true_gap bare_message c.sender c.last m.seq far (λ n past before.
+        dropped_more c.sender n s (record { context = c; message = m }) (known.live live n past (none_kept n)) (not_numbered c.sender n (record { context = c; message = m }) (λ is. omega arith)))));
+  }
+
+  heal_next : (r : Reached) → is_update m.kind ≡ false → Accounts (healed r c m).context bare_message
   heal_next r image =
-      (elim (nat_le c.last r.number) as (λ b. nat_le c.last r.number ≡ b → Accounts (if b then reached_last r c m else stopped_short c).context with_message) [
-        | true ↦ λ up. live_accounts (reached_last r c m).context with_message refl (more_images r.number (le_true c.last r.number up) image) tt
-        | false ↦ λ short. live_accounts c with_message live (more_images c.last (omega arith) image) known.ascend
+      (elim (nat_le c.last r.number) as (λ b. nat_le c.last r.number ≡ b → Accounts (if b then reached_last r c m else stopped_short c).context bare_message) [
+        | true ↦ λ up. live_accounts (reached_last r c m).context bare_message refl (λ n past absent. more_images c s m known live r.number (le_true c.last r.number up) image n past (none_kept n))
+        | false ↦ λ short. live_accounts c bare_message live (more_images c s m known live c.last (omega arith) image)
       ]) refl
 
-  heal_gaps : (r : Reached) → AllByRecursion (TellsTrueGap with_message m.sender) (healed r c m).calls
-  heal_gaps r = elim (nat_le c.last r.number) as (λ b. AllByRecursion (TellsTrueGap with_message m.sender) (if b then reached_last r c m else stopped_short c).calls) [
+  heal_gaps : (r : Reached) → AllByRecursion (TellsTrueGap bare_message m.sender) (healed r c m).calls
+  heal_gaps r = elim (nat_le c.last r.number) as (λ b. AllByRecursion (TellsTrueGap bare_message m.sender) (if b then reached_last r c m else stopped_short c).calls) [
     | true ↦ (tt, (tt, tt))
     | false ↦ (tt, tt)
   ]
@@ -258,9 +313,9 @@ added_dropped s c m updates waits update are dropped n absent =
 
 keep_accounts : (s : List Taken) (c next : ContextData) (m : MarketMsg)
     → c.phase ≡ Await → is_update m.kind ≡ true → waiting_for m.sender c ≡ next → next.phase ≡ Await → next.sender ≡ m.sender → next.cache.size ≡ c.cache.size
-    → Ascend next.cache.updates → ((n : ℕ) → has_number next.cache.updates n ≡ false → AreDropped m.sender n s)
+    → ((n : ℕ) → has_number next.cache.updates n ≡ false → AreDropped m.sender n s)
     → Accounts (with_cached (waiting_for m.sender c) m) (s ++ record { context = c; message = m } ∷ [])
-keep_accounts s c next m waits update is waits_next sender size ascend dropped =
+keep_accounts s c next m waits update is waits_next sender size dropped =
     let t : Taken = record { context = c; message = m } in
     let goal : Accounts (with_cached next m) (s ++ t ∷ []) = record {
       waiting = λ w n absent.
@@ -268,7 +323,6 @@ keep_accounts s c next m waits update is waits_next sender size ascend dropped =
           (added_dropped s c m next.cache.updates waits update (ap (λ (x : ContextData). x.cache.updates) is) dropped n
           (subst (λ (x : ℕ). has_number (trimmed x (put next.cache.updates m.seq m.body)) n ≡ false) size absent));
       live = λ live. absurd (not_waiting next live waits_next);
-      ascend = ascend_added next.cache m.seq m.body ascend;
       latest = λ w. inl (λ x. last_of_more s t x ∙ ap (λ (y : ℕ). not (y == x)) (sym sender));
     } in
     subst (λ (x : ContextData). Accounts (with_cached x m) (s ++ t ∷ [])) (sym is) goal
@@ -279,66 +333,96 @@ keep_step c s m known waits update =
     (elim (c.sender == m.sender) as (λ b. (c.sender == m.sender) ≡ b → StepAccounts Keep c s m) [
       | true ↦ λ same. record {
         next = subst (λ (x : List Taken). Accounts (with_cached (waiting_for m.sender c) m) (x ++ t ∷ [])) (sym (same_stretch c s m known waits same))
-            (keep_accounts s c c m waits update (waiting_is_same m.sender c same) waits (eq_true c.sender m.sender same) refl known.ascend
+            (keep_accounts s c c m waits update (waiting_is_same m.sender c same) waits (eq_true c.sender m.sender same) refl
             (λ n absent. subst (λ (x : ℕ). AreDropped x n s) (eq_true c.sender m.sender same) (known.waiting waits n absent)));
         gaps = tt;
       }
       | false ↦ λ other. record {
         next = subst (λ (x : List Taken). Accounts (with_cached (waiting_for m.sender c) m) (x ++ t ∷ [])) (sym (other_stretch c s m known waits other))
-            (keep_accounts [] c (turned_to m.sender c) m waits update (waiting_is_turned m.sender c other) waits refl refl tt (λ n absent. tt));
+            (keep_accounts [] c (turned_to m.sender c) m waits update (waiting_is_turned m.sender c other) waits refl refl (λ n absent. tt));
         gaps = tt;
       }
     ]) refl
 
--- ---- the first image: what is known while cached updates are handled
+-- ---- what is known while cached updates are handled
+
+-- no updates are kept: the image is the sender's record and the cache is empty, or it may lack updates
+abbrev Steady : ContextData → Type 0
+Steady c = ((c.phase ≡ LiveOk) × (c.cache.updates ≡ [])) ⊎ (c.phase ≡ LiveStale)
+
+abbrev is_steady : Phase → Bool
+is_steady Await = false
+is_steady LiveOk = true
+is_steady LiveStale = true
+is_steady LiveKept = false
+
+steady_phase : (c : ContextData) (phase : Phase) → Steady c → c.phase ≡ phase → is_steady phase ≡ true
+steady_phase c phase steady is = elim steady [
+  | inl both ↦ (let ok : phase ≡ LiveOk = sym is ∙ both.0 in ap is_steady ok)
+  | inr stale ↦ (let same : phase ≡ LiveStale = sym is ∙ stale in ap is_steady same)
+]
+
+steady_empty : (c : ContextData) → Steady c → c.phase ≡ LiveOk → c.cache.updates ≡ []
+steady_empty c steady is = elim steady [
+  | inl both ↦ both.1
+  | inr stale ↦ (let clash : LiveOk ≡ LiveStale = sym is ∙ stale in absurd cc)
+]
+
+steady_live : (c : ContextData) → Steady c → is_waiting c.phase ≡ false
+steady_live c steady = elim steady [
+  | inl both ↦ (let ok : c.phase ≡ LiveOk = both.0 in ap is_waiting ok)
+  | inr stale ↦ (let same : c.phase ≡ LiveStale = stale in ap is_waiting same)
+]
 
 record Pending (sender : ℕ) (s : List Taken) (c : ContextData) (es : List (ℕ × List FieldData)) : Type 0 where
   pub own : c.sender ≡ sender
-  pub live : is_waiting c.phase ≡ false
+  pub steady : Steady c
   pub ahead : AscendFrom c.last es
-  pub ascend : Ascend c.cache.updates
   pub dropped : (n : ℕ) → c.last < n → has_number es n ≡ false → AreDropped sender n s
 
 -- what one cached update above the last number leaves
 record Handled (sender : ℕ) (s : List Taken) (c : ContextData) (m : MarketMsg) (step : Step) : Type 0 where
   pub own : step.context.sender ≡ sender
-  pub live : is_waiting step.context.phase ≡ false
+  pub steady : Steady step.context
   pub last : step.context.last ≡ m.seq
-  pub ascend : Ascend step.context.cache.updates
   pub gaps : AllByRecursion (TellsTrueGap s sender) step.calls
 
-handled_one : (phase : Phase) (relation : Relation) (sender : ℕ) (s : List Taken) (c : ContextData) (m : MarketMsg)
-    → c.phase ≡ phase → is_waiting phase ≡ false → c.sender ≡ sender → m.sender ≡ c.sender → c.last < m.seq → Ascend c.cache.updates
+handled_next : (sender : ℕ) (s : List Taken) (c : ContextData) (m : MarketMsg) → c.sender ≡ sender → c.cache.updates ≡ [] → Handled sender s c m (update_acted Apply c m)
+handled_next sender s c m own empty =
+    let none : above m.seq c.cache.updates ≡ [] = ap (above m.seq) empty in
+    record { own = own; steady = inl (ap ok_with none, none); last = refl; gaps = (tt, tt) }
+
+handled_gap : (sender : ℕ) (s : List Taken) (c : ContextData) (m : MarketMsg) → c.sender ≡ sender → suc c.last < m.seq
+    → ((n : ℕ) → c.last < n → n < m.seq → AreDropped sender n s) → Handled sender s c m (update_acted Gap c m)
+handled_gap sender s c m own far dropped = record {
+  own = own;
+  steady = inr refl;
+  last = refl;
+  gaps = gap_calls_true c.phase s sender c.sender c.last m (true_gap s sender c.last m.seq far dropped);
+}
+
+handled_one : (strategy : Strategy) (phase : Phase) (relation : Relation) (sender : ℕ) (s : List Taken) (c : ContextData) (m : MarketMsg)
+    → c.phase ≡ phase → Steady c → is_steady phase ≡ true → c.sender ≡ sender → m.sender ≡ c.sender → c.last < m.seq
     → ((n : ℕ) → c.last < n → n < m.seq → AreDropped sender n s)
-    → Related relation c.sender c.last m → Handled sender s c m (update_acted (decided phase relation true) c m)
-handled_one Await relation sender s c m is live own same up ascend dropped told = absurd cc
-handled_one LiveOk Next sender s c m is live own same up ascend dropped told = record { own = own; live = refl; last = refl; ascend = ascend; gaps = (tt, tt) }
-handled_one LiveOk Same sender s c m is live own same up ascend dropped told = absurd (omega (arith, told.number))
-handled_one LiveOk Old sender s c m is live own same up ascend dropped told = absurd (omega (arith, told.number))
-handled_one LiveOk Ahead sender s c m is live own same up ascend dropped told = record {
-  own = own;
-  live = refl;
-  last = refl;
-  ascend = ascend_added c.cache m.seq m.body ascend;
-  gaps = gap_calls_true c.phase s sender c.sender c.last m (true_gap s sender c.last m.seq told.number dropped);
-}
-handled_one LiveOk Other sender s c m is live own same up ascend dropped told = absurd (told same)
-handled_one LiveStale Next sender s c m is live own same up ascend dropped told = record { own = own; live = refl; last = refl; ascend = ascend_added c.cache m.seq m.body ascend; gaps = (tt, tt) }
-handled_one LiveStale Same sender s c m is live own same up ascend dropped told = absurd (omega (arith, told.number))
-handled_one LiveStale Old sender s c m is live own same up ascend dropped told = absurd (omega (arith, told.number))
-handled_one LiveStale Ahead sender s c m is live own same up ascend dropped told = record {
-  own = own;
-  live = refl;
-  last = refl;
-  ascend = ascend_added c.cache m.seq m.body ascend;
-  gaps = gap_calls_true c.phase s sender c.sender c.last m (true_gap s sender c.last m.seq told.number dropped);
-}
-handled_one LiveStale Other sender s c m is live own same up ascend dropped told = absurd (told same)
+    → Related relation c.sender c.last m → Handled sender s c m (update_acted (decided strategy phase relation true) c m)
+handled_one strategy Await relation sender s c m is steady fits own same up dropped told = absurd cc
+handled_one strategy LiveOk Next sender s c m is steady fits own same up dropped told = handled_next sender s c m own (steady_empty c steady is)
+handled_one strategy LiveOk Same sender s c m is steady fits own same up dropped told = absurd (omega (arith, told.number))
+handled_one strategy LiveOk Old sender s c m is steady fits own same up dropped told = absurd (omega (arith, told.number))
+handled_one strategy LiveOk Ahead sender s c m is steady fits own same up dropped told = handled_gap sender s c m own told.number dropped
+handled_one strategy LiveOk Other sender s c m is steady fits own same up dropped told = absurd (told same)
+handled_one strategy LiveStale Next sender s c m is steady fits own same up dropped told = record { own = own; steady = inr refl; last = refl; gaps = (tt, tt) }
+handled_one strategy LiveStale Same sender s c m is steady fits own same up dropped told = absurd (omega (arith, told.number))
+handled_one strategy LiveStale Old sender s c m is steady fits own same up dropped told = absurd (omega (arith, told.number))
+handled_one strategy LiveStale Ahead sender s c m is steady fits own same up dropped told = handled_gap sender s c m own told.number dropped
+handled_one strategy LiveStale Other sender s c m is steady fits own same up dropped told = absurd (told same)
+handled_one strategy LiveKept relation sender s c m is steady fits own same up dropped told = absurd cc
 
 handled_first : (sender : ℕ) (s : List Taken) (c : ContextData) (e : ℕ × List FieldData) (es : List (ℕ × List FieldData)) → Pending sender s c (e ∷ es)
     → Handled sender s c (as_message c.sender e) (updated c (as_message c.sender e))
 handled_first sender s c e es pending =
-    handled_one c.phase (relation_of c.sender c.last (as_message c.sender e)) sender s c (as_message c.sender e) refl pending.live pending.own refl pending.ahead.0 pending.ascend
+    handled_one c.strategy c.phase (relation_of c.sender c.last (as_message c.sender e)) sender s c (as_message c.sender e) refl pending.steady
+    (steady_phase c c.phase pending.steady refl) pending.own refl pending.ahead.0
     (λ n past before. pending.dropped n past (cons_absent e es n (λ same. omega arith) (absent_below e.0 n es (omega arith) pending.ahead.1)))
     (related c.sender c.last (as_message c.sender e))
 
@@ -348,8 +432,7 @@ pending_more sender s c e es pending =
     let one = handled_first sender s c e es pending in
     record {
       own = one.own;
-      live = one.live;
-      ascend = one.ascend;
+      steady = one.steady;
       ahead = subst (λ (x : ℕ). AscendFrom x es) (sym one.last) pending.ahead.1;
       dropped = λ n past absent.
           let up : e.0 < n = subst (λ (x : ℕ). x < n) one.last past in
@@ -369,13 +452,15 @@ handled_accounts (e ∷ es) sender s c pending =
 
 pending_accounts : (sender : ℕ) (s : List Taken) (c : ContextData) → Pending sender s c [] → Accounts c s
 pending_accounts sender s c pending =
-    live_accounts c s pending.live (λ n past. subst (λ (x : ℕ). AreDropped x n s) (sym pending.own) (pending.dropped n past refl)) pending.ascend
+    live_accounts c s (steady_live c pending.steady) (λ n past absent. subst (λ (x : ℕ). AreDropped x n s) (sym pending.own) (pending.dropped n past refl))
 
--- what is pending at the first image
+-- ---- the first image
+
+-- what is pending at it
 start_pending : (s : List Taken) (c : ContextData) (m : MarketMsg) (es : List (ℕ × List FieldData))
     → AscendFrom m.seq es → ((n : ℕ) → m.seq < n → has_number es n ≡ false → AreDropped m.sender n s)
     → Pending m.sender s (with_image_of m (turned_to m.sender c)) es
-start_pending s c m es ahead dropped = record { own = refl; live = refl; ahead = ahead; ascend = tt; dropped = dropped }
+start_pending s c m es ahead dropped = record { own = refl; steady = inl (refl, refl); ahead = ahead; dropped = dropped }
 
 started_accounts : (s : List Taken) (c : ContextData) (m : MarketMsg) (es : List (ℕ × List FieldData)) → cached_above c m ≡ es
     → Pending m.sender s (with_image_of m (turned_to m.sender c)) es
@@ -385,8 +470,8 @@ started_accounts s c m es is pending =
     subst (λ (x : List (ℕ × List FieldData)). Accounts (handled (with_image_of m (turned_to m.sender c)) x).context s × AllByRecursion (TellsTrueGap s m.sender) (on.Msg m quality.Ok ∷ (handled (with_image_of m (turned_to m.sender c)) x).calls))
     (sym is) (pending_accounts m.sender s (handled (with_image_of m (turned_to m.sender c)) es).context all.0, (tt, all.1))
 
-start_step : (c : ContextData) (s : List Taken) (m : MarketMsg) → Accounts c s → c.phase ≡ Await → is_update m.kind ≡ false → StepAccounts Start c s m
-start_step c s m known waits image =
+start_step : (c : ContextData) (s : List Taken) (m : MarketMsg) → Keeps c → Accounts c s → c.phase ≡ Await → is_update m.kind ≡ false → StepAccounts Start c s m
+start_step c s m keeps known waits image =
     let t : Taken = record { context = c; message = m } in
     let finish : (base : List Taken) → (if last_is_of_another s m.sender then [] else s) ≡ base
     → Accounts (started c m).context (base ++ t ∷ []) × AllByRecursion (TellsTrueGap (base ++ t ∷ []) m.sender) (started c m).calls → StepAccounts Start c s m
@@ -397,7 +482,7 @@ start_step c s m known waits image =
     (elim (c.sender == m.sender) as (λ b. (c.sender == m.sender) ≡ b → StepAccounts Start c s m) [
       | true ↦ λ same. finish s (same_stretch c s m known waits same)
           (started_accounts (s ++ t ∷ []) c m (above m.seq c.cache.updates) (grind arith)
-          (start_pending (s ++ t ∷ []) c m (above m.seq c.cache.updates) (ascend_above m.seq c.cache.updates known.ascend)
+          (start_pending (s ++ t ∷ []) c m (above m.seq c.cache.updates) (ascend_above m.seq c.cache.updates keeps.ascend)
           (λ n up absent. dropped_more m.sender n s t
           (subst (λ (x : ℕ). AreDropped x n s) (eq_true c.sender m.sender same) (known.waiting waits n (absent_above m.seq n c.cache.updates up absent)))
           (not_update m.sender n t image))))
@@ -406,57 +491,130 @@ start_step c s m known waits image =
           (start_pending (t ∷ []) c m [] tt (λ n up absent. dropped_more m.sender n [] t tt (not_update m.sender n t image))))
     ]) refl
 
+-- or the cached updates above it are kept
+start_keep_step : (c : ContextData) (s : List Taken) (m : MarketMsg) → Accounts c s → c.phase ≡ Await → is_update m.kind ≡ false → StepAccounts StartKeep c s m
+start_keep_step c s m known waits image =
+    let t : Taken = record { context = c; message = m } in
+    let finish : (base : List Taken) (next : ContextData) → (if last_is_of_another s m.sender then [] else s) ≡ base → waiting_for m.sender c ≡ next
+    → Accounts (settled (with_image_of m next)) (base ++ t ∷ []) → StepAccounts StartKeep c s m
+    = λ (base : List Taken) (next : ContextData) is turned accounts. record {
+      next = subst (λ (x : List Taken). Accounts (started_keeping c m).context (x ++ t ∷ [])) (sym is)
+          (subst (λ (x : ContextData). Accounts (settled (with_image_of m x)) (base ++ t ∷ [])) (sym turned) accounts);
+      gaps = (tt, tt);
+    } in
+    (elim (c.sender == m.sender) as (λ b. (c.sender == m.sender) ≡ b → StepAccounts StartKeep c s m) [
+      | true ↦ λ same. finish s c (same_stretch c s m known waits same) (waiting_is_same m.sender c same)
+          (settled_accounts (with_image_of m c) (s ++ t ∷ [])
+          (λ n past absent. dropped_more c.sender n s t (known.waiting waits n absent) (not_update c.sender n t image)))
+      | false ↦ λ other. finish [] (turned_to m.sender c) (other_stretch c s m known waits other) (waiting_is_turned m.sender c other)
+          (settled_accounts (with_image_of m (turned_to m.sender c)) (t ∷ [])
+          (λ n past absent. dropped_more m.sender n [] t tt (not_update m.sender n t image)))
+    ]) refl
+
+-- ---- the first gap
+
+catch_step : (c : ContextData) (s : List Taken) (m : MarketMsg) → Keeps c → Accounts c s → c.phase ≡ LiveKept → m.sender ≡ c.sender → c.last < m.seq → StepAccounts Catch c s m
+catch_step c s m keeps known is same up =
+    let t : Taken = record { context = c; message = m } in
+    let live : is_waiting c.phase ≡ false = ap is_waiting is in
+    let all : List (ℕ × List FieldData) = put c.cache.updates m.seq m.body in
+    let bare : ContextData = record c { phase = LiveOk; cache = emptied c.cache } in
+    let pending : Pending c.sender (s ++ t ∷ []) bare all = record {
+      own = refl;
+      steady = inl (refl, refl);
+      ahead = ascend_from_put c.last c.cache.updates m.seq m.body up (keeps.early is);
+      dropped = λ n past absent.
+          let parts = absent_put c.cache.updates m.seq m.body n absent in
+          dropped_more c.sender n s t (known.live live n past (kept_absent c.phase c.cache.updates n parts.1)) (not_numbered c.sender n t (λ x. parts.0 (sym x)));
+    } in
+    let both = handled_accounts all c.sender (s ++ t ∷ []) bare pending in
+    record {
+      next = pending_accounts c.sender (s ++ t ∷ []) (handled bare all).context both.0;
+      gaps = subst (λ (x : ℕ). AllByRecursion (TellsTrueGap (s ++ t ∷ []) x) (handled bare all).calls) (sym same) both.1;
+    }
+
 -- ---- each message of a market context
 
 live_from : (c : ContextData) (phase : Phase) → c.phase ≡ phase → is_waiting phase ≡ false → is_waiting c.phase ≡ false
 live_from c phase is live = rw is live
 
-update_accounts : (phase : Phase) (relation : Relation) (c : ContextData) (s : List Taken) (m : MarketMsg)
-    → c.phase ≡ phase → Related relation c.sender c.last m → Accounts c s → is_update m.kind ≡ true → StepAccounts (decided phase relation true) c s m
-update_accounts Await relation c s m is told known update = keep_step c s m known is update
-update_accounts LiveOk Next c s m is told known update = apply_step c s m known (live_from c LiveOk is refl) told.number
-update_accounts LiveOk Same c s m is told known update = ignore_update_step c s m known (live_from c LiveOk is refl) (omega (arith, told.number))
-update_accounts LiveOk Old c s m is told known update = ignore_update_step c s m known (live_from c LiveOk is refl) (omega (arith, told.number))
-update_accounts LiveOk Ahead c s m is told known update = gap_step c s m known (live_from c LiveOk is refl) told.same told.number
-update_accounts LiveOk Other c s m is told known update = switch_step c s m known (live_from c LiveOk is refl)
-update_accounts LiveStale Next c s m is told known update = apply_keep_step c s m known (live_from c LiveStale is refl) told.number
-update_accounts LiveStale Same c s m is told known update = keep_only_step c s m known (live_from c LiveStale is refl) (omega (arith, told.number))
-update_accounts LiveStale Old c s m is told known update = keep_only_step c s m known (live_from c LiveStale is refl) (omega (arith, told.number))
-update_accounts LiveStale Ahead c s m is told known update = gap_step c s m known (live_from c LiveStale is refl) told.same told.number
-update_accounts LiveStale Other c s m is told known update = switch_step c s m known (live_from c LiveStale is refl)
+bare_from : (c : ContextData) (phase : Phase) → c.phase ≡ phase → kept_of phase c.cache.updates ≡ [] → kept_of c.phase c.cache.updates ≡ []
+bare_from c phase is bare = rw is bare
 
-image_accounts : (phase : Phase) (relation : Relation) (c : ContextData) (s : List Taken) (m : MarketMsg)
-    → c.phase ≡ phase → Related relation c.sender c.last m → Accounts c s → is_update m.kind ≡ false → StepAccounts (decided phase relation false) c s m
-image_accounts Await relation c s m is told known image = start_step c s m known is image
-image_accounts LiveOk Next c s m is told known image = replace_step c s m known (live_from c LiveOk is refl) image (omega (arith, told.number))
-image_accounts LiveOk Same c s m is told known image = replace_step c s m known (live_from c LiveOk is refl) image (omega (arith, told.number))
-image_accounts LiveOk Old c s m is told known image = ignore_image_step c s m known (live_from c LiveOk is refl) image
-image_accounts LiveOk Ahead c s m is told known image = replace_step c s m known (live_from c LiveOk is refl) image (omega (arith, told.number))
-image_accounts LiveOk Other c s m is told known image = adopt_step c s m known (live_from c LiveOk is refl) image
-image_accounts LiveStale Next c s m is told known image = heal_step c s m known (live_from c LiveStale is refl) image
-image_accounts LiveStale Same c s m is told known image = heal_step c s m known (live_from c LiveStale is refl) image
-image_accounts LiveStale Old c s m is told known image = heal_step c s m known (live_from c LiveStale is refl) image
-image_accounts LiveStale Ahead c s m is told known image = heal_step c s m known (live_from c LiveStale is refl) image
-image_accounts LiveStale Other c s m is told known image = adopt_step c s m known (live_from c LiveStale is refl) image
+update_accounts : (strategy : Strategy) (phase : Phase) (relation : Relation) (c : ContextData) (s : List Taken) (m : MarketMsg)
+    → c.strategy ≡ strategy → c.phase ≡ phase → Related relation c.sender c.last m → Keeps c → Accounts c s → is_update m.kind ≡ true → StepAccounts (decided strategy phase relation true) c s m
+update_accounts strategy Await relation c s m by is told keeps known update = keep_step c s m known is update
+update_accounts strategy LiveOk Next c s m by is told keeps known update = apply_step c s m known (live_from c LiveOk is refl) told.number
+update_accounts strategy LiveOk Same c s m by is told keeps known update =
+    either_way (λ a. StepAccounts a c s m) strategy Ignore Late (ignore_update_step c s m known (live_from c LiveOk is refl) (omega (arith, told.number))) (late_step c s m known (live_from c LiveOk is refl) (omega (arith, told.number)))
+update_accounts strategy LiveOk Old c s m by is told keeps known update =
+    either_way (λ a. StepAccounts a c s m) strategy Ignore Late (ignore_update_step c s m known (live_from c LiveOk is refl) (omega (arith, told.number))) (late_step c s m known (live_from c LiveOk is refl) (omega (arith, told.number)))
+update_accounts strategy LiveOk Ahead c s m by is told keeps known update = gap_step c s m known (live_from c LiveOk is refl) (bare_from c LiveOk is refl) told.same told.number
+update_accounts strategy LiveOk Other c s m by is told keeps known update = switch_step c s m known (live_from c LiveOk is refl)
+update_accounts strategy LiveStale Next c s m by is told keeps known update = apply_keep_step c s m known (live_from c LiveStale is refl) (bare_from c LiveStale is refl) told.number
+update_accounts strategy LiveStale Same c s m by is told keeps known update =
+    either_way (λ a. StepAccounts a c s m) strategy KeepOnly KeepLate (keep_only_step c s m known (live_from c LiveStale is refl) (bare_from c LiveStale is refl) (omega (arith, told.number))) (keep_late_step c s m known (live_from c LiveStale is refl) (bare_from c LiveStale is refl) (omega (arith, told.number)))
+update_accounts strategy LiveStale Old c s m by is told keeps known update =
+    either_way (λ a. StepAccounts a c s m) strategy KeepOnly KeepLate (keep_only_step c s m known (live_from c LiveStale is refl) (bare_from c LiveStale is refl) (omega (arith, told.number))) (keep_late_step c s m known (live_from c LiveStale is refl) (bare_from c LiveStale is refl) (omega (arith, told.number)))
+update_accounts strategy LiveStale Ahead c s m by is told keeps known update = gap_step c s m known (live_from c LiveStale is refl) (bare_from c LiveStale is refl) told.same told.number
+update_accounts strategy LiveStale Other c s m by is told keeps known update = switch_step c s m known (live_from c LiveStale is refl)
+update_accounts strategy LiveKept Next c s m by is told keeps known update = apply_step c s m known (live_from c LiveKept is refl) told.number
+update_accounts strategy LiveKept Same c s m by is told keeps known update =
+    either_way (λ a. StepAccounts a c s m) strategy Ignore Late (ignore_update_step c s m known (live_from c LiveKept is refl) (omega (arith, told.number))) (late_step c s m known (live_from c LiveKept is refl) (omega (arith, told.number)))
+update_accounts strategy LiveKept Old c s m by is told keeps known update =
+    either_way (λ a. StepAccounts a c s m) strategy Ignore Late (ignore_update_step c s m known (live_from c LiveKept is refl) (omega (arith, told.number))) (late_step c s m known (live_from c LiveKept is refl) (omega (arith, told.number)))
+update_accounts One LiveKept Ahead c s m by is told keeps known update = (let clash : One ≡ Two = sym by ∙ keeps.second is in absurd cc)
+update_accounts Two LiveKept Ahead c s m by is told keeps known update = catch_step c s m keeps known is told.same (omega (arith, told.number))
+update_accounts strategy LiveKept Other c s m by is told keeps known update = switch_step c s m known (live_from c LiveKept is refl)
 
-step_accounts : (c : ContextData) (s : List Taken) (m : MarketMsg) → Accounts c s → StepAccounts (action_of c m) c s m
-step_accounts c s m known =
-    (elim (is_update m.kind) as (λ b. is_update m.kind ≡ b → StepAccounts (decided c.phase (relation_of c.sender c.last m) b) c s m) [
-      | true ↦ λ update. update_accounts c.phase (relation_of c.sender c.last m) c s m refl (related c.sender c.last m) known update
-      | false ↦ λ image. image_accounts c.phase (relation_of c.sender c.last m) c s m refl (related c.sender c.last m) known image
+image_accounts : (strategy : Strategy) (phase : Phase) (relation : Relation) (c : ContextData) (s : List Taken) (m : MarketMsg)
+    → c.phase ≡ phase → Related relation c.sender c.last m → Keeps c → Accounts c s → is_update m.kind ≡ false → StepAccounts (decided strategy phase relation false) c s m
+image_accounts strategy Await relation c s m is told keeps known image =
+    either_way (λ a. StepAccounts a c s m) strategy Start StartKeep (start_step c s m keeps known is image) (start_keep_step c s m known is image)
+image_accounts strategy LiveOk Next c s m is told keeps known image = replace_step c s m known (live_from c LiveOk is refl) image (omega (arith, told.number))
+image_accounts strategy LiveOk Same c s m is told keeps known image = replace_step c s m known (live_from c LiveOk is refl) image (omega (arith, told.number))
+image_accounts strategy LiveOk Old c s m is told keeps known image = ignore_image_step c s m known (live_from c LiveOk is refl) image
+image_accounts strategy LiveOk Ahead c s m is told keeps known image = replace_step c s m known (live_from c LiveOk is refl) image (omega (arith, told.number))
+image_accounts strategy LiveOk Other c s m is told keeps known image = adopt_step c s m known (live_from c LiveOk is refl) image
+image_accounts strategy LiveStale Next c s m is told keeps known image = heal_step c s m known (live_from c LiveStale is refl) (bare_from c LiveStale is refl) image
+image_accounts strategy LiveStale Same c s m is told keeps known image = heal_step c s m known (live_from c LiveStale is refl) (bare_from c LiveStale is refl) image
+image_accounts strategy LiveStale Old c s m is told keeps known image = heal_step c s m known (live_from c LiveStale is refl) (bare_from c LiveStale is refl) image
+image_accounts strategy LiveStale Ahead c s m is told keeps known image = heal_step c s m known (live_from c LiveStale is refl) (bare_from c LiveStale is refl) image
+image_accounts strategy LiveStale Other c s m is told keeps known image = adopt_step c s m known (live_from c LiveStale is refl) image
+image_accounts strategy LiveKept Next c s m is told keeps known image = replace_step c s m known (live_from c LiveKept is refl) image (omega (arith, told.number))
+image_accounts strategy LiveKept Same c s m is told keeps known image = replace_step c s m known (live_from c LiveKept is refl) image (omega (arith, told.number))
+image_accounts strategy LiveKept Old c s m is told keeps known image = ignore_image_step c s m known (live_from c LiveKept is refl) image
+image_accounts strategy LiveKept Ahead c s m is told keeps known image = replace_step c s m known (live_from c LiveKept is refl) image (omega (arith, told.number))
+image_accounts strategy LiveKept Other c s m is told keeps known image = adopt_step c s m known (live_from c LiveKept is refl) image
+
+step_accounts : (c : ContextData) (s : List Taken) (m : MarketMsg) → Keeps c → Accounts c s → StepAccounts (action_of c m) c s m
+step_accounts c s m keeps known =
+    (elim (is_update m.kind) as (λ b. is_update m.kind ≡ b → StepAccounts (decided c.strategy c.phase (relation_of c.sender c.last m) b) c s m) [
+      | true ↦ λ update. update_accounts c.strategy c.phase (relation_of c.sender c.last m) c s m refl refl (related c.sender c.last m) keeps known update
+      | false ↦ λ image. image_accounts c.strategy c.phase (relation_of c.sender c.last m) c s m refl (related c.sender c.last m) keeps known image
     ]) refl
 
 market_after : (c : ContextData) (m : MarketMsg) → c.kind ≡ Market → after c m ≡ (acted (action_of c m) c m).context
 market_after c m is = ap (λ (k : SubKind). (step_by k c m).context) is
 
-after_all_accounts : (before : List MarketMsg) (c : ContextData) (s : List Taken) → c.kind ≡ Market → Accounts c s → Accounts (after_all c before) (stretch_after s c before)
-after_all_accounts [] c s is known = known
-after_all_accounts (m ∷ before) c s is known =
-    after_all_accounts before (after c m) (stretched s c m) (after_kind c m ∙ is)
-    (subst (λ (x : ContextData). Accounts x (stretched s c m)) (sym (market_after c m is)) (step_accounts c s m known).next)
+-- what is known of a market context and its stretch
+record Known (c : ContextData) (s : List Taken) : Type 0 where
+  pub keeps : Keeps c
+  pub accounts : Accounts c s
 
-new_accounts : (kind : SubKind) (size : ℕ) → Accounts (new_context kind size) []
-new_accounts kind size = record { waiting = λ w n absent. tt; live = λ live. absurd cc; ascend = tt; latest = λ w. inr refl }
+after_all_known : (before : List MarketMsg) (c : ContextData) (s : List Taken) → c.kind ≡ Market → Known c s → Known (after_all c before) (stretch_after s c before)
+after_all_known [] c s is known = known
+after_all_known (m ∷ before) c s is known =
+    after_all_known before (after c m) (stretched s c m) (after_kind c m ∙ is) (record {
+      keeps = after_keeps c m known.keeps;
+      accounts = subst (λ (x : ContextData). Accounts x (stretched s c m)) (sym (market_after c m is)) (step_accounts c s m known.keeps known.accounts).next;
+    })
+
+new_known : (strategy : Strategy) (kind : SubKind) (size : ℕ) → Known (new_context strategy kind size) []
+new_known strategy kind size = record {
+  keeps = new_keeps strategy kind size;
+  accounts = record { waiting = λ w n absent. tt; live = λ live. absurd cc; latest = λ w. inr refl };
+}
 
 -- a snapshot tells no gap
 snapshot_gaps : (phase : Phase) (update : Bool) (c : ContextData) (s : List Taken) (m : MarketMsg) → AllByRecursion (TellsTrueGap s m.sender) (snapshot_acted phase update c m).calls
@@ -464,14 +622,16 @@ snapshot_gaps Await false c s m = (tt, tt)
 snapshot_gaps Await true c s m = tt
 snapshot_gaps LiveOk update c s m = tt
 snapshot_gaps LiveStale update c s m = tt
+snapshot_gaps LiveKept update c s m = tt
 
 -- the gaps of a message, by the kind of the context
-kind_gaps : (kind : SubKind) (c : ContextData) (s : List Taken) (m : MarketMsg) → (kind ≡ Market → Accounts c s) → AllByRecursion (TellsTrueGap (stretched s c m) m.sender) (step_by kind c m).calls
-kind_gaps Market c s m known = (step_accounts c s m (known refl)).gaps
+kind_gaps : (kind : SubKind) (c : ContextData) (s : List Taken) (m : MarketMsg) → (kind ≡ Market → Known c s) → AllByRecursion (TellsTrueGap (stretched s c m) m.sender) (step_by kind c m).calls
+kind_gaps Market c s m known = (step_accounts c s m (known refl).keeps (known refl).accounts).gaps
 kind_gaps Snapshot c s m known = snapshot_gaps c.phase (is_update m.kind) c (stretched s c m) m
 kind_gaps Basic c s m known = (tt, tt)
 
 pub gap_law : GapLaw
-gap_law kind size before m =
-    kind_gaps (fold kind size before).kind (fold kind size before) (stretch_after [] (new_context kind size) before) m
-    (λ is. after_all_accounts before (new_context kind size) [] (sym (after_all_kind before (new_context kind size)) ∙ is) (new_accounts kind size))
+gap_law strategy kind size before m =
+    let new : ContextData = new_context strategy kind size in
+    kind_gaps (fold strategy kind size before).kind (fold strategy kind size before) (stretch_after [] new before) m
+    (λ is. after_all_known before new [] (sym (after_all_kind before new) ∙ is) (new_known strategy kind size))

@@ -7,25 +7,27 @@ use Rattle.std.specs.Map.{lookup}
 use Rattle.std.specs.BTreeMap.{is_at, insert_entry}
 use Rattle.mama_msg.specs.Field.{FieldData}
 use Rattle.mama_msg.specs.Message.{apply}
+use Rattle.mama_event.specs.declared.shape.Strategy.{Strategy}
 use Rattle.mama_event.specs.declared.market.SubKind.{SubKind}
 use Rattle.mama_event.specs.declared.market.SubKind.TheVariants.{Market, Snapshot, Basic}
 use Rattle.mama_event.specs.declared.market.MsgKind.{MsgKind}
 use Rattle.mama_event.specs.declared.market.MsgKind.TheVariants.{Initial, Update, Recap}
 use Rattle.mama_event.specs.declared.market.MarketMsg.{MarketMsg}
+use Rattle.mama_event.specs.declared.market.Quality.TheVariants as quality
 use Rattle.mama_event.specs.Record.{record_after, IsGenuine, IsGenuineBody}
 use Rattle.mama_dq.specs.declared.table.Phase.{Phase}
-use Rattle.mama_dq.specs.declared.table.Phase.TheVariants.{Await, LiveOk, LiveStale}
+use Rattle.mama_dq.specs.declared.table.Phase.TheVariants.{Await, LiveOk, LiveStale, LiveKept}
 use Rattle.mama_dq.specs.declared.table.Relation.{Relation}
 use Rattle.mama_dq.specs.declared.table.Relation.TheVariants.{Next, Same, Old, Ahead, Other}
 use Rattle.mama_dq.specs.declared.table.Action.{Action}
-use Rattle.mama_dq.specs.declared.table.Action.TheVariants.{Keep, Start, Apply, ApplyKeep, KeepOnly, Ignore, Gap, Switch, Replace, Heal, Adopt}
+use Rattle.mama_dq.specs.declared.table.Action.TheVariants.{Keep, Start, Apply, ApplyKeep, KeepOnly, Ignore, Gap, Switch, Replace, Heal, Adopt, StartKeep, Catch, Late, KeepLate}
 use Rattle.mama_dq.specs.Table.{is_update, decided, relation_of, relation_of_number}
 use Rattle.mama_dq.specs.Cache.{CacheData, has_number, put, trimmed, added, emptied, above, reached, Reached}
-use Rattle.mama_dq.specs.Context.{ContextData, new_context}
-use Rattle.mama_dq.specs.Strategy.{Step, updated, update_acted, acted, action_of, as_message, handled, started, cached_above, healed, reached_last, stopped_short, with_update, with_cached, turned_to, with_image_of, step_by, snapshot_acted, after, after_all, fold}
+use Rattle.mama_dq.specs.Context.{ContextData, new_context, is_ok, quality_in}
+use Rattle.mama_dq.specs.Strategy.{Step, updated, update_acted, acted, action_of, as_message, handled, started, cached_above, healed, reached_last, stopped_short, with_update, with_cached, turned_to, waiting_for, settled, started_keeping, caught, with_image_of, step_by, snapshot_acted, after, after_all, fold}
 use Rattle.mama_dq.specs.Image.{IsSendersRecord, ImageLaw, BasicLaw}
-use Rattle.mama_dq.proofs.Relations.{Related, related}
-use Rattle.mama_dq.proofs.StrategyLemmas.{updated_sender}
+use Rattle.mama_dq.proofs.Relations.{Related, related, ahead_same}
+use Rattle.mama_dq.proofs.StrategyLemmas.{either_way, update_cases, updated_sender}
 use Rattle.mama_dq.proofs.Comparisons.{eq_true, equal_is}
 
 -- ---- what holds of each cached update
@@ -81,7 +83,7 @@ module _ (bases : ℕ → List FieldData) (updates : ℕ → List (List FieldDat
 
   -- what holds of a context that took genuine messages
   record Holds (c : ContextData) : Type 0 where
-    pub image : c.phase ≡ LiveOk → IsSendersRecord bases updates c
+    pub image : is_ok c.phase ≡ true → IsSendersRecord bases updates c
     pub cache : AllByRecursion (IsUpdateOf c.sender) c.cache.updates
 
   -- the next update applied to the record at a number is the record at the next number
@@ -113,26 +115,52 @@ module _ (bases : ℕ → List FieldData) (updates : ℕ → List (List FieldDat
       → AllByRecursion (IsUpdateOf m.sender) (added (emptied c.cache) m.seq m.body).updates
   alone_holds c m new = all_added (IsUpdateOf m.sender) (emptied c.cache) m.seq m.body tt new
 
-  update_holds : (phase : Phase) (relation : Relation) (c : ContextData) (m : MarketMsg)
+  -- an image that is its sender's record, with the cached updates above it
+  settled_holds : (c : ContextData) → IsSendersRecord bases updates c → AllByRecursion (IsUpdateOf c.sender) c.cache.updates → Holds (settled c)
+  settled_holds c is all = record { image = λ ok. is; cache = all_above (IsUpdateOf c.sender) c.last c.cache.updates all }
+
+  apply_holds : (c : ContextData) (m : MarketMsg) → is_ok c.phase ≡ true → Related Next c.sender c.last m → Holds c → IsUpdateOf m.sender (m.seq, m.body)
+      → Holds (settled (with_update LiveOk c m))
+  apply_holds c m ok told holds new =
+      settled_holds (with_update LiveOk c m)
+      (next_record c.sender c.last m.seq c.image m.body (holds.image ok) told.number (subst (λ (s : ℕ). IsUpdateOf s (m.seq, m.body)) told.same new))
+      holds.cache
+
+  -- an update of the context's sender is added to the cache, and changes no image that is a record
+  keep_holds : (c : ContextData) (m : MarketMsg) → is_ok c.phase ≡ false → m.sender ≡ c.sender → Holds c → IsUpdateOf m.sender (m.seq, m.body) → Holds (with_cached c m)
+  keep_holds c m stale same holds new = record { image = λ ok. absurd cc; cache = cached_holds c m same holds.cache new }
+
+  -- after an update for which some are missing, or which is another sender's, the image is no record
+  gap_holds : (c : ContextData) (m : MarketMsg) → m.sender ≡ c.sender → Holds c → IsUpdateOf m.sender (m.seq, m.body) → Holds (with_cached (with_update LiveStale c m) m)
+  gap_holds c m same holds new = record { image = λ ok. absurd cc; cache = cached_holds c m same holds.cache new }
+
+  switch_holds : (c : ContextData) (m : MarketMsg) → IsUpdateOf m.sender (m.seq, m.body) → Holds (with_cached (with_update LiveStale (turned_to m.sender c) m) m)
+  switch_holds c m new = record { image = λ ok. absurd cc; cache = alone_holds c m new }
+
+  update_holds : (strategy : Strategy) (phase : Phase) (relation : Relation) (c : ContextData) (m : MarketMsg)
       → c.phase ≡ phase → Related relation c.sender c.last m → Holds c → IsUpdateOf m.sender (m.seq, m.body)
-      → Holds (update_acted (decided phase relation true) c m).context
-  update_holds Await relation c m is_phase told holds new = holds
-  update_holds LiveOk Next c m is_phase told holds new = record {
-    image = λ ok. next_record c.sender c.last m.seq c.image m.body (holds.image is_phase) told.number (subst (λ (s : ℕ). IsUpdateOf s (m.seq, m.body)) told.same new);
-    cache = holds.cache;
-  }
-  update_holds LiveOk Same c m is_phase told holds new = holds
-  update_holds LiveOk Old c m is_phase told holds new = holds
-  update_holds LiveOk Ahead c m is_phase told holds new = record { image = λ ok. absurd cc; cache = cached_holds c m told.same holds.cache new }
-  update_holds LiveOk Other c m is_phase told holds new = record { image = λ ok. absurd cc; cache = alone_holds c m new }
-  update_holds LiveStale Next c m is_phase told holds new = record { image = λ ok. absurd cc; cache = cached_holds c m told.same holds.cache new }
-  update_holds LiveStale Same c m is_phase told holds new = record { image = λ ok. absurd cc; cache = cached_holds c m told.same holds.cache new }
-  update_holds LiveStale Old c m is_phase told holds new = record { image = λ ok. absurd cc; cache = cached_holds c m told.same holds.cache new }
-  update_holds LiveStale Ahead c m is_phase told holds new = record { image = λ ok. absurd cc; cache = cached_holds c m told.same holds.cache new }
-  update_holds LiveStale Other c m is_phase told holds new = record { image = λ ok. absurd cc; cache = alone_holds c m new }
+      → Holds (update_acted (decided strategy phase relation true) c m).context
+  update_holds strategy Await relation c m is_phase told holds new = holds
+  update_holds strategy LiveOk Next c m is_phase told holds new = apply_holds c m (ap is_ok is_phase) told holds new
+  update_holds strategy LiveOk Same c m is_phase told holds new = either_way (λ a. Holds (update_acted a c m).context) strategy Ignore Late holds holds
+  update_holds strategy LiveOk Old c m is_phase told holds new = either_way (λ a. Holds (update_acted a c m).context) strategy Ignore Late holds holds
+  update_holds strategy LiveOk Ahead c m is_phase told holds new = gap_holds c m told.same holds new
+  update_holds strategy LiveOk Other c m is_phase told holds new = switch_holds c m new
+  update_holds strategy LiveStale Next c m is_phase told holds new = gap_holds c m told.same holds new
+  update_holds strategy LiveStale Same c m is_phase told holds new =
+      let kept : Holds (with_cached c m) = keep_holds c m (ap is_ok is_phase) told.same holds new in either_way (λ a. Holds (update_acted a c m).context) strategy KeepOnly KeepLate kept kept
+  update_holds strategy LiveStale Old c m is_phase told holds new =
+      let kept : Holds (with_cached c m) = keep_holds c m (ap is_ok is_phase) told.same holds new in either_way (λ a. Holds (update_acted a c m).context) strategy KeepOnly KeepLate kept kept
+  update_holds strategy LiveStale Ahead c m is_phase told holds new = gap_holds c m told.same holds new
+  update_holds strategy LiveStale Other c m is_phase told holds new = switch_holds c m new
+  update_holds strategy LiveKept Next c m is_phase told holds new = apply_holds c m (ap is_ok is_phase) told holds new
+  update_holds strategy LiveKept Same c m is_phase told holds new = either_way (λ a. Holds (update_acted a c m).context) strategy Ignore Late holds holds
+  update_holds strategy LiveKept Old c m is_phase told holds new = either_way (λ a. Holds (update_acted a c m).context) strategy Ignore Late holds holds
+  update_holds strategy LiveKept Ahead c m is_phase told holds new = either_way (λ a. Holds (update_acted a c m).context) strategy Gap Catch (gap_holds c m told.same holds new) holds
+  update_holds strategy LiveKept Other c m is_phase told holds new = switch_holds c m new
 
   updated_holds : (c : ContextData) (m : MarketMsg) → Holds c → IsUpdateOf m.sender (m.seq, m.body) → Holds (updated c m).context
-  updated_holds c m holds new = update_holds c.phase (relation_of c.sender c.last m) c m refl (related c.sender c.last m) holds new
+  updated_holds c m holds new = update_holds c.strategy c.phase (relation_of c.sender c.last m) c m refl (related c.sender c.last m) holds new
 
   handled_holds : (es : List (ℕ × List FieldData)) (c : ContextData) → Holds c → AllByRecursion (IsUpdateOf c.sender) es → Holds (handled c es).context
   handled_holds [] c holds all = holds
@@ -147,13 +175,27 @@ module _ (bases : ℕ → List FieldData) (updates : ℕ → List (List FieldDat
         | false ↦ λ other. tt
       ]) refl
 
+  -- the kept updates and one more are handled
+  caught_holds : (c : ContextData) (m : MarketMsg) → is_ok c.phase ≡ true → m.sender ≡ c.sender → Holds c → IsUpdateOf m.sender (m.seq, m.body) → Holds (caught c m).context
+  caught_holds c m ok same holds new =
+      handled_holds (put c.cache.updates m.seq m.body) (record c { phase = LiveOk; cache = emptied c.cache }) (record { image = λ was. holds.image ok; cache = tt })
+      (all_put (IsUpdateOf c.sender) c.cache.updates m.seq m.body holds.cache (subst (λ (s : ℕ). IsUpdateOf s (m.seq, m.body)) same new))
+
   -- an image message with its sender's record leaves a context that holds
   image_holds : (c : ContextData) (m : MarketMsg) → m.body ≡ record_of m.sender m.seq → Holds (with_image_of m (turned_to m.sender c))
   image_holds c m is = record { image = λ ok. is; cache = tt }
 
+  started_keeping_holds : (c : ContextData) (m : MarketMsg) → Holds c → m.body ≡ record_of m.sender m.seq → Holds (started_keeping c m).context
+  started_keeping_holds c m holds is =
+      (elim (c.sender == m.sender) as (λ b. (c.sender == m.sender) ≡ b → Holds (settled (with_image_of m (if b then c else turned_to m.sender c)))) [
+        | true ↦ λ same. settled_holds (with_image_of m c) (is ∙ ap (λ (s : ℕ). record_of s m.seq) (sym (eq_true c.sender m.sender same))) holds.cache
+        | false ↦ λ other. settled_holds (with_image_of m (turned_to m.sender c)) is tt
+      ]) refl
+
   kept_holds : (c : ContextData) (m : MarketMsg) → c.phase ≡ Await → Holds c → IsUpdateOf m.sender (m.seq, m.body)
       → Holds (with_cached (if c.sender == m.sender then c else turned_to m.sender c) m)
   kept_holds c m is_phase holds new =
+      let waits : is_ok c.phase ≡ false = ap is_ok is_phase in
       (elim (c.sender == m.sender) as (λ b. (c.sender == m.sender) ≡ b → Holds (with_cached (if b then c else turned_to m.sender c) m)) [
         | true ↦ λ same. record { image = λ ok. absurd cc; cache = cached_holds c m (sym (eq_true c.sender m.sender same)) holds.cache new }
         | false ↦ λ other. record { image = λ ok. absurd cc; cache = alone_holds c m new }
@@ -172,43 +214,44 @@ module _ (bases : ℕ → List FieldData) (updates : ℕ → List (List FieldDat
       healed_holds (reached c.cache.updates m.seq m.body) c m
       (reached_record c.sender m.seq c.cache.updates m.body holds.cache (is ∙ ap (λ (s : ℕ). record_of s m.seq) same)) holds
 
-  image_acted_holds : (phase : Phase) (relation : Relation) (c : ContextData) (m : MarketMsg)
+  image_acted_holds : (strategy : Strategy) (phase : Phase) (relation : Relation) (c : ContextData) (m : MarketMsg)
       → c.phase ≡ phase → Related relation c.sender c.last m → Holds c → m.body ≡ record_of m.sender m.seq
-      → Holds (acted (decided phase relation false) c m).context
-  image_acted_holds Await relation c m is_phase told holds is =
-      handled_holds (cached_above c m) (with_image_of m (turned_to m.sender c)) (image_holds c m is) (cached_above_holds c m holds)
-  image_acted_holds LiveOk Next c m is_phase told holds is = record { image = λ ok. is ∙ ap (λ (s : ℕ). record_of s m.seq) told.same; cache = holds.cache }
-  image_acted_holds LiveOk Same c m is_phase told holds is = record { image = λ ok. is ∙ ap (λ (s : ℕ). record_of s m.seq) told.same; cache = holds.cache }
-  image_acted_holds LiveOk Old c m is_phase told holds is = holds
-  image_acted_holds LiveOk Ahead c m is_phase told holds is = record { image = λ ok. is ∙ ap (λ (s : ℕ). record_of s m.seq) told.same; cache = holds.cache }
-  image_acted_holds LiveOk Other c m is_phase told holds is = image_holds c m is
-  image_acted_holds LiveStale Next c m is_phase told holds is = heal_holds c m told.same holds is
-  image_acted_holds LiveStale Same c m is_phase told holds is = heal_holds c m told.same holds is
-  image_acted_holds LiveStale Old c m is_phase told holds is = heal_holds c m told.same holds is
-  image_acted_holds LiveStale Ahead c m is_phase told holds is = heal_holds c m told.same holds is
-  image_acted_holds LiveStale Other c m is_phase told holds is = image_holds c m is
+      → Holds (acted (decided strategy phase relation false) c m).context
+  image_acted_holds strategy Await relation c m is_phase told holds is =
+      either_way (λ a. Holds (acted a c m).context) strategy Start StartKeep
+      (handled_holds (cached_above c m) (with_image_of m (turned_to m.sender c)) (image_holds c m is) (cached_above_holds c m holds))
+      (started_keeping_holds c m holds is)
+  image_acted_holds strategy LiveOk Next c m is_phase told holds is = settled_holds (with_image_of m c) (is ∙ ap (λ (s : ℕ). record_of s m.seq) told.same) holds.cache
+  image_acted_holds strategy LiveOk Same c m is_phase told holds is = settled_holds (with_image_of m c) (is ∙ ap (λ (s : ℕ). record_of s m.seq) told.same) holds.cache
+  image_acted_holds strategy LiveOk Old c m is_phase told holds is = holds
+  image_acted_holds strategy LiveOk Ahead c m is_phase told holds is = settled_holds (with_image_of m c) (is ∙ ap (λ (s : ℕ). record_of s m.seq) told.same) holds.cache
+  image_acted_holds strategy LiveOk Other c m is_phase told holds is = image_holds c m is
+  image_acted_holds strategy LiveStale Next c m is_phase told holds is = heal_holds c m told.same holds is
+  image_acted_holds strategy LiveStale Same c m is_phase told holds is = heal_holds c m told.same holds is
+  image_acted_holds strategy LiveStale Old c m is_phase told holds is = heal_holds c m told.same holds is
+  image_acted_holds strategy LiveStale Ahead c m is_phase told holds is = heal_holds c m told.same holds is
+  image_acted_holds strategy LiveStale Other c m is_phase told holds is = image_holds c m is
+  image_acted_holds strategy LiveKept Next c m is_phase told holds is = settled_holds (with_image_of m c) (is ∙ ap (λ (s : ℕ). record_of s m.seq) told.same) holds.cache
+  image_acted_holds strategy LiveKept Same c m is_phase told holds is = settled_holds (with_image_of m c) (is ∙ ap (λ (s : ℕ). record_of s m.seq) told.same) holds.cache
+  image_acted_holds strategy LiveKept Old c m is_phase told holds is = holds
+  image_acted_holds strategy LiveKept Ahead c m is_phase told holds is = settled_holds (with_image_of m c) (is ∙ ap (λ (s : ℕ). record_of s m.seq) told.same) holds.cache
+  image_acted_holds strategy LiveKept Other c m is_phase told holds is = image_holds c m is
 
-  update_message_holds : (phase : Phase) (relation : Relation) (c : ContextData) (m : MarketMsg)
+  update_message_holds : (strategy : Strategy) (phase : Phase) (relation : Relation) (c : ContextData) (m : MarketMsg)
       → c.phase ≡ phase → Related relation c.sender c.last m → Holds c → IsUpdateOf m.sender (m.seq, m.body)
-      → Holds (acted (decided phase relation true) c m).context
-  update_message_holds Await relation c m is_phase told holds new = kept_holds c m is_phase holds new
-  update_message_holds LiveOk Next c m is_phase told holds new = update_holds LiveOk Next c m is_phase told holds new
-  update_message_holds LiveOk Same c m is_phase told holds new = update_holds LiveOk Same c m is_phase told holds new
-  update_message_holds LiveOk Old c m is_phase told holds new = update_holds LiveOk Old c m is_phase told holds new
-  update_message_holds LiveOk Ahead c m is_phase told holds new = update_holds LiveOk Ahead c m is_phase told holds new
-  update_message_holds LiveOk Other c m is_phase told holds new = update_holds LiveOk Other c m is_phase told holds new
-  update_message_holds LiveStale Next c m is_phase told holds new = update_holds LiveStale Next c m is_phase told holds new
-  update_message_holds LiveStale Same c m is_phase told holds new = update_holds LiveStale Same c m is_phase told holds new
-  update_message_holds LiveStale Old c m is_phase told holds new = update_holds LiveStale Old c m is_phase told holds new
-  update_message_holds LiveStale Ahead c m is_phase told holds new = update_holds LiveStale Ahead c m is_phase told holds new
-  update_message_holds LiveStale Other c m is_phase told holds new = update_holds LiveStale Other c m is_phase told holds new
+      → Holds (acted (decided strategy phase relation true) c m).context
+  update_message_holds strategy phase relation c m is_phase told holds new =
+      update_cases (λ step. Holds step.context) strategy phase relation c m
+      (λ waits. kept_holds c m (is_phase ∙ waits) holds new)
+      (λ two kept ahead. caught_holds c m (ap is_ok (is_phase ∙ kept)) (ahead_same c.sender c.last m relation told ahead) holds new)
+      (update_holds strategy phase relation c m is_phase told holds new)
 
   -- a message in a market context
   market_holds : (kind : MsgKind) (c : ContextData) (m : MarketMsg) → m.kind ≡ kind → Holds c → IsGenuineBody (bases m.sender) (updates m.sender) kind m.seq m.body
-      → Holds (acted (decided c.phase (relation_of c.sender c.last m) (is_update kind)) c m).context
-  market_holds Initial c m is_kind holds genuine = image_acted_holds c.phase (relation_of c.sender c.last m) c m refl (related c.sender c.last m) holds genuine.1
-  market_holds Recap c m is_kind holds genuine = image_acted_holds c.phase (relation_of c.sender c.last m) c m refl (related c.sender c.last m) holds genuine.1
-  market_holds Update c m is_kind holds genuine = update_message_holds c.phase (relation_of c.sender c.last m) c m refl (related c.sender c.last m) holds genuine
+      → Holds (acted (decided c.strategy c.phase (relation_of c.sender c.last m) (is_update kind)) c m).context
+  market_holds Initial c m is_kind holds genuine = image_acted_holds c.strategy c.phase (relation_of c.sender c.last m) c m refl (related c.sender c.last m) holds genuine.1
+  market_holds Recap c m is_kind holds genuine = image_acted_holds c.strategy c.phase (relation_of c.sender c.last m) c m refl (related c.sender c.last m) holds genuine.1
+  market_holds Update c m is_kind holds genuine = update_message_holds c.strategy c.phase (relation_of c.sender c.last m) c m refl (related c.sender c.last m) holds genuine
 
   snapshot_holds : (phase : Phase) (kind : MsgKind) (c : ContextData) (m : MarketMsg) → Holds c → IsGenuineBody (bases m.sender) (updates m.sender) kind m.seq m.body
       → Holds (snapshot_acted phase (is_update kind) c m).context
@@ -217,6 +260,7 @@ module _ (bases : ℕ → List FieldData) (updates : ℕ → List (List FieldDat
   snapshot_holds Await Update c m holds genuine = holds
   snapshot_holds LiveOk kind c m holds genuine = holds
   snapshot_holds LiveStale kind c m holds genuine = holds
+  snapshot_holds LiveKept kind c m holds genuine = holds
 
   step_holds : (kind : SubKind) (c : ContextData) (m : MarketMsg) → Holds c → IsGenuine bases updates m → Holds (step_by kind c m).context
   step_holds Market c m holds genuine = market_holds m.kind c m refl holds genuine.body
@@ -227,18 +271,25 @@ module _ (bases : ℕ → List FieldData) (updates : ℕ → List (List FieldDat
   after_all_holds [] c holds all = holds
   after_all_holds (m ∷ messages) c holds all = after_all_holds messages (after c m) (step_holds c.kind c m holds all.0) all.1
 
-  new_holds : (kind : SubKind) (size : ℕ) → Holds (new_context kind size)
-  new_holds kind size = record { image = λ ok. absurd cc; cache = tt }
+  new_holds : (strategy : Strategy) (kind : SubKind) (size : ℕ) → Holds (new_context strategy kind size)
+  new_holds strategy kind size = record { image = λ ok. absurd cc; cache = tt }
+
+ok_quality : (phase : Phase) → quality_in phase ≡ quality.Ok → is_ok phase ≡ true
+ok_quality Await is = absurd cc
+ok_quality LiveOk is = refl
+ok_quality LiveStale is = absurd cc
+ok_quality LiveKept is = refl
 
 pub image_law : ImageLaw
-image_law bases updates kind size messages genuine ok =
-    (after_all_holds bases updates messages (new_context kind size) (new_holds bases updates kind size) genuine).image ok
+image_law bases updates strategy kind size messages genuine ok =
+    (after_all_holds bases updates messages (new_context strategy kind size) (new_holds bases updates strategy kind size) genuine).image
+    (ok_quality (fold strategy kind size messages).phase ok)
 
 -- A BASIC SUBSCRIPTION
 
-unmoved : (size : ℕ) (ms : List MarketMsg) → after_all (new_context Basic size) ms ≡ new_context Basic size
-unmoved size [] = refl
-unmoved size (m ∷ ms) = unmoved size ms
+unmoved : (strategy : Strategy) (size : ℕ) (ms : List MarketMsg) → after_all (new_context strategy Basic size) ms ≡ new_context strategy Basic size
+unmoved strategy size [] = refl
+unmoved strategy size (m ∷ ms) = unmoved strategy size ms
 
 pub no_image : BasicLaw
-no_image size ms = ap (λ (c : ContextData). c.phase) (unmoved size ms)
+no_image strategy size ms = ap (λ (c : ContextData). c.phase) (unmoved strategy size ms)

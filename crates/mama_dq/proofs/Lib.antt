@@ -1,3 +1,4 @@
+pub mod WorkedRows
 pub mod Comparisons
 pub mod CacheLemmas
 pub mod StrategyLemmas
@@ -5,6 +6,7 @@ pub mod Relations
 pub mod ImageLaw
 pub mod CacheOrder
 pub mod SameKind
+pub mod KeptLaw
 pub mod GapLaw
 pub mod StaleLaw
 pub mod OrderlyLaw

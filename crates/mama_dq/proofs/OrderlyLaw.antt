@@ -3,6 +3,7 @@ use Rattle.std.proofs.Common.{◌≡◌, ℕ, suc, ◌<◌, ◌≤◌, Bool, tru
 use Rattle.std.proofs.lemmas.Bool.Decides.{nat_tests}
 use Rattle.std.specs.List.{AllByRecursion, filter, flat_map}
 use Rattle.mama_msg.specs.Field.{FieldData}
+use Rattle.mama_event.specs.declared.shape.Strategy.{Strategy}
 use Rattle.mama_event.specs.declared.market.SubKind.{SubKind}
 use Rattle.mama_event.specs.declared.market.SubKind.TheVariants.{Market}
 use Rattle.mama_event.specs.declared.market.MsgKind.{MsgKind}
@@ -10,17 +11,19 @@ use Rattle.mama_event.specs.declared.market.MsgKind.TheVariants.{Initial, Update
 use Rattle.mama_event.specs.declared.market.MarketMsg.{MarketMsg}
 use Rattle.mama_event.specs.declared.callback.Callback.{Callback}
 use Rattle.mama_dq.specs.declared.table.Phase.{Phase}
-use Rattle.mama_dq.specs.declared.table.Phase.TheVariants.{Await, LiveOk, LiveStale}
+use Rattle.mama_dq.specs.declared.table.Phase.TheVariants.{Await, LiveOk, LiveStale, LiveKept}
 use Rattle.mama_dq.specs.declared.table.Relation.{Relation}
 use Rattle.mama_dq.specs.declared.table.Relation.TheVariants.{Next, Same, Old, Ahead, Other}
 use Rattle.mama_dq.specs.declared.table.Action.{Action}
-use Rattle.mama_dq.specs.declared.table.Action.TheVariants.{Keep, Start, Apply, Replace}
-use Rattle.mama_dq.specs.Table.{is_update, decided, relation_of}
+use Rattle.mama_dq.specs.declared.table.Action.TheVariants.{Keep, Start, StartKeep, Apply, Replace}
+use Rattle.mama_dq.specs.Table.{is_update, decided, relation_of, either}
 use Rattle.mama_dq.specs.Cache.{above}
 use Rattle.mama_dq.specs.Context.{ContextData, new_context}
-use Rattle.mama_dq.specs.Strategy.{Step, acted, action_of, cached_above, handled, turned_to, with_image_of, waiting_for, with_cached, with_update, step_by, after, callbacks_of, calls_after}
+use Rattle.mama_dq.specs.Strategy.{Step, ok_with, settled, acted, action_of, cached_above, handled, turned_to, with_image_of, waiting_for, with_cached, with_update, step_by, after, callbacks_of, calls_after}
 use Rattle.mama_dq.specs.Orderly.{number_after, Follows, AreInOrder, from_first_image, is_update_above, as_ok, IsToldAll, OrderlyLaw}
 use Rattle.mama_dq.proofs.ImageLaw.{all_added}
+use Rattle.mama_dq.proofs.StrategyLemmas.{either_way}
+use Rattle.mama_dq.proofs.Comparisons.{eq_true}
 
 -- all callbacks of some messages
 abbrev told : ContextData → List MarketMsg → List Callback
@@ -41,6 +44,11 @@ record Live (sender n : ℕ) (c : ContextData) : Type 0 where
   pub phase : c.phase ≡ LiveOk
   pub own : c.sender ≡ sender
   pub last : c.last ≡ n
+  pub none : c.cache.updates ≡ []
+
+-- an image that is the sender's record, with no cached updates above it
+settled_live : (sender n : ℕ) (c : ContextData) → c.kind ≡ Market → c.sender ≡ sender → c.last ≡ n → above c.last c.cache.updates ≡ [] → Live sender n (settled c)
+settled_live sender n c kind own last none = record { kind = kind; phase = ap ok_with none; own = own; last = last; none = none }
 
 next_relation : (sender last : ℕ) (m : MarketMsg) → m.sender ≡ sender → m.seq ≡ suc last → relation_of sender last m ≡ Next
 next_relation sender last m own number = grind (arith, nat_tests)
@@ -64,12 +72,12 @@ record LiveStep (sender next : ℕ) (m : MarketMsg) (step : Step) : Type 0 where
 live_update_step : (sender n : ℕ) (c : ContextData) (m : MarketMsg) → Live sender n c → m.kind ≡ Update → m.sender ≡ sender → m.seq ≡ suc n → LiveStep sender (suc n) m (step_by c.kind c m)
 live_update_step sender n c m live kind own number =
     subst (LiveStep sender (suc n) m) (sym (market_step Apply c m live.kind (live_update sender n c m live kind own number)))
-    (record { calls = refl; live = record { kind = live.kind; phase = refl; own = live.own; last = number } })
+    (record { calls = refl; live = settled_live sender (suc n) (with_update LiveOk c m) live.kind live.own number (ap (above m.seq) live.none) })
 
 live_image_step : (sender n : ℕ) (c : ContextData) (m : MarketMsg) → Live sender n c → is_update m.kind ≡ false → m.sender ≡ sender → m.seq ≡ n → LiveStep sender n m (step_by c.kind c m)
 live_image_step sender n c m live image own number =
     subst (LiveStep sender n m) (sym (market_step Replace c m live.kind (live_image sender n c m live image own number)))
-    (record { calls = refl; live = record { kind = live.kind; phase = refl; own = live.own; last = number } })
+    (record { calls = refl; live = settled_live sender n (with_image_of m c) live.kind live.own number (ap (above m.seq) live.none) })
 
 live_step : (sender n : ℕ) (c : ContextData) (m : MarketMsg) → Live sender n c → Follows sender n m → LiveStep sender (number_after m.kind n) m (step_by c.kind c m)
 live_step sender n c m live follows =
@@ -127,15 +135,31 @@ wait_update n c m waits kind number =
     subst (WaitStep (suc n)) (sym (market_step Keep c m waits.kind action))
     (record { calls = refl; waits = keep_waits n c m waits number })
 
--- the first image
+-- the first image: it takes the cached updates above it, of which there are none
+start_live : (sender n : ℕ) (c : ContextData) (m : MarketMsg) → c.kind ≡ Market → m.sender ≡ sender → m.seq ≡ n → cached_above c m ≡ [] → LiveStep sender n m (acted Start c m)
+start_live sender n c m kind own number none =
+    let begun : ContextData = with_image_of m (turned_to m.sender c) in
+    subst (λ (es : List (ℕ × List FieldData)). LiveStep sender n m (record { context = (handled begun es).context; calls = as_ok m ∷ (handled begun es).calls }))
+    (sym none) (record { calls = refl; live = record { kind = kind; phase = refl; own = own; last = number; none = refl } })
+
+-- or it keeps them
+start_keep_live : (sender n : ℕ) (c : ContextData) (m : MarketMsg) → c.kind ≡ Market → m.sender ≡ sender → m.seq ≡ n → above m.seq c.cache.updates ≡ [] → LiveStep sender n m (acted StartKeep c m)
+start_keep_live sender n c m kind own number none = record {
+  calls = refl;
+  live = (elim (c.sender == m.sender) as (λ b. (c.sender == m.sender) ≡ b → Live sender n (settled (with_image_of m (if b then c else turned_to m.sender c)))) [
+    | true ↦ λ same. settled_live sender n (with_image_of m c) kind (eq_true c.sender m.sender same ∙ own) number none
+    | false ↦ λ other. settled_live sender n (with_image_of m (turned_to m.sender c)) kind own number refl
+  ]) refl;
+}
+
 wait_image : (sender n : ℕ) (c : ContextData) (m : MarketMsg) → Waits n c → is_update m.kind ≡ false → m.sender ≡ sender → m.seq ≡ n → LiveStep sender n m (step_by c.kind c m)
 wait_image sender n c m waits image own number =
-    let action : action_of c m ≡ Start = rw (waits.phase, image) refl in
+    let action : action_of c m ≡ either c.strategy Start StartKeep = rw (waits.phase, image) refl in
     let low : AllByRecursion (λ e. e.0 ≤ m.seq) c.cache.updates = subst (λ (x : ℕ). AllByRecursion (λ e. e.0 ≤ x) c.cache.updates) (sym number) waits.low in
-    let live : Live sender n (with_image_of m (turned_to m.sender c)) = record { kind = waits.kind; phase = refl; own = own; last = number } in
-    let alone : (es : List (ℕ × List FieldData)) → [] ≡ es → LiveStep sender n m (record { context = (handled (with_image_of m (turned_to m.sender c)) es).context; calls = as_ok m ∷ (handled (with_image_of m (turned_to m.sender c)) es).calls })
-    = λ (es : List (ℕ × List FieldData)) is. subst (λ (x : List (ℕ × List FieldData)). LiveStep sender n m (record { context = (handled (with_image_of m (turned_to m.sender c)) x).context; calls = as_ok m ∷ (handled (with_image_of m (turned_to m.sender c)) x).calls })) is (record { calls = refl; live = live }) in
-    subst (LiveStep sender n m) (sym (market_step Start c m waits.kind action)) (alone (cached_above c m) (sym (none_cached_above c m low)))
+    subst (LiveStep sender n m) (sym (market_step (either c.strategy Start StartKeep) c m waits.kind action))
+    (either_way (λ a. LiveStep sender n m (acted a c m)) c.strategy Start StartKeep
+    (start_live sender n c m waits.kind own number (none_cached_above c m low))
+    (start_keep_live sender n c m waits.kind own number (none_above m.seq c.cache.updates low)))
 
 wait_told : (ms : List MarketMsg) (sender n : ℕ) (c : ContextData) → Waits n c → AreInOrder sender n ms → told c ms ≡ map as_ok (from_first_image ms)
 wait_told [] sender n c waits in_order = refl
@@ -192,11 +216,11 @@ first_above (m ∷ ms) sender n first rest in_order is =
       | Recap ↦ λ kind number later same. image Recap refl kind number later same
     ]) refl in_order.0.number in_order.1 is
 
-new_waits : (size n : ℕ) → Waits n (new_context Market size)
-new_waits size n = record { kind = refl; phase = refl; low = tt }
+new_waits : (strategy : Strategy) (size n : ℕ) → Waits n (new_context strategy Market size)
+new_waits strategy size n = record { kind = refl; phase = refl; low = tt }
 
 pub orderly_law : OrderlyLaw
-orderly_law size sender n messages in_order = record {
-  calls = wait_told messages sender n (new_context Market size) (new_waits size n) in_order;
+orderly_law strategy size sender n messages in_order = record {
+  calls = wait_told messages sender n (new_context strategy Market size) (new_waits strategy size n) in_order;
   updates = λ first rest is. (first_above messages sender n first rest in_order is).updates;
 }

@@ -1,5 +1,5 @@
 -- What the relation of a message tells of its sender and its number.
-use Rattle.std.proofs.Common.{◌≡◌, ◌≢◌, ℕ, suc, ◌<◌, Bool, true, false, nat_lt, ◌==◌, if◌then◌else◌, refl, arith, ◌∙◌, sym, cond}
+use Rattle.std.proofs.Common.{◌≡◌, ◌≢◌, ℕ, suc, ◌<◌, Bool, true, false, nat_lt, ◌==◌, if◌then◌else◌, refl, arith, ◌∙◌, sym, cond, subst}
 use Rattle.std.proofs.lemmas.Bool.Decides.{nat_tests}
 use Rattle.mama_event.specs.declared.market.MarketMsg.{MarketMsg}
 use Rattle.mama_dq.specs.declared.table.Relation.{Relation}
@@ -19,6 +19,13 @@ Related Same sender last m = Numbered m.sender m.seq sender last (m.seq ≡ last
 Related Old sender last m = Numbered m.sender m.seq sender last (m.seq < last)
 Related Ahead sender last m = Numbered m.sender m.seq sender last (suc last < m.seq)
 Related Other sender last m = m.sender ≢ sender
+
+-- an update far ahead is of the same sender, and its number is so
+pub ahead_same : (sender last : ℕ) (m : MarketMsg) (relation : Relation) → Related relation sender last m → relation ≡ Ahead → m.sender ≡ sender
+ahead_same sender last m relation told is = let far : Related Ahead sender last m = subst (λ (r : Relation). Related r sender last m) is told in far.same
+
+pub ahead_number : (sender last : ℕ) (m : MarketMsg) (relation : Relation) → Related relation sender last m → relation ≡ Ahead → suc last < m.seq
+ahead_number sender last m relation told is = let far : Related Ahead sender last m = subst (λ (r : Relation). Related r sender last m) is told in far.number
 
 ahead : (n last : ℕ) → (n == suc last) ≡ false → (n == last) ≡ false → nat_lt n last ≡ false → suc last < n
 ahead n last not_next not_same not_old = grind (arith, nat_tests)

@@ -1,6 +1,8 @@
 -- believed: The cache of a context: updates by number, ascending.
-use Rattle.std.specs.Prelude.{◌≡◌, ℕ, suc, Bool, ◌==◌, nat_lt, List, [], ◌∷◌, length, drop, filter, is_some, if◌then◌else◌}
+use Rattle.std.specs.Prelude.{◌≡◌, ℕ, suc, Bool, ◌==◌, nat_lt, nat_le, List, [], ◌∷◌, length, drop, filter, Option, None, Some, is_some, if◌then◌else◌}
 use Rattle.std.specs.Ordering.{nat_cmp}
+use Rattle.std.specs.declared.ops.Bound.{Bound}
+use Rattle.std.specs.declared.ops.Bound.TheVariants.{Included, Excluded, Unbounded}
 use Rattle.std.specs.Map.{lookup}
 use Rattle.std.specs.BTreeMap.{is_at, insert_entry}
 use Rattle.mama_msg.specs.Field.{FieldData}
@@ -34,6 +36,21 @@ emptied cache = record cache { updates = [] }
 -- the updates numbered above n
 abbrev pub above : ℕ → List (ℕ × List FieldData) → List (ℕ × List FieldData)
 above n updates = filter (λ e. nat_lt n e.0) updates
+
+-- the updates from a bound on
+abbrev pub from_bound : Bound ℕ → List (ℕ × List FieldData) → List (ℕ × List FieldData)
+from_bound Unbounded updates = updates
+from_bound (Excluded n) updates = above n updates
+from_bound (Included n) updates = filter (λ e. nat_le n e.0) updates
+
+-- the lowest number
+abbrev pub lowest_number : List (ℕ × List FieldData) → Option ℕ
+lowest_number [] = None
+lowest_number (e ∷ es) = Some e.0
+
+-- a cache without the updates numbered n or lower
+abbrev pub past : ℕ → CacheData → CacheData
+past n cache = record cache { updates = above n cache.updates }
 
 -- a record at a number
 pub record Reached : Type 0 where

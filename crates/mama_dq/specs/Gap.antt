@@ -2,6 +2,7 @@
 use Rattle.std.specs.Prelude.{◌≡◌, ℕ, ◌≤◌, Bool, true, false, not, ◌&&◌, ◌||◌, ◌==◌, nat_lt, List, [], ◌∷◌, ◌++◌, length, if◌then◌else◌, ◌⊎◌}
 use Rattle.std.specs.List.{AllByRecursion, list_any}
 use Rattle.mama_msg.specs.Field.{FieldData}
+use Rattle.mama_event.specs.declared.shape.Strategy.{Strategy}
 use Rattle.mama_event.specs.declared.market.SubKind.{SubKind}
 use Rattle.mama_event.specs.declared.market.Quality.{Quality}
 use Rattle.mama_event.specs.declared.market.Quality.TheVariants as quality
@@ -9,9 +10,9 @@ use Rattle.mama_event.specs.declared.market.MarketMsg.{MarketMsg}
 use Rattle.mama_event.specs.declared.callback.Callback.{Callback}
 use Rattle.mama_event.specs.declared.callback.Callback.TheVariants as on
 use Rattle.mama_dq.specs.declared.table.Phase.{Phase}
-use Rattle.mama_dq.specs.declared.table.Phase.TheVariants.{Await, LiveOk, LiveStale}
+use Rattle.mama_dq.specs.declared.table.Phase.TheVariants.{Await, LiveOk, LiveStale, LiveKept}
 use Rattle.mama_dq.specs.declared.table.Action.{Action}
-use Rattle.mama_dq.specs.declared.table.Action.TheVariants.{Keep, Start, Apply, ApplyKeep, KeepOnly, Ignore, Gap, Switch, Replace, Heal, Adopt}
+use Rattle.mama_dq.specs.declared.table.Action.TheVariants.{Keep, Start, Apply, ApplyKeep, KeepOnly, Ignore, Gap, Switch, Replace, Heal, Adopt, StartKeep, Catch, Late, KeepLate}
 use Rattle.mama_dq.specs.Table.{is_update}
 use Rattle.mama_dq.specs.Cache.{put}
 use Rattle.mama_dq.specs.Context.{ContextData, new_context}
@@ -35,6 +36,7 @@ turns_at Switch before sender = true
 turns_at Adopt before sender = true
 turns_at Keep before sender = last_is_of_another before sender
 turns_at Start before sender = last_is_of_another before sender
+turns_at StartKeep before sender = last_is_of_another before sender
 turns_at Apply before sender = false
 turns_at ApplyKeep before sender = false
 turns_at KeepOnly before sender = false
@@ -42,6 +44,9 @@ turns_at Ignore before sender = false
 turns_at Gap before sender = false
 turns_at Replace before sender = false
 turns_at Heal before sender = false
+turns_at Catch before sender = false
+turns_at Late before sender = false
+turns_at KeepLate before sender = false
 
 -- the stretch with one more message: it begins anew with a message that turns
 abbrev pub stretched : List Taken → ContextData → MarketMsg → List Taken
@@ -53,8 +58,8 @@ stretch_after stretch c [] = stretch
 stretch_after stretch c (m ∷ ms) = stretch_after (stretched stretch c m) (after c m) ms
 
 -- the stretch of the callbacks of a message: the messages taken from the last turn up to it, or from the first one
-abbrev pub stretch_of : SubKind → ℕ → List MarketMsg → MarketMsg → List Taken
-stretch_of kind size before m = stretched (stretch_after [] (new_context kind size) before) (fold kind size before) m
+abbrev pub stretch_of : Strategy → SubKind → ℕ → List MarketMsg → MarketMsg → List Taken
+stretch_of strategy kind size before m = stretched (stretch_after [] (new_context strategy kind size) before) (fold strategy kind size before) m
 
 -- the message is an update of this sender with this number
 abbrev pub is_update_numbered : ℕ → ℕ → Taken → Bool
@@ -74,6 +79,7 @@ abbrev pub is_waiting : Phase → Bool
 is_waiting Await = true
 is_waiting LiveOk = false
 is_waiting LiveStale = false
+is_waiting LiveKept = false
 
 -- the cached updates with the taken one among them
 abbrev pub with_taken : Taken → List (ℕ × List FieldData)
@@ -118,6 +124,7 @@ TellsTrueGap stretch sender on.Create = Unit {0}
 TellsTrueGap stretch sender (on.Msg m q) = Unit {0}
 TellsTrueGap stretch sender (on.Quality q n) = Unit {0}
 TellsTrueGap stretch sender (on.RecapRequest s) = Unit {0}
+TellsTrueGap stretch sender (on.Late s n) = Unit {0}
 TellsTrueGap stretch sender (on.Error e) = Unit {0}
 TellsTrueGap stretch sender on.Destroy = Unit {0}
 TellsTrueGap stretch sender (on.Tick t) = Unit {0}
@@ -125,8 +132,8 @@ TellsTrueGap stretch sender (on.Reply b) = Unit {0}
 
 -- Whatever messages a subscription took before, each gap that a message tells is a true gap of its sender.
 abbrev pub GapLaw : Type 0
-GapLaw = (kind : SubKind) (size : ℕ) (before : List MarketMsg) (m : MarketMsg)
-    → AllByRecursion (TellsTrueGap (stretch_of kind size before m) m.sender) (callbacks_of (fold kind size before) m)
+GapLaw = (strategy : Strategy) (kind : SubKind) (size : ℕ) (before : List MarketMsg) (m : MarketMsg)
+    → AllByRecursion (TellsTrueGap (stretch_of strategy kind size before m) m.sender) (callbacks_of (fold strategy kind size before) m)
 
 -- the callback says that the quality is stale
 abbrev pub is_stale : Quality → Bool
@@ -139,6 +146,7 @@ says_stale (on.Gap first to) = false
 says_stale on.Create = false
 says_stale (on.Msg m q) = false
 says_stale (on.RecapRequest s) = false
+says_stale (on.Late s n) = false
 says_stale (on.Error e) = false
 says_stale on.Destroy = false
 says_stale (on.Tick t) = false
@@ -151,6 +159,7 @@ tells_gap (on.Quality q n) = false
 tells_gap on.Create = false
 tells_gap (on.Msg m q) = false
 tells_gap (on.RecapRequest s) = false
+tells_gap (on.Late s n) = false
 tells_gap (on.Error e) = false
 tells_gap on.Destroy = false
 tells_gap (on.Tick t) = false
@@ -164,5 +173,5 @@ stale_after_gap gap (call ∷ calls) = (not (says_stale call) || gap) && stale_a
 -- Whatever messages a subscription took before, a message says that the quality is stale only right after it told a
 -- gap, or at a switch.
 abbrev pub StaleLaw : Type 0
-StaleLaw = (kind : SubKind) (size : ℕ) (before : List MarketMsg) (m : MarketMsg)
-    → (stale_after_gap false (callbacks_of (fold kind size before) m) ≡ true) ⊎ (action_of (fold kind size before) m ≡ Switch)
+StaleLaw = (strategy : Strategy) (kind : SubKind) (size : ℕ) (before : List MarketMsg) (m : MarketMsg)
+    → (stale_after_gap false (callbacks_of (fold strategy kind size before) m) ≡ true) ⊎ (action_of (fold strategy kind size before) m ≡ Switch)

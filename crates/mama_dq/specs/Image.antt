@@ -2,13 +2,15 @@
 use Rattle.std.specs.Prelude.{◌≡◌, ℕ, List}
 use Rattle.std.specs.List.{AllByRecursion}
 use Rattle.mama_msg.specs.Field.{FieldData}
+use Rattle.mama_event.specs.declared.shape.Strategy.{Strategy}
 use Rattle.mama_event.specs.declared.market.SubKind.{SubKind}
 use Rattle.mama_event.specs.declared.market.SubKind.TheVariants.{Basic}
 use Rattle.mama_event.specs.declared.market.MarketMsg.{MarketMsg}
+use Rattle.mama_event.specs.declared.market.Quality.TheVariants as quality
 use Rattle.mama_event.specs.Record.{record_after, IsGenuine}
 use Rattle.mama_dq.specs.declared.table.Phase.{Phase}
-use Rattle.mama_dq.specs.declared.table.Phase.TheVariants.{Await, LiveOk}
-use Rattle.mama_dq.specs.Context.{ContextData}
+use Rattle.mama_dq.specs.declared.table.Phase.TheVariants.{Await}
+use Rattle.mama_dq.specs.Context.{ContextData, quality_in}
 use Rattle.mama_dq.specs.Strategy.{fold}
 
 -- the image of a context is the record of its sender at the last number
@@ -18,11 +20,11 @@ IsSendersRecord bases updates c = c.image ≡ record_after (bases c.sender) (upd
 -- Whatever messages a subscription took, in whatever order, if each is genuine for the bases and the updates of the
 -- senders, then an image that is ok is its sender's record at the last number.
 abbrev pub ImageLaw : Type 0
-ImageLaw = (bases : ℕ → List FieldData) (updates : ℕ → List (List FieldData)) (kind : SubKind) (size : ℕ) (messages : List MarketMsg)
+ImageLaw = (bases : ℕ → List FieldData) (updates : ℕ → List (List FieldData)) (strategy : Strategy) (kind : SubKind) (size : ℕ) (messages : List MarketMsg)
     → AllByRecursion (IsGenuine bases updates) messages
-    → (fold kind size messages).phase ≡ LiveOk
-    → IsSendersRecord bases updates (fold kind size messages)
+    → quality_in (fold strategy kind size messages).phase ≡ quality.Ok
+    → IsSendersRecord bases updates (fold strategy kind size messages)
 
 -- Whatever messages a basic subscription took, it has no image.
 abbrev pub BasicLaw : Type 0
-BasicLaw = (size : ℕ) (messages : List MarketMsg) → (fold Basic size messages).phase ≡ Await
+BasicLaw = (strategy : Strategy) (size : ℕ) (messages : List MarketMsg) → (fold strategy Basic size messages).phase ≡ Await

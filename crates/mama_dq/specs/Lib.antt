@@ -3,5 +3,6 @@ pub mod Cache
 pub mod Context
 pub mod Strategy
 pub mod Image
+pub mod Kept
 pub mod Gap
 pub mod Orderly

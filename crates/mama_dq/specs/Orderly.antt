@@ -1,6 +1,7 @@
 -- believed: What a subscription gets over a link without faults, from one sender.
 use Rattle.std.specs.Prelude.{◌≡◌, ℕ, suc, Bool, ◌&&◌, nat_lt, List, [], ◌∷◌, map, filter, if◌then◌else◌}
 use Rattle.std.specs.List.{flat_map}
+use Rattle.mama_event.specs.declared.shape.Strategy.{Strategy}
 use Rattle.mama_event.specs.declared.market.SubKind.TheVariants.{Market}
 use Rattle.mama_event.specs.declared.market.MsgKind.{MsgKind}
 use Rattle.mama_event.specs.declared.market.MsgKind.TheVariants.{Initial, Update, Recap}
@@ -41,13 +42,13 @@ abbrev pub as_ok : MarketMsg → Callback
 as_ok m = on.Msg m quality.Ok
 
 -- What a market subscription is told of messages: each message from the first image on is called back once, in order,
--- and there is no other callback, so no gap and no change of quality. The updates after the first image are all that
+-- and there is no other callback, so no gap, no change of quality and no late update. The updates after the first image are all that
 -- were taken with a number above its number.
-pub record IsToldAll (size : ℕ) (messages : List MarketMsg) : Type 0 where
-  pub calls : flat_map (λ calls. calls) (calls_of_fold Market size messages) ≡ map as_ok (from_first_image messages)
+pub record IsToldAll (strategy : Strategy) (size : ℕ) (messages : List MarketMsg) : Type 0 where
+  pub calls : flat_map (λ calls. calls) (calls_of_fold strategy Market size messages) ≡ map as_ok (from_first_image messages)
   pub updates : (first : MarketMsg) (rest : List MarketMsg) → from_first_image messages ≡ first ∷ rest
       → filter (is_update_above first.seq) messages ≡ filter (λ m. is_update m.kind) rest
 
--- so it is for messages of one sender in order, whatever the size of the cache
+-- so it is for messages of one sender in order, whatever the strategy and the size of the cache
 abbrev pub OrderlyLaw : Type 0
-OrderlyLaw = (size sender n : ℕ) (messages : List MarketMsg) → AreInOrder sender n messages → IsToldAll size messages
+OrderlyLaw = (strategy : Strategy) (size sender n : ℕ) (messages : List MarketMsg) → AreInOrder sender n messages → IsToldAll strategy size messages

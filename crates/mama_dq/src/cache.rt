@@ -1,9 +1,9 @@
-ghost use Rattle.std.specs.Prelude.{◌≡◌, [], length, IfOk, OnOk, OnErr, not, if◌then◌else◌};
+ghost use Rattle.std.specs.Prelude.{◌≡◌, ℕ, ◌<◌, [], drop, length, IfSome, IfOk, OnOk, OnErr, not, if◌then◌else◌};
 ghost use Rattle.std.specs.Ordering.{nat_cmp};
 ghost use Rattle.std.specs.Map.{remove_entry};
 ghost use Rattle.std.specs.BTreeMap.{is_at};
 ghost use Rattle.mama_msg.specs.Message.{apply};
-ghost use Rattle.mama_dq.specs.Cache.{added, emptied, put, trimmed, reached, has_number};
+ghost use Rattle.mama_dq.specs.Cache.{above, lowest_number, added, emptied, past, put, trimmed, reached, has_number};
 
 use mama_memory::OutOfMemory;
 use mama_msg::Msg;
@@ -64,6 +64,38 @@ impl Cache {
         self.updates.clear();
     }
 
+    // The lowest number, below which there is none.
+    #[tactic(auto, using(crate::proofs::CacheLemmas::lowest_first, crate::proofs::CacheLemmas::lowest_of_none, crate::proofs::CacheLemmas::all_above_lowest))]
+    fn lowest(&self) -> Option<u32>
+        ensures number { result ≡ lowest_number self.now.updates }
+        ensures above { IfSome result (λ lowest. (n : ℕ) → n < lowest → above n self.now.updates ≡ self.now.updates) }
+    {
+        match self.updates.first_key_value() {
+            Some((lowest, _)) => Some(*lowest),
+            None => None,
+        }
+    }
+
+    // Drops the lowest number, if there is one.
+    fn drop_lowest(&mut self)
+        ensures { self.new ≡ record self.old { updates = drop 1 self.old.updates } }
+    {
+        self.updates.pop_first();
+    }
+
+    // Drops the updates numbered this or lower. It looks at these and one more.
+    #[tactic(auto, using(crate::proofs::CacheLemmas::above_dropped, crate::proofs::CacheLemmas::fewer_dropped, crate::proofs::CacheLemmas::none_above))]
+    pub(crate) fn drop_to(&mut self, number: u32)
+        ensures { self.new ≡ past number self.old }
+    {
+        while let Some(lowest) = self.lowest() {
+            if lowest > number {
+                return;
+            }
+            self.drop_lowest();
+        }
+    }
+
     // The updates, by number.
     pub(crate) fn updates(&self) -> &BTreeMap<u32, Msg>
         ensures { result.now.entries ≡ self.now.updates }
@@ -71,8 +103,9 @@ impl Cache {
         &self.updates
     }
 
-    // Puts an update in its place, if there is none with its number, and tells whether that was so.
-    fn put(&mut self, number: u32, body: Msg) -> Result<bool, OutOfMemory>
+    // Puts an update in its place, if there is none with its number, and tells whether that was so. There may then be one
+    // more than the size.
+    pub(crate) fn put(&mut self, number: u32, body: Msg) -> Result<bool, OutOfMemory>
         ensures put { OnOk result (self.new ≡ record self.old { updates = put self.old.updates number body }) }
         ensures fresh { IfOk result (λ fresh. fresh ≡ not (has_number self.old.updates number)) }
         ensures err { OnErr result (self.new ≡ self.old) }
@@ -85,7 +118,7 @@ impl Cache {
     }
 
     // Takes back what `put` did.
-    fn take_back(&mut self, number: u32, fresh: bool)
+    pub(crate) fn take_back(&mut self, number: u32, fresh: bool)
         ensures { self.new ≡ (if fresh then record self.old { updates = remove_entry (is_at (nat_cmp number)) self.old.updates } else self.old) }
     {
         if fresh {

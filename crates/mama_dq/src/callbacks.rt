@@ -1,5 +1,6 @@
 ghost use Rattle.std.specs.Prelude.{◌≡◌, suc, ◌+◌, ◌-◌, ◌<◌, ◌≤◌, ◌++◌};
 ghost use Rattle.std.specs.VecDeque.{deque_len, deque_capacity};
+ghost use Rattle.mama_dq.specs.Context.{is_ok};
 ghost use Rattle.mama_dq.specs.Strategy.{gap_calls, switch_calls, adopt_calls};
 
 use crate::table::Phase;
@@ -46,6 +47,26 @@ pub(crate) fn ok_at(number: u32) -> Callback
     }
 }
 
+// The callback of an update that is not above the last number.
+pub(crate) fn late(msg: &MarketMsg) -> Callback
+    ensures { result ≡ Callback.Late msg.now.sender msg.now.seq }
+{
+    Callback::Late {
+        sender: msg.sender,
+        seq: msg.seq,
+    }
+}
+
+// Whether an image in this phase is the sender's record.
+fn is_ok(phase: Phase) -> bool
+    ensures { result ≡ is_ok phase }
+{
+    match phase {
+        Phase::LiveOk | Phase::LiveKept => true,
+        Phase::Await | Phase::LiveStale => false,
+    }
+}
+
 // The callback that asks a sender for a recap.
 pub(crate) fn recap_of(sender: u32) -> Callback
     ensures { result ≡ Callback.RecapRequest sender }
@@ -69,7 +90,7 @@ pub(crate) fn push_gap(
         first: last + 1,
         to: msg.seq - 1,
     });
-    if phase == Phase::LiveOk {
+    if is_ok(phase) {
         queue.push_back_reserved(Callback::Quality {
             quality: Quality::Stale,
             number: last,
@@ -87,7 +108,7 @@ pub(crate) fn push_switch(queue: &mut VecDeque<Callback>, phase: Phase, before: 
     requires room { deque_len queue.old + 3 ≤ deque_capacity queue.old }
     ensures { queue.new.items ≡ queue.old.items ++ switch_calls phase before msg }
 {
-    if phase == Phase::LiveOk {
+    if is_ok(phase) {
         queue.push_back_reserved(stale_at(before));
     }
     queue.push_back_reserved(recap_of(msg.sender));

@@ -1,14 +1,16 @@
 ghost use Rattle.std.specs.Prelude.{◌≡◌, length, ◌↔◌, ◌≤◌, ◌<◌, ◌++◌, OnOk, OnErr, IfOk, IfSome, IsNone};
 ghost use Rattle.mama_event.specs.declared.market.SubKind.TheVariants as SubKind;
-ghost use Rattle.mama_dq.specs.Cache.{above};
+ghost use Rattle.mama_dq.specs.Cache.{emptied, from_bound};
 ghost use Rattle.mama_dq.specs.Context.{new_context, quality_in, with_image};
-ghost use Rattle.mama_dq.specs.Strategy.{updated, update_acted, handled, cached_above, step_by, started, healed, acted, with_image_of, turned_to, after, callbacks_of};
+ghost use Rattle.mama_dq.specs.Strategy.{updated, update_acted, handled, cached_above, step_by, started, healed, acted, with_image_of, turned_to, waiting_for, ok_with, settled, started_keeping, caught, after, callbacks_of};
 
 use crate::cache::Cache;
-use crate::callbacks::{ok_at, ok_msg, push_adopt, push_gap, push_switch, recap_of, stale_msg};
+use crate::callbacks::{
+    late, ok_at, ok_msg, push_adopt, push_gap, push_switch, recap_of, stale_msg,
+};
 use crate::calls::Calls;
 use crate::table::{Action, Phase, decide, is_update, relation_to};
-use mama_event::{Callback, MarketMsg, MsgKind, Quality, SubKind};
+use mama_event::{Callback, MarketMsg, MsgKind, Quality, Strategy, SubKind};
 use mama_memory::OutOfMemory;
 use mama_msg::Msg;
 use std::alloc::Global;
@@ -20,6 +22,7 @@ use std::ops::Bound;
 #[derive(Debug, Drop)]
 pub struct DqContext {
     alloc: Global,
+    strategy: Strategy,
     kind: SubKind,
     phase: Phase,
     sender: u32,
@@ -33,7 +36,18 @@ impl Model for DqContext {
 
     ghost Value = { ContextData };
 
-    ghost view = { λ c. record { kind = c.kind; phase = c.phase; sender = c.sender; last = c.last; image = c.image; cache = c.cache } };
+    ghost view = { λ c. record { strategy = c.strategy; kind = c.kind; phase = c.phase; sender = c.sender; last = c.last; image = c.image; cache = c.cache } };
+}
+
+// The phase of an image that is the sender's record, by the updates that are kept.
+fn ok_phase(cache: &Cache) -> Phase
+    ensures { result ≡ ok_with cache.now.updates }
+{
+    if cache.len() == 0 {
+        Phase::LiveOk
+    } else {
+        Phase::LiveKept
+    }
 }
 
 // The same message.
@@ -51,11 +65,12 @@ fn copy_of(msg: &MarketMsg) -> Result<MarketMsg, OutOfMemory>
 
 impl DqContext {
     /// The context of a new subscription with a cache of this size. It takes no memory.
-    pub fn new(alloc: Global, kind: SubKind, cache: u32) -> DqContext
-        ensures { result ≡ new_context kind cache }
+    pub fn new(alloc: Global, kind: SubKind, cache: u32, strategy: Strategy) -> DqContext
+        ensures { result ≡ new_context strategy kind cache }
     {
         DqContext {
             alloc,
+            strategy,
             kind,
             phase: Phase::Await,
             sender: 0,
@@ -63,6 +78,14 @@ impl DqContext {
             image: Msg::new(alloc),
             cache: Cache::new(alloc, cache),
         }
+    }
+
+    // The image is the sender's record from now on: cached updates up to its number are dropped, and the others are kept.
+    fn settle(&mut self)
+        ensures { self.new ≡ settled self.old }
+    {
+        self.cache.drop_to(self.last);
+        self.phase = ok_phase(&self.cache);
     }
 
     // Applies the next update to an image that is the sender's record.
@@ -78,8 +101,8 @@ impl DqContext {
     {
         queue.reserve(1)?;
         self.image.apply(&msg.body)?;
-        self.phase = Phase::LiveOk;
         self.last = msg.seq;
+        self.settle();
         queue.push_back_reserved(ok_msg(msg));
         Ok(())
     }
@@ -149,7 +172,25 @@ impl DqContext {
         Ok(())
     }
 
-    // What an update does while there is an image.
+    // Adds a late update to the cache, and tells of it.
+    fn keep_late(
+        &mut self,
+        msg: MarketMsg,
+        queue: &mut VecDeque<Callback>,
+    ) -> Result<(), OutOfMemory>
+        ensures context { OnOk result (self.new ≡ (update_acted Action.KeepLate self.old msg).context) }
+        ensures calls { OnOk result (queue.new.items ≡ queue.old.items ++ (update_acted Action.KeepLate self.old msg).calls) }
+        ensures err { OnErr result (self.new ≡ self.old) }
+        ensures calls_err { OnErr result (queue.new.items ≡ queue.old.items) }
+    {
+        let call = late(&msg);
+        queue.reserve(1)?;
+        self.cache.add(msg.seq, msg.body)?;
+        queue.push_back_reserved(call);
+        Ok(())
+    }
+
+    // What one update does while there is an image.
     fn act_update(
         &mut self,
         action: Action,
@@ -168,6 +209,8 @@ impl DqContext {
             Action::KeepOnly => self.cache.add(msg.seq, msg.body),
             Action::Gap => self.pass_gap(msg, queue),
             Action::Switch => self.switch_to(msg, queue),
+            Action::Late => Ok(queue.push_back(late(&msg))?),
+            Action::KeepLate => self.keep_late(msg, queue),
             _ => Ok(()),
         }
     }
@@ -179,7 +222,8 @@ impl DqContext {
         ensures err { OnErr result (self.new ≡ self.old) }
         ensures calls_err { OnErr result (queue.new.items ≡ queue.old.items) }
     {
-        let action = decide(self.phase, relation_to(self.sender, self.last, &msg), true);
+        let relation = relation_to(self.sender, self.last, &msg);
+        let action = decide(self.strategy, self.phase, relation, true);
         self.act_update(action, msg, queue)
     }
 
@@ -206,6 +250,7 @@ impl DqContext {
         let image = msg.body.try_clone()?;
         Ok(DqContext {
             alloc: self.alloc,
+            strategy: self.strategy,
             kind: self.kind,
             phase: Phase::LiveOk,
             sender: msg.sender,
@@ -215,18 +260,18 @@ impl DqContext {
         })
     }
 
-    // Handles cached updates that are numbered above a number. After want of memory some of them may be handled.
+    // Handles cached updates from a bound on. After want of memory some of them may be handled.
     fn handle(
         &mut self,
         updates: &BTreeMap<u32, Msg>,
-        number: u32,
+        from: Bound<u32>,
         queue: &mut VecDeque<Callback>,
     ) -> Result<(), OutOfMemory>
-        ensures context { OnOk result (self.new ≡ (handled self.old (above number updates.now.entries)).context) }
-        ensures calls { OnOk result (queue.new.items ≡ queue.old.items ++ (handled self.old (above number updates.now.entries)).calls) }
+        ensures context { OnOk result (self.new ≡ (handled self.old (from_bound from updates.now.entries)).context) }
+        ensures calls { OnOk result (queue.new.items ≡ queue.old.items ++ (handled self.old (from_bound from updates.now.entries)).calls) }
     {
         let sender = self.sender;
-        for (seq, update) in updates.range((Bound::Excluded(number), Bound::Unbounded)) {
+        for (seq, update) in updates.range((from, Bound::Unbounded)) {
             let msg = MarketMsg {
                 kind: MsgKind::Update,
                 sender,
@@ -251,7 +296,7 @@ impl DqContext {
         if before.sender != msg.sender {
             return Ok(());
         }
-        self.handle(before.cache.updates(), msg.seq, queue)
+        self.handle(before.cache.updates(), Bound::Excluded(msg.seq), queue)
     }
 
     // Takes the first image.
@@ -270,6 +315,91 @@ impl DqContext {
         Ok(())
     }
 
+    // While there is no image: drops cached updates of another sender.
+    fn wait_for(&mut self, sender: u32)
+        ensures { self.new ≡ waiting_for sender self.old }
+    {
+        if self.sender != sender {
+            self.sender = sender;
+            self.cache.clear();
+        }
+    }
+
+    // Takes the first image, and keeps the cached updates above it.
+    fn start_keeping(
+        &mut self,
+        msg: &MarketMsg,
+        queue: &mut VecDeque<Callback>,
+    ) -> Result<(), OutOfMemory>
+        ensures context { OnOk result (self.new ≡ (started_keeping self.old msg.now).context) }
+        ensures calls { OnOk result (queue.new.items ≡ queue.old.items ++ (started_keeping self.old msg.now).calls) }
+        ensures err { OnErr result (self.new ≡ self.old) }
+        ensures calls_err { OnErr result (queue.new.items ≡ queue.old.items) }
+    {
+        let call = copy_of(msg)?;
+        let image = msg.body.try_clone()?;
+        queue.push_back(ok_msg(call))?;
+        self.wait_for(msg.sender);
+        self.last = msg.seq;
+        self.image = image;
+        self.settle();
+        Ok(())
+    }
+
+    // A copy of the context with an empty cache, and an image that is the sender's record.
+    fn without_cache(&self) -> Result<DqContext, OutOfMemory>
+        ensures { IfOk result (λ next. next ≡ record self.now { phase = Phase.LiveOk; cache = emptied self.now.cache }) }
+    {
+        let image = self.image.try_clone()?;
+        Ok(DqContext {
+            alloc: self.alloc,
+            strategy: self.strategy,
+            kind: self.kind,
+            phase: Phase::LiveOk,
+            sender: self.sender,
+            last: self.last,
+            image,
+            cache: Cache::new(self.alloc, self.cache.size()),
+        })
+    }
+
+    // The context in which the kept updates are handled, with the callbacks added.
+    fn caught_up(&self, queue: &mut VecDeque<Callback>) -> Result<DqContext, OutOfMemory>
+        ensures context { IfOk result (λ next. next ≡ (handled (record self.now { phase = Phase.LiveOk; cache = emptied self.now.cache }) self.now.cache.updates).context) }
+        ensures calls { OnOk result (queue.new.items ≡ queue.old.items ++ (handled (record self.now { phase = Phase.LiveOk; cache = emptied self.now.cache }) self.now.cache.updates).calls) }
+        ensures calls_err { OnErr result (queue.new.items ≡ queue.old.items) }
+    {
+        let mut made = VecDeque::new(self.alloc);
+        let mut next = self.without_cache()?;
+        next.handle(self.cache.updates(), Bound::Unbounded, &mut made)?;
+        queue.append(&mut made)?;
+        Ok(next)
+    }
+
+    // Handles the kept updates and one before which some are missing.
+    fn catch_up(
+        &mut self,
+        msg: &MarketMsg,
+        queue: &mut VecDeque<Callback>,
+    ) -> Result<(), OutOfMemory>
+        ensures context { OnOk result (self.new ≡ (caught self.old msg.now).context) }
+        ensures calls { OnOk result (queue.new.items ≡ queue.old.items ++ (caught self.old msg.now).calls) }
+        ensures err { OnErr result (self.new ≡ self.old) }
+        ensures calls_err { OnErr result (queue.new.items ≡ queue.old.items) }
+    {
+        let fresh = self.cache.put(msg.seq, msg.body.try_clone()?)?;
+        match self.caught_up(queue) {
+            Ok(next) => {
+                *self = next;
+                Ok(())
+            }
+            Err(error) => {
+                self.cache.take_back(msg.seq, fresh);
+                Err(error)
+            }
+        }
+    }
+
     // Replaces an image that is the sender's record.
     fn replace(
         &mut self,
@@ -284,9 +414,9 @@ impl DqContext {
         let call = copy_of(msg)?;
         let image = msg.body.try_clone()?;
         queue.push_back(ok_msg(call))?;
-        self.phase = Phase::LiveOk;
         self.last = msg.seq;
         self.image = image;
+        self.settle();
         Ok(())
     }
 
@@ -365,6 +495,8 @@ impl DqContext {
         match action {
             Action::Keep => self.keep(msg),
             Action::Start => self.start(msg, queue),
+            Action::StartKeep => self.start_keeping(msg, queue),
+            Action::Catch => self.catch_up(msg, queue),
             Action::Replace => self.replace(msg, queue),
             Action::Heal => self.heal(msg, queue),
             Action::Adopt => self.adopt(msg, queue),
@@ -385,7 +517,8 @@ impl DqContext {
         ensures calls_err { OnErr result (queue.new.items ≡ queue.old.items) }
     {
         let update = is_update(msg.kind);
-        let action = decide(self.phase, relation_to(self.sender, self.last, msg), update);
+        let relation = relation_to(self.sender, self.last, msg);
+        let action = decide(self.strategy, self.phase, relation, update);
         self.act(action, msg, queue)
     }
 
@@ -439,7 +572,7 @@ impl DqContext {
     {
         match self.phase {
             Phase::Await => None,
-            Phase::LiveOk | Phase::LiveStale => Some(&self.image),
+            Phase::LiveOk | Phase::LiveStale | Phase::LiveKept => Some(&self.image),
         }
     }
 
@@ -448,7 +581,7 @@ impl DqContext {
         ensures { result ≡ quality_in self.now.phase }
     {
         match self.phase {
-            Phase::LiveOk => Quality::Ok,
+            Phase::LiveOk | Phase::LiveKept => Quality::Ok,
             Phase::Await | Phase::LiveStale => Quality::Stale,
         }
     }
@@ -459,7 +592,7 @@ impl DqContext {
     {
         match self.phase {
             Phase::Await => 0,
-            Phase::LiveOk | Phase::LiveStale => self.last,
+            Phase::LiveOk | Phase::LiveStale | Phase::LiveKept => self.last,
         }
     }
 
@@ -469,7 +602,7 @@ impl DqContext {
     {
         match self.phase {
             Phase::Await => 0,
-            Phase::LiveOk | Phase::LiveStale => self.sender,
+            Phase::LiveOk | Phase::LiveStale | Phase::LiveKept => self.sender,
         }
     }
 

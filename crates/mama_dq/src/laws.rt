@@ -1,7 +1,8 @@
-//! What holds of contexts, whatever messages they take.
+//! What holds of contexts of either strategy, whatever messages they take.
 ghost use Rattle.mama_dq.specs.Image.{ImageLaw, BasicLaw};
 ghost use Rattle.mama_dq.specs.Gap.{GapLaw, StaleLaw};
 ghost use Rattle.mama_dq.specs.Orderly.{OrderlyLaw};
+ghost use Rattle.mama_dq.specs.Kept.{KeptLaw};
 
 /// An image that is ok is its sender's record: if all messages that a context took are genuine for the bases and the
 /// updates of their senders, and the image is ok, then it is the sender's base with that sender's updates applied,
@@ -26,6 +27,12 @@ pub fn stale_law()
 /// quality, and each update numbered above the first image's number is called back once.
 pub fn orderly_law()
     ensures { OrderlyLaw }
+{}
+
+/// Where an image is its sender's record, updates are kept for a gap only with strategy two; they are all numbered above
+/// the last number, and the phase says whether there are any.
+pub fn kept_law()
+    ensures { KeptLaw }
 {}
 
 /// A basic subscription has no image, whatever messages it takes.

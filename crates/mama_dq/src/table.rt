@@ -1,7 +1,8 @@
 ghost use Rattle.std.specs.Prelude.{◌≡◌};
-ghost use Rattle.mama_dq.specs.Table.{is_update, relation_of, decided, phase_number, relation_number, kind_number};
+ghost use Rattle.mama_event.specs.declared.shape.Strategy.TheVariants as Strategy;
+ghost use Rattle.mama_dq.specs.Table.{is_update, relation_of, decided, phase_of_one, phase_number, relation_number, kind_number};
 
-use mama_event::{MarketMsg, MsgKind};
+use mama_event::{MarketMsg, MsgKind, Strategy};
 
 /// Where a context stands.
 #[derive(Clone, Copy, Debug, PartialEq, Eq, Hash)]
@@ -12,6 +13,8 @@ pub enum Phase {
     LiveOk,
     /// It has an image, which may lack updates.
     LiveStale,
+    /// It has an image, which is the sender's record, and keeps updates that came before the image until the first gap.
+    LiveKept,
 }
 
 /// What a message's sender and number are to the sender and the last number of an image.
@@ -54,6 +57,14 @@ pub enum Action {
     Heal,
     /// The image of another sender is taken.
     Adopt,
+    /// The image is the first, and the cached updates above it are kept.
+    StartKeep,
+    /// Updates are missing before this one: it and the kept updates are handled, ascending.
+    Catch,
+    /// The update is late, which is told.
+    Late,
+    /// The update is late, which is told, and it is added to the cache.
+    KeepLate,
 }
 
 /// The actions by cell: of a phase, a relation and a kind of message, where an update counts 1.
@@ -62,48 +73,47 @@ pub struct Table<const N: usize> {
     cells: [Action; N],
 }
 
-/// How many cells there are: 3 phases, 5 relations, and image messages and updates.
+/// How many cells the table of strategy one has: for 3 phases and 5 relations, one for image messages and one for updates.
 pub const CELLS: usize = 30;
 
+/// How many cells the table of strategy two has: for 4 phases and 5 relations, one for image messages and one for updates.
+pub const CELLS_OF_TWO: usize = 40;
+
+// The cells of a table: for each phase and relation the action for an image message and that for an update.
+macro_rules! cells {
+    ($($image:ident $update:ident),* $(,)?) => {
+        [$(Action::$image, Action::$update),*]
+    };
+}
+
+// In each phase: next, same, old, ahead, other.
 const ACTIONS: Table<CELLS> = Table {
-    cells: [
-        // Await: an image message and an update, next, same, old, ahead, other
-        Action::Start,
-        Action::Keep,
-        Action::Start,
-        Action::Keep,
-        Action::Start,
-        Action::Keep,
-        Action::Start,
-        Action::Keep,
-        Action::Start,
-        Action::Keep,
+    cells: cells![
+        // Await
+        Start Keep, Start Keep, Start Keep, Start Keep, Start Keep,
         // LiveOk
-        Action::Replace,
-        Action::Apply,
-        Action::Replace,
-        Action::Ignore,
-        Action::Ignore,
-        Action::Ignore,
-        Action::Replace,
-        Action::Gap,
-        Action::Adopt,
-        Action::Switch,
+        Replace Apply, Replace Ignore, Ignore Ignore, Replace Gap, Adopt Switch,
         // LiveStale
-        Action::Heal,
-        Action::ApplyKeep,
-        Action::Heal,
-        Action::KeepOnly,
-        Action::Heal,
-        Action::KeepOnly,
-        Action::Heal,
-        Action::Gap,
-        Action::Adopt,
-        Action::Switch,
+        Heal ApplyKeep, Heal KeepOnly, Heal KeepOnly, Heal Gap, Adopt Switch,
+    ],
+};
+
+const ACTIONS_OF_TWO: Table<CELLS_OF_TWO> = Table {
+    cells: cells![
+        // Await
+        StartKeep Keep, StartKeep Keep, StartKeep Keep, StartKeep Keep, StartKeep Keep,
+        // LiveOk
+        Replace Apply, Replace Late, Ignore Late, Replace Gap, Adopt Switch,
+        // LiveStale
+        Heal ApplyKeep, Heal KeepLate, Heal KeepLate, Heal Gap, Adopt Switch,
+        // LiveKept
+        Replace Apply, Replace Late, Ignore Late, Replace Catch, Adopt Switch,
     ],
 };
 
 const _: () = prove!(ACTIONS.cells.len() == CELLS);
+
+const _: () = prove!(ACTIONS_OF_TWO.cells.len() == CELLS_OF_TWO);
 
 fn phase_number(phase: Phase) -> usize
     ensures { result ≡ phase_number phase }
@@ -123,13 +133,41 @@ fn kind_number(update: bool) -> usize
     usize::from(update)
 }
 
-/// The action for a message in a phase: of this relation to the image, and an update or else an image message.
-/// It is that of market subscriptions. While there is no image the relation plays no part.
-pub fn decide(phase: Phase, relation: Relation, update: bool) -> Action
-    ensures { result ≡ decided phase relation update }
+// The phase of strategy one in whose cells the actions of a phase stand.
+fn phase_of_one(phase: Phase) -> Phase
+    ensures { result ≡ phase_of_one phase }
 {
+    match phase {
+        Phase::LiveKept => Phase::LiveOk,
+        _ => phase,
+    }
+}
+
+fn action_of_one(phase: Phase, relation: Relation, update: bool) -> Action
+    ensures { result ≡ decided Strategy.One phase relation update }
+{
+    let phase = phase_of_one(phase);
     let cell = 10 * phase_number(phase) + 2 * relation_number(relation) + kind_number(update);
     ACTIONS.cells[cell]
+}
+
+fn action_of_two(phase: Phase, relation: Relation, update: bool) -> Action
+    ensures { result ≡ decided Strategy.Two phase relation update }
+{
+    let cell = 10 * phase_number(phase) + 2 * relation_number(relation) + kind_number(update);
+    ACTIONS_OF_TWO.cells[cell]
+}
+
+/// The action for a message in a phase: of this relation to the image, and an update or else an image message.
+/// It is that of market subscriptions of this strategy. While there is no image the relation plays no part. Strategy one
+/// never comes to `LiveKept`, and its actions there are those of `LiveOk`.
+pub fn decide(strategy: Strategy, phase: Phase, relation: Relation, update: bool) -> Action
+    ensures { result ≡ decided strategy phase relation update }
+{
+    match strategy {
+        Strategy::One => action_of_one(phase, relation, update),
+        Strategy::Two => action_of_two(phase, relation, update),
+    }
 }
 
 // Whether a message of this kind is an update, and not an image message.

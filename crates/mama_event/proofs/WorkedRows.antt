@@ -18,6 +18,7 @@ use Rattle.mama_event.specs.declared.publisher_entry.PublisherEntry.{PublisherEn
 use Rattle.mama_event.specs.declared.publisher_entry.PublisherEntry.TheVariants as entry
 use Rattle.mama_event.specs.declared.to_bridge.BridgeNote.{BridgeNote}
 use Rattle.mama_event.specs.declared.to_bridge.BridgeNote.TheVariants as put
+use Rattle.mama_event.specs.declared.shape.Strategy.TheVariants as strategy
 use Rattle.mama_event.specs.declared.to_queue.Make.TheVariants as make
 use Rattle.mama_event.specs.declared.to_queue.QueueNote.{QueueNote}
 use Rattle.mama_event.specs.declared.to_queue.QueueNote.TheVariants as note
@@ -69,7 +70,7 @@ sent : publisher_puts script journal ≡ expected
 sent = refl
 
 abbrev created : ℕ → SubId → QueueNote
-created slot sub = note.Create slot (object.Sub sub) (make.Sub sub_kind.Market 10) (object.Sub sub)
+created slot sub = note.Create slot (object.Sub sub) (make.Sub sub_kind.Market 10 strategy.One) (object.Sub sub)
 
 abbrev gone : ℕ → SubId → QueueNote
 gone slot sub = note.Gone slot (object.Sub sub)

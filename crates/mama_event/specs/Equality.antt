@@ -12,6 +12,8 @@ use Rattle.mama_event.specs.declared.market.Quality.TheVariants as quality
 use Rattle.mama_event.specs.declared.market.SubKind.{SubKind}
 use Rattle.mama_event.specs.declared.market.SubKind.TheVariants as sub_kind
 use Rattle.mama_event.specs.declared.market.MarketMsg.{MarketMsg}
+use Rattle.mama_event.specs.declared.shape.Strategy.{Strategy}
+use Rattle.mama_event.specs.declared.shape.Strategy.TheVariants as strategy
 use Rattle.mama_event.specs.declared.order.Order.{Order}
 use Rattle.mama_event.specs.declared.order.Order.TheVariants as order
 use Rattle.mama_event.specs.declared.order.PlanRow.{PlanRow}
@@ -51,9 +53,15 @@ same_sub_kind sub_kind.Snapshot sub_kind.Snapshot = true
 same_sub_kind sub_kind.Basic sub_kind.Basic = true
 same_sub_kind _ _ = false
 
+-- two strategies are one
+abbrev pub same_strategy : Strategy → Strategy → Bool
+same_strategy strategy.One strategy.One = true
+same_strategy strategy.Two strategy.Two = true
+same_strategy _ _ = false
+
 -- two objects are made alike
 abbrev pub same_make : Make → Make → Bool
-same_make (make.Sub kind cache) (make.Sub kind' cache') = same_sub_kind kind kind' && cache == cache'
+same_make (make.Sub kind cache strategy) (make.Sub kind' cache' strategy') = same_sub_kind kind kind' && cache == cache' && same_strategy strategy strategy'
 same_make make.Timer make.Timer = true
 same_make make.Inbox make.Inbox = true
 same_make _ _ = false
@@ -85,6 +93,7 @@ same_callback (call.Msg msg quality) (call.Msg msg' quality') = same_market_msg 
 same_callback (call.Gap first to) (call.Gap first' to') = first == first' && to == to'
 same_callback (call.Quality quality number) (call.Quality quality' number') = same_quality quality quality' && number == number'
 same_callback (call.RecapRequest sender) (call.RecapRequest sender') = sender == sender'
+same_callback (call.Late sender seq) (call.Late sender' seq') = sender == sender' && seq == seq'
 same_callback (call.Error code) (call.Error code') = code == code'
 same_callback call.Destroy call.Destroy = true
 same_callback (call.Tick moment) (call.Tick moment') = moment == moment'

@@ -16,6 +16,8 @@ use Rattle.mama_event.specs.declared.market.Quality.TheVariants as quality
 use Rattle.mama_event.specs.declared.market.SubKind.{SubKind}
 use Rattle.mama_event.specs.declared.market.SubKind.TheVariants as sub_kind
 use Rattle.mama_event.specs.declared.market.MarketMsg.{MarketMsg}
+use Rattle.mama_event.specs.declared.shape.Strategy.{Strategy}
+use Rattle.mama_event.specs.declared.shape.Strategy.TheVariants as strategy
 use Rattle.mama_event.specs.declared.order.Order.{Order}
 use Rattle.mama_event.specs.declared.order.Order.TheVariants as order
 use Rattle.mama_event.specs.declared.order.PlanRow.{PlanRow}
@@ -40,7 +42,7 @@ use Rattle.mama_event.specs.declared.ids.InboxId.{InboxId}
 use Rattle.mama_event.specs.declared.ids.ObjectId.{ObjectId}
 use Rattle.mama_event.specs.declared.ids.ObjectId.TheVariants.{Sub, Timer, Inbox}
 use Rattle.mama_event.specs.Object.{same_sub, same_timer, same_inbox, same_object}
-use Rattle.mama_event.specs.Equality.{same_kind, same_quality, same_sub_kind, same_make, same_market_msg, same_order, same_orders, same_plan_row, same_callback, same_call_note, same_sub_terms, same_inbox_terms, same_publisher_note, same_publisher_entry, same_queue_note, same_bridge_note}
+use Rattle.mama_event.specs.Equality.{same_kind, same_quality, same_sub_kind, same_strategy, same_make, same_market_msg, same_order, same_orders, same_plan_row, same_callback, same_call_note, same_sub_terms, same_inbox_terms, same_publisher_note, same_publisher_entry, same_queue_note, same_bridge_note}
 
 -- two tests decide two facts
 and-Decides : {a b : Bool} {P Q : Type 0} → Decides a P → Decides b Q → Decides (a && b) (P × Q)
@@ -85,8 +87,13 @@ same_sub_kind-Decides sub_kind.Snapshot sub_kind.Snapshot = (λ h. refl, λ e. r
 same_sub_kind-Decides sub_kind.Basic sub_kind.Basic = (λ h. refl, λ e. refl)
 same_sub_kind-Decides _ _ = (λ h. absurd (true≢false (sym h)), λ e. cc)
 
+pub same_strategy-Decides : (a b : Strategy) → Decides (same_strategy a b) (a ≡ b)
+same_strategy-Decides strategy.One strategy.One = (λ h. refl, λ e. refl)
+same_strategy-Decides strategy.Two strategy.Two = (λ h. refl, λ e. refl)
+same_strategy-Decides _ _ = (λ h. absurd (true≢false (sym h)), λ e. cc)
+
 pub same_make-Decides : (a b : Make) → Decides (same_make a b) (a ≡ b)
-same_make-Decides (make.Sub kind cache) (make.Sub kind' cache') = via (and-Decides (same_sub_kind-Decides kind kind') (Decides-eqb cache cache')) (λ p. λ i. make.Sub (p.0 i) (p.1 i)) (λ e. ((cc), (cc)))
+same_make-Decides (make.Sub kind cache strategy) (make.Sub kind' cache' strategy') = via (and-Decides (and-Decides (same_sub_kind-Decides kind kind') (Decides-eqb cache cache')) (same_strategy-Decides strategy strategy')) (λ p. λ i. make.Sub (p.0.0 i) (p.0.1 i) (p.1 i)) (λ e. ((cc, cc), cc))
 same_make-Decides make.Timer make.Timer = (λ h. refl, λ e. refl)
 same_make-Decides make.Inbox make.Inbox = (λ h. refl, λ e. refl)
 same_make-Decides _ _ = (λ h. absurd (true≢false (sym h)), λ e. cc)
@@ -113,6 +120,7 @@ same_callback-Decides (call.Msg msg quality) (call.Msg msg' quality') = via (and
 same_callback-Decides (call.Gap first to) (call.Gap first' to') = via (and-Decides (Decides-eqb first first') (Decides-eqb to to')) (λ p. λ i. call.Gap (p.0 i) (p.1 i)) (λ e. ((cc), (cc)))
 same_callback-Decides (call.Quality quality number) (call.Quality quality' number') = via (and-Decides (same_quality-Decides quality quality') (Decides-eqb number number')) (λ p. λ i. call.Quality (p.0 i) (p.1 i)) (λ e. ((cc), (cc)))
 same_callback-Decides (call.RecapRequest sender) (call.RecapRequest sender') = via (Decides-eqb sender sender') (λ p. λ i. call.RecapRequest (p i)) (λ e. (cc))
+same_callback-Decides (call.Late sender seq) (call.Late sender' seq') = via (and-Decides (Decides-eqb sender sender') (Decides-eqb seq seq')) (λ p. λ i. call.Late (p.0 i) (p.1 i)) (λ e. ((cc), (cc)))
 same_callback-Decides (call.Error code) (call.Error code') = via (Decides-eqb code code') (λ p. λ i. call.Error (p i)) (λ e. (cc))
 same_callback-Decides call.Destroy call.Destroy = (λ h. refl, λ e. refl)
 same_callback-Decides (call.Tick moment) (call.Tick moment') = via (Decides-eqb moment moment') (λ p. λ i. call.Tick (p i)) (λ e. (cc))

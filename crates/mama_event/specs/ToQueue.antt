@@ -72,9 +72,9 @@ is_for_port port (object.Inbox inbox) = port == 0
 
 -- what an object is made as is of its kind
 abbrev pub is_made_as : Make → ObjectId → Bool
-is_made_as (make.Sub kind cache) (object.Sub sub) = true
-is_made_as (make.Sub kind cache) (object.Timer timer) = false
-is_made_as (make.Sub kind cache) (object.Inbox inbox) = false
+is_made_as (make.Sub kind cache strategy) (object.Sub sub) = true
+is_made_as (make.Sub kind cache strategy) (object.Timer timer) = false
+is_made_as (make.Sub kind cache strategy) (object.Inbox inbox) = false
 is_made_as make.Timer (object.Sub sub) = false
 is_made_as make.Timer (object.Timer timer) = true
 is_made_as make.Timer (object.Inbox inbox) = false

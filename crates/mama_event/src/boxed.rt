@@ -49,6 +49,10 @@ impl Listener for Box<dyn Listener + Send> {
         (**self).on_recap_request(sender, orders)
     }
 
+    fn on_late(&mut self, sender: u32, seq: u32, orders: &mut Orders) {
+        (**self).on_late(sender, seq, orders)
+    }
+
     fn on_error(&mut self, code: u8, orders: &mut Orders) {
         (**self).on_error(code, orders)
     }

@@ -20,6 +20,8 @@ pub enum Callback {
     Quality { quality: Quality, number: u32 },
     /// A recap is wished for from this sender. Whether the bridge asks for it, its own rules say.
     RecapRequest { sender: u32 },
+    /// An update came that is not above the image's last number: one numbered `seq` of this sender.
+    Late { sender: u32, seq: u32 },
     /// An error, by its code.
     Error { code: u8 },
     /// The object is gone. Nothing follows.
@@ -72,6 +74,13 @@ impl PartialEq for Callback {
                     sender: other_sender,
                 },
             ) => sender == other_sender,
+            (
+                Callback::Late { sender, seq },
+                Callback::Late {
+                    sender: other_sender,
+                    seq: other_seq,
+                },
+            ) => sender == other_sender && seq == other_seq,
             (Callback::Error { code }, Callback::Error { code: other_code }) => code == other_code,
             (Callback::Destroy, Callback::Destroy) => true,
             (
@@ -109,6 +118,10 @@ impl Duplicate for Callback {
                 number: *number,
             }),
             Callback::RecapRequest { sender } => Ok(Callback::RecapRequest { sender: *sender }),
+            Callback::Late { sender, seq } => Ok(Callback::Late {
+                sender: *sender,
+                seq: *seq,
+            }),
             Callback::Error { code } => Ok(Callback::Error { code: *code }),
             Callback::Destroy => Ok(Callback::Destroy),
             Callback::Tick { moment } => Ok(Callback::Tick { moment: *moment }),

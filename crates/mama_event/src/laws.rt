@@ -7,7 +7,7 @@ use crate::ids::{InboxId, ObjectId, SubId, TimerId};
 use crate::market::{ImageHead, MarketMsg, MsgKind, Quality, SubKind};
 use crate::order::{Order, Orders, PlanRow};
 use crate::publisher_entry::PublisherEntry;
-use crate::shape::{Bounds, Shape, Took, Topics};
+use crate::shape::{Bounds, Shape, Strategy, Took, Topics};
 use crate::to_bridge::{BridgeNote, InboxTerms, SubTerms};
 use crate::to_publisher::{PublisherNote, ToPublisher};
 use crate::to_queue::{Make, QueueNote};
@@ -42,5 +42,6 @@ pub fn plain_data_is_compared_exactly()
     ensures bounds { (a b : Bounds) → Decides (⟦<Bounds as PartialEq>⟧.eq a b) (a ≡ b) }
     ensures topics { (a b : List ℕ) → Decides (⟦<Topics as PartialEq>⟧.eq a b) (a ≡ b) }
     ensures shape { (a b : Shape) → Decides (⟦<Shape as PartialEq>⟧.eq a b) (a ≡ b) }
+    ensures strategy { (a b : Strategy) → Decides (⟦<Strategy as PartialEq>⟧.eq a b) (a ≡ b) }
     ensures took { (a b : Took) → Decides (⟦<Took as PartialEq>⟧.eq a b) (a ≡ b) }
 {}

@@ -38,7 +38,7 @@ pub use mama_memory::{Duplicate, OutOfMemory};
 pub use market::{ImageHead, MarketMsg, MsgKind, Quality, SubKind};
 pub use order::{MOST_ORDERS, Order, Orders, PlanRow};
 pub use publisher_entry::PublisherEntry;
-pub use shape::{Bounds, Shape, Took, Topics};
+pub use shape::{Bounds, Shape, Strategy, Took, Topics};
 pub use stream::{Stream, Tagged};
 pub use to_bridge::{BridgeNote, InboxTerms, SubTerms, ToBridge};
 pub use to_publisher::{PublisherNote, ToPublisher};

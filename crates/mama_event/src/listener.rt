@@ -58,6 +58,12 @@ pub trait Listener: Tagged {
         requires { orders.old ≡ [] }
         ensures { Heard (on.RecapRequest sender) (told Self.tagged calls heard given plan self.old) (told Self.tagged calls heard given plan self.new) orders.new };
 
+    /// An update came that is not above the image's last number: one numbered `seq` of this sender. The image stays as it
+    /// is.
+    fn on_late(&mut self, sender: u32, seq: u32, orders: &mut Orders)
+        requires { orders.old ≡ [] }
+        ensures { Heard (on.Late sender seq) (told Self.tagged calls heard given plan self.old) (told Self.tagged calls heard given plan self.new) orders.new };
+
     /// An error, by its code.
     fn on_error(&mut self, code: u8, orders: &mut Orders)
         requires { orders.old ≡ [] }

@@ -91,13 +91,23 @@ impl Topics {
     }
 }
 
-/// How many actors of each kind there are, and which topic each publisher sends. A publisher's number is below the
-/// length of `publisher_topics` and a client's below `clients`.
+/// What becomes of updates that come early or late to a market subscription.
+#[derive(Clone, Copy, Debug, PartialEq, Eq)]
+pub enum Strategy {
+    /// The first image takes the updates that came before it, and late updates are passed over.
+    One,
+    /// The updates that came before the first image are kept until the first gap, and late updates are told.
+    Two,
+}
+
+/// How many actors of each kind there are, which topic each publisher sends, and the strategy of all market
+/// subscriptions. A publisher's number is below the length of `publisher_topics` and a client's below `clients`.
 #[derive(Debug, Drop, PartialEq, Eq)]
 pub struct Shape {
     pub clients: u32,
     pub publisher_topics: Topics,
     pub bounds: Bounds,
+    pub strategy: Strategy,
 }
 
 /// What an actor that took an event answers.

@@ -4,6 +4,7 @@ ghost use Rattle.mama_event.specs.Equality.{same_make};
 
 use crate::ids::{InboxId, ObjectId, SubId, TimerId};
 use crate::market::{MarketMsg, SubKind};
+use crate::shape::Strategy;
 use crate::stream::{Stream, Tagged};
 use mama_memory::{Duplicate, OutOfMemory};
 use mama_msg::Msg;
@@ -11,8 +12,12 @@ use mama_msg::Msg;
 /// What an object is made as. It is of the object's kind.
 #[derive(Clone, Copy, Debug, PartialEq, Eq)]
 pub enum Make {
-    /// A subscription, with the most updates that it caches.
-    Sub { kind: SubKind, cache: u32 },
+    /// A subscription, with the most updates that it caches, and what becomes of those that come early or late.
+    Sub {
+        kind: SubKind,
+        cache: u32,
+        strategy: Strategy,
+    },
     Timer,
     Inbox,
 }

@@ -11,6 +11,7 @@ use Rattle.mama_link.specs.declared.faults.FaultRow.{FaultRow}
 use Rattle.mama_msg.specs.Field.{FieldData}
 use Rattle.mama_msg.specs.Message.{apply}
 use Rattle.mama_msg.specs.Value.{IsText, is_printable}
+use Rattle.mama_words.specs.declared.nums.Nums.TheVariants.{Unknown}
 use Rattle.mama_words.specs.Field.{IsField, IsMessage}
 use Rattle.mama_script.specs.declared.head.Head.TheVariants as heads
 use Rattle.mama_script.specs.declared.head.Place.{Place}
@@ -24,6 +25,7 @@ use Rattle.mama_script.specs.declared.line.Line.TheVariants as lines
 use Rattle.mama_script.specs.Head.{allows, may_end}
 use Rattle.mama_script.specs.Line.{IsFault}
 use Rattle.mama_script.specs.Before.{Before, start, after, number_at, heavier, flaw_if, first_flaw, topic_flaw, weight_with}
+use Rattle.mama_words.specs.declared.version.Version.TheVariants as version
 use Rattle.mama_script.specs.Reading.{Fits}
 use Rattle.mama_script.specs.Tree.{lines_of, topic_line, publisher_line, publisher_lines, step_lines, client_lines, topic_of_part, IsShaped, IsScript}
 use Rattle.mama_gen.specs.Draws.{Drawn, next}
@@ -124,23 +126,23 @@ held_after number v fields h =
 value_small : (s : ℕ) → (value s).0 < 2 ^ 32
 value_small s = let less = mod_below (next s / 2 ^ 33) 1000 (omega arith) in omega (arith, less)
 
-bid_fits : (v : ℕ) → v < 2 ^ 32 → IsField (bid v)
-bid_fits v lt = record { fid = omega arith; name = record { short = omega arith; letters = refl }; keyed = record { named = λ e. absurd (omega (arith, e)) }; value = lt }
+bid_fits : (v : ℕ) → v < 2 ^ 32 → IsField Unknown (bid v)
+bid_fits v lt = record { fid = omega arith; name = record { short = omega arith; letters = refl }; keyed = record { named = λ e. absurd (omega (arith, e)) }; known = refl; value = lt }
 
-ask_fits : (v : ℕ) → v < 2 ^ 32 → IsField (ask v)
-ask_fits v lt = record { fid = omega arith; name = record { short = omega arith; letters = refl }; keyed = record { named = λ e. absurd (omega (arith, e)) }; value = lt }
+ask_fits : (v : ℕ) → v < 2 ^ 32 → IsField Unknown (ask v)
+ask_fits v lt = record { fid = omega arith; name = record { short = omega arith; letters = refl }; keyed = record { named = λ e. absurd (omega (arith, e)) }; known = refl; value = lt }
 
-size_fits : (v : ℕ) → v < 2 ^ 32 → IsField (size v)
-size_fits v lt = record { fid = omega arith; name = record { short = omega arith; letters = refl }; keyed = record { named = λ e. absurd (omega (arith, e)) }; value = lt }
+size_fits : (v : ℕ) → v < 2 ^ 32 → IsField Unknown (size v)
+size_fits v lt = record { fid = omega arith; name = record { short = omega arith; letters = refl }; keyed = record { named = λ e. absurd (omega (arith, e)) }; known = refl; value = lt }
 
-field_fits : (number v : ℕ) → v < 2 ^ 32 → IsMessage (field number v ∷ [])
+field_fits : (number v : ℕ) → v < 2 ^ 32 → IsMessage Unknown (field number v ∷ [])
 field_fits number v lt =
-    any_field (λ f. IsMessage (f ∷ [])) number v
+    any_field (λ f. IsMessage Unknown (f ∷ [])) number v
     (record { fields = (bid_fits v lt, tt); distinct = refl })
     (record { fields = (ask_fits v lt, tt); distinct = refl })
     (record { fields = (size_fits v lt, tt); distinct = refl })
 
-base_fits : (s : ℕ) → IsMessage (base s).0
+base_fits : (s : ℕ) → IsMessage Unknown (base s).0
 base_fits s =
     let s1 = next s in
     let s2 = next s1 in
@@ -419,7 +421,7 @@ client_step n b s few h = (
 
 -- ---- the whole
 
-begun : AtTopics 0 (after start (lines.Queues 4))
+begun : AtTopics 0 (after (start version.One) (lines.Queues 4))
 begun = record { place = refl; counts = record { queues_are = refl; topics_are = refl; publishers_are = refl; clients_are = refl; subs_are = refl; weights_most = tt; weight_most = omega arith } }
 
 topics_end : (b : Before) → AtTopics 16 b → AtPublishers 0 b
@@ -464,9 +466,9 @@ clients_go b s h =
 publishers_go : (b : Before) (s : ℕ) → AtPublishers 0 b → Goes b (flat_map publisher_lines (made publisher 16 s)) (AtPublishers 16)
 publishers_go b s h = goes_each publisher publisher_lines AtPublishers 16 (λ n c k lt i. publisher_step n c k lt i) 16 s b (omega arith) h
 
-whole_goes : (seed : ℕ) → Goes start (lines_of (script seed).0) (λ c. may_end c.place ≡ true)
+whole_goes : (seed : ℕ) → Goes (start version.One) (lines_of (script seed).0) (λ c. may_end c.place ≡ true)
 whole_goes seed =
-    let b0 = after start (lines.Queues 4) in
+    let b0 = after (start version.One) (lines.Queues 4) in
     let names = map topic_line (map topic_name (range_with_len 0 16)) in
     let publishers = flat_map publisher_lines (made publisher 16 seed) in
     let clients = flat_map client_lines (made (λ k. client) 4 (behind publisher 16 seed)) in (
@@ -483,6 +485,7 @@ shaped seed =
       clients = sym (made_length (λ k. client) 4 (behind publisher 16 seed));
       topics = refl;
       publishers = sym (numbers_of topic_of_part publisher (λ n s. refl) 16 seed);
+      strategy = refl;
     }
 
 pub seed_is_script : (seed : ℕ) → IsScript (script_of_seed seed)

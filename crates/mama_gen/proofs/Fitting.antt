@@ -7,7 +7,7 @@ use Rattle.mama_script.specs.declared.line.Line.{Line}
 use Rattle.mama_script.specs.Head.{may_end}
 use Rattle.mama_script.specs.Before.{Before, start, after}
 use Rattle.mama_script.specs.Names.{is_named, made_by, unnamed_from}
-use Rattle.mama_script.specs.Reading.{Fits, FitFrom, AreAccepted}
+use Rattle.mama_script.specs.Reading.{version_of, Fits, FitFrom, AreAccepted}
 use Rattle.mama_gen.specs.Draws.{Drawn}
 use Rattle.mama_gen.proofs.Each.{made, behind, one, made_none, made_more}
 
@@ -39,8 +39,8 @@ named_of : (b : Before) (ls : List Line) (Q : Before → Type 0) (made : List Ma
 named_of b [] Q made k h = refl
 named_of b (l ∷ ls) Q made k h = rw (h.1 made) (named_of (after b l) ls Q made (suc k) h.2)
 
-pub accepted : (ls : List Line) → Goes start ls (λ c. may_end c.place ≡ true) → AreAccepted ls
-accepted ls h = record { fit = fit_of start ls h; named = named_of start ls (λ c. may_end c.place ≡ true) (made_by ls) 2 h }
+pub accepted : (ls : List Line) → Goes (start (version_of ls)) ls (λ c. may_end c.place ≡ true) → AreAccepted ls
+accepted ls h = record { fit = fit_of (start (version_of ls)) ls h; named = named_of (start (version_of ls)) ls (λ c. may_end c.place ≡ true) (made_by ls) 2 h }
 
 -- the lines of things made one after the other: I n holds behind those of the first n
 pub goes_each : {X : Type 0} (make : ℕ → Drawn X) (g : X → List Line) (I : ℕ → Before → Type 0) (total : ℕ)

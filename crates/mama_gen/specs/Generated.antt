@@ -4,6 +4,8 @@ use Rattle.std.specs.List.{range_with_len}
 use Rattle.mama_msg.specs.declared.value.Value.TheVariants as values
 use Rattle.mama_msg.specs.Field.{FieldData}
 use Rattle.mama_event.specs.declared.market.SubKind.TheVariants.{Market}
+use Rattle.mama_event.specs.declared.shape.Strategy.TheVariants as strategy
+use Rattle.mama_words.specs.declared.version.Version.TheVariants as version
 use Rattle.mama_link.specs.declared.faults.Fault.{Fault}
 use Rattle.mama_link.specs.declared.faults.Fault.TheVariants.{Lose, Dup, Hold}
 use Rattle.mama_link.specs.declared.faults.FaultRow.{FaultRow}
@@ -93,7 +95,8 @@ script = do
   publishers ← each 16 publisher
   clients ← each 4 (λ n. client)
   give (record {
-    shape = record { clients = 4; publisher_topics = range_with_len 0 16; bounds = record { topics = 16; queues = 4 } };
+    version = version.One;
+    shape = record { clients = 4; publisher_topics = range_with_len 0 16; bounds = record { topics = 16; queues = 4 }; strategy = strategy.One };
     topics = map topic_name (range_with_len 0 16);
     publishers = publishers;
     clients = clients;

@@ -57,7 +57,7 @@ impl PublisherLanes {
         ensures takers { OnOk result (self.new.takers.items ≡ map new_taker self.new.lanes.items) }
     {
         let (lane, mut ports, taker) = open(rt, alloc, 1, bounds)?;
-        let bridge = ports.pop().ok_or(OutOfMemory)?;
+        let bridge = ports.pop().unwrap();
         self.lanes.push(lane)?;
         self.bridge.push(bridge)?;
         self.takers.push(taker)?;

@@ -63,8 +63,8 @@ impl<L: Listener> QueueLanes<L> {
         ensures takers { OnOk result (self.new.takers.items ≡ map new_taker self.new.lanes.items) }
     {
         let (lane, mut ports, taker) = open(rt, alloc, 2, bounds)?;
-        let timers = ports.pop().ok_or(OutOfMemory)?;
-        let bridge = ports.pop().ok_or(OutOfMemory)?;
+        let timers = ports.pop().unwrap();
+        let bridge = ports.pop().unwrap();
         self.lanes.push(lane)?;
         self.bridge.push(bridge)?;
         self.timers.push(timers)?;

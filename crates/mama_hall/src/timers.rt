@@ -37,7 +37,7 @@ impl<L: Listener> TimersLane<L> {
         let others = clients + shape.bounds.queues;
         let (lane, mut ports, taker) = open(rt, alloc, others + 1, shape.bounds)?;
         let mut last = part(&lane, &mut ports, others, 1)?;
-        let bridge = last.pop().ok_or(OutOfMemory)?;
+        let bridge = last.pop().unwrap();
         let queues = part(&lane, &mut ports, clients, shape.bounds.queues)?;
         Ok(TimersLane {
             lane,

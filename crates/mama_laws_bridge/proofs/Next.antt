@@ -310,7 +310,7 @@ module _ (shape : Shape) (es : List BridgeEvent) (sofar : List BridgePut) (table
   joins_put : (s : SubId) (terms : SubTerms) (tag : ObjectId) (r : SubId) → count_of (is_recap_want r) (table_puts shape table (joins s terms tag)) ≡ 0
   joins_put s terms tag r = at (has_joined s table)
     where
-      at : (b : Bool) → count_of (is_recap_want r) (cond b [] (to_queue terms.queue (q.Create (slot_for terms.queue table) (Sub s) (make.Sub terms.kind terms.cache) tag) ∷ wants_image shape s terms.kind terms.topic)) ≡ 0
+      at : (b : Bool) → count_of (is_recap_want r) (cond b [] (to_queue terms.queue (q.Create (slot_for terms.queue table) (Sub s) (make.Sub terms.kind terms.cache shape.strategy) tag) ∷ wants_image shape s terms.kind terms.topic)) ≡ 0
       at true = refl
       at false = plain_wishes r (wants_image shape s terms.kind terms.topic) (plain_image shape s terms.kind terms.topic)
 
@@ -424,11 +424,11 @@ module _ (shape : Shape) (es : List BridgeEvent) (sofar : List BridgePut) (table
   no_inbox_terms i h = none_of_is_some (first_said (inbox_terms_in i) es) (is_some-first_said (inbox_terms_in i) es ∙ h)
 
   new_tells : (s : SubId) (terms : SubTerms) (tag : ObjectId) → list_any (joins_sub s) es ≡ false
-      → SubTells shape (es ++ joins s terms tag ∷ []) (sofar ++ to_queue terms.queue (q.Create (slot_for terms.queue table) (Sub s) (make.Sub terms.kind terms.cache) tag) ∷ wants_image shape s terms.kind terms.topic) (new_sub table s terms)
+      → SubTells shape (es ++ joins s terms tag ∷ []) (sofar ++ to_queue terms.queue (q.Create (slot_for terms.queue table) (Sub s) (make.Sub terms.kind terms.cache shape.strategy) tag) ∷ wants_image shape s terms.kind terms.topic) (new_sub table s terms)
   new_tells s terms tag h =
       let fresh = ties.fresh_subs s h in
       let it = subs_kind.itself s in
-      let more : List BridgePut = to_queue terms.queue (q.Create (slot_for terms.queue table) (Sub s) (make.Sub terms.kind terms.cache) tag) ∷ wants_image shape s terms.kind terms.topic in
+      let more : List BridgePut = to_queue terms.queue (q.Create (slot_for terms.queue table) (Sub s) (make.Sub terms.kind terms.cache shape.strategy) tag) ∷ wants_image shape s terms.kind terms.topic in
       record {
         terms = first_said-append (terms_in s) es (joins s terms tag ∷ []) ∙ ap (λ o. option_or o (first_said (terms_in s) (joins s terms tag ∷ []))) (no_terms s h) ∙ rw it refl;
         place = first_said-append (created_in (Sub s)) sofar more ∙ ap (λ o. option_or o (first_said (created_in (Sub s)) more)) fresh.place ∙ rw it refl;
@@ -455,14 +455,14 @@ module _ (shape : Shape) (es : List BridgeEvent) (sofar : List BridgePut) (table
   sub_rows_next (joins s terms tag) = at (has_joined s table) refl
     where
       more : List BridgePut
-      more = to_queue terms.queue (q.Create (slot_for terms.queue table) (Sub s) (make.Sub terms.kind terms.cache) tag) ∷ wants_image shape s terms.kind terms.topic
+      more = to_queue terms.queue (q.Create (slot_for terms.queue table) (Sub s) (make.Sub terms.kind terms.cache shape.strategy) tag) ∷ wants_image shape s terms.kind terms.topic
 
       at : (b : Bool) → has_joined s table ≡ b
-          → Each (SubTells shape (es ++ joins s terms tag ∷ []) (sofar ++ cond b [] (to_queue terms.queue (q.Create (slot_for terms.queue table) (Sub s) (make.Sub terms.kind terms.cache) tag) ∷ wants_image shape s terms.kind terms.topic)))
+          → Each (SubTells shape (es ++ joins s terms tag ∷ []) (sofar ++ cond b [] (to_queue terms.queue (q.Create (slot_for terms.queue table) (Sub s) (make.Sub terms.kind terms.cache shape.strategy) tag) ∷ wants_image shape s terms.kind terms.topic)))
           (cond b table.subs (table.subs ++ kept (ended_now table) (new_sub table s terms ∷ [])))
       at true h = quiet_tells (joins s terms tag) [] (λ row. refl) (λ r. refl)
       at false h =
-          let puts' : List BridgePut = to_queue terms.queue (q.Create (slot_for terms.queue table) (Sub s) (make.Sub terms.kind terms.cache) tag) ∷ wants_image shape s terms.kind terms.topic in
+          let puts' : List BridgePut = to_queue terms.queue (q.Create (slot_for terms.queue table) (Sub s) (make.Sub terms.kind terms.cache shape.strategy) tag) ∷ wants_image shape s terms.kind terms.topic in
           let P : SubRow → Type 0 = SubTells shape (es ++ joins s terms tag ∷ []) (sofar ++ puts') in
           each_append P table.subs (kept (ended_now table) (new_sub table s terms ∷ []))
           (quiet_tells (joins s terms tag) puts' (λ row. refl) (λ r. plain_wishes r (wants_image shape s terms.kind terms.topic) (plain_image shape s terms.kind terms.topic)))
@@ -556,7 +556,7 @@ module _ (shape : Shape) (es : List BridgeEvent) (sofar : List BridgePut) (table
       other : same_sub r s ≡ false
       other = is_some_by (same_sub r s) terms h
 
-      at : (b : Bool) → first_said (created_in (Sub s)) (cond b [] (to_queue terms.queue (q.Create (slot_for terms.queue table) (Sub r) (make.Sub terms.kind terms.cache) tag) ∷ wants_image shape r terms.kind terms.topic)) ≡ None
+      at : (b : Bool) → first_said (created_in (Sub s)) (cond b [] (to_queue terms.queue (q.Create (slot_for terms.queue table) (Sub r) (make.Sub terms.kind terms.cache shape.strategy) tag) ∷ wants_image shape r terms.kind terms.topic)) ≡ None
       at true = refl
       at false = rw (is_some_by (same_sub r s) terms h) (plain_places (Sub s) (wants_image shape r terms.kind terms.topic) (plain_image shape r terms.kind terms.topic))
   no_sub_place s (leaves r) h = plain_places (Sub s) (table_puts shape table (leaves r)) (plain_sub_ends (filter (of_sub r) table.subs))
@@ -589,7 +589,7 @@ module _ (shape : Shape) (es : List BridgeEvent) (sofar : List BridgePut) (table
       at false = rw (is_some_by (same_inbox j i) terms h) refl
   no_inbox_place i (joins r terms tag) h = at (has_joined r table)
     where
-      at : (b : Bool) → first_said (created_in (Inbox i)) (cond b [] (to_queue terms.queue (q.Create (slot_for terms.queue table) (Sub r) (make.Sub terms.kind terms.cache) tag) ∷ wants_image shape r terms.kind terms.topic)) ≡ None
+      at : (b : Bool) → first_said (created_in (Inbox i)) (cond b [] (to_queue terms.queue (q.Create (slot_for terms.queue table) (Sub r) (make.Sub terms.kind terms.cache shape.strategy) tag) ∷ wants_image shape r terms.kind terms.topic)) ≡ None
       at true = refl
       at false = plain_places (Inbox i) (wants_image shape r terms.kind terms.topic) (plain_image shape r terms.kind terms.topic)
   no_inbox_place i (leaves r) h = plain_places (Inbox i) (table_puts shape table (leaves r)) (plain_sub_ends (filter (of_sub r) table.subs))

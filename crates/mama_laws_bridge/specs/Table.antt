@@ -198,7 +198,7 @@ closing shape table e =
 abbrev pub table_puts : Shape → Table → BridgeEvent → List BridgePut
 table_puts shape table (joins s terms tag) =
     if has_joined s table then []
-    else to_queue terms.queue (q.Create (slot_for terms.queue table) (Sub s) (make.Sub terms.kind terms.cache) tag) ∷ wants_image shape s terms.kind terms.topic
+    else to_queue terms.queue (q.Create (slot_for terms.queue table) (Sub s) (make.Sub terms.kind terms.cache shape.strategy) tag) ∷ wants_image shape s terms.kind terms.topic
 table_puts shape table (leaves s) = flat_map sub_ends (filter (of_sub s) table.subs)
 table_puts shape table (opens i terms tag) =
     if has_opened i table then [] else to_queue terms.queue (q.Create (slot_for terms.queue table) (Inbox i) make.Inbox tag) ∷ []

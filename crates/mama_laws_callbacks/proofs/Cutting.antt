@@ -170,6 +170,7 @@ module _ (orders : ObjectId → ℕ → List Order) (o : ObjectId) where
   plain_first (on.Quality q n) plain = refl
   plain_first (on.Gap first to) plain = refl
   plain_first (on.RecapRequest sender) plain = refl
+  plain_first (on.Late a k) plain = refl
   plain_first (on.Error e) plain = refl
   plain_first on.Destroy plain = absurd cc
   plain_first (on.Tick t) plain = refl

@@ -32,7 +32,7 @@ use Rattle.mama_rules_legal.specs.HaveStreams.{HaveStreams}
 use Rattle.mama_rules_legal.specs.Legal.{IsLegal}
 use Rattle.mama_laws_legal.specs.Laws.{IsOrderly}
 use Rattle.mama_laws_legal.proofs.LegalRounds.{have_streams}
-use Rattle.mama_laws_callbacks.specs.Told.{call_in, call_of, strategy, ticks_told, replies_told, deeds_on, IsTold, IsToldLink, IsToldTicks, IsToldReplies, IsToldObject, Of, LegalRecordsTellAll}
+use Rattle.mama_laws_callbacks.specs.Told.{call_in, call_of, tells, ticks_told, replies_told, deeds_on, IsTold, IsToldLink, IsToldTicks, IsToldReplies, IsToldObject, Of, LegalRecordsTellAll}
 use Rattle.mama_laws_callbacks.proofs.Telling.{sub_told, sub_at_once, timer_told, timer_at_once, inbox_told, inbox_at_once}
 use Rattle.mama_laws_callbacks.proofs.Joining.{OfClient, PlannedOf, queue_in, timer_queue_in, inbox_queue_in, all_planned}
 
@@ -75,15 +75,15 @@ module _ (script : ScriptData) (run : RunData) (orderly : IsOrderly script) (leg
   told_sub queue s of =
       let terms : SubTerms = of.made.terms in
       let said : terms_of script run s ≡ Some terms = ap (λ (c : ℕ). first_said (terms_put s) (client_puts script run.clients c)) (of.client ∙ omega arith) ∙ of.made.is in
-      let stream : IsSubJournal s terms (window_of s) (journal queue) =
-      subst (λ (k : ℕ). IsSubJournal s terms (window_of s) (journal k)) of.made.there (had.subs.each s terms (inside s.client of.place of.client of.within) said) in
+      let stream : IsSubJournal script.shape.strategy s terms (window_of s) (journal queue) =
+      subst (λ (k : ℕ). IsSubJournal script.shape.strategy s terms (window_of s) (journal k)) of.made.there (had.subs.each s terms (inside s.client of.place of.client of.within) said) in
       record {
         terms = terms;
         joined = said;
         there = of.made.there;
-        told = subst (IsTold (Sub s) (strategy terms.kind terms.cache (through terms.faults (window_of s))) (deeds_on script run queue)) (sym (calls_noted (notes_of queue (Sub s))))
-            (sub_told (orders_by (setting_of script)) s terms.kind terms.cache stream.slot stream.tag (through terms.faults (window_of s)) (journal queue) stream.whole);
-        at_once = sub_at_once (orders_by (setting_of script)) s terms.kind terms.cache (journal queue);
+        told = subst (IsTold (Sub s) (tells script.shape.strategy terms.kind terms.cache (through terms.faults (window_of s))) (deeds_on script run queue)) (sym (calls_noted (notes_of queue (Sub s))))
+            (sub_told (orders_by (setting_of script)) s script.shape.strategy terms.kind terms.cache stream.slot stream.tag (through terms.faults (window_of s)) (journal queue) stream.whole);
+        at_once = sub_at_once (orders_by (setting_of script)) s script.shape.strategy terms.kind terms.cache (journal queue);
       }
 
   told_timer : (queue : ℕ) (t : TimerId) → OfClient timer_queue_in (arming_put t) 0 (length script.clients) t.client steps queue → IsToldTicks script run queue t (map noted (notes_of queue (Timer t)))

@@ -13,6 +13,7 @@ use Rattle.mama_event.specs.declared.ids.ObjectId.{ObjectId}
 use Rattle.mama_event.specs.declared.ids.ObjectId.TheVariants.{Sub, Timer, Inbox}
 use Rattle.mama_event.specs.declared.market.MarketMsg.{MarketMsg}
 use Rattle.mama_event.specs.declared.market.SubKind.{SubKind}
+use Rattle.mama_event.specs.declared.shape.Strategy.{Strategy}
 use Rattle.mama_event.specs.declared.callback.Callback.{Callback}
 use Rattle.mama_event.specs.declared.callback.Callback.TheVariants as on
 use Rattle.mama_event.specs.declared.order.Order.{Order}
@@ -28,7 +29,7 @@ use Rattle.mama_dispatch.proofs.CallBound.{calls_plain}
 use Rattle.mama_dispatch.proofs.DeedLemmas.{muted_handled, same_object-refl}
 use Rattle.mama_rules_legal.specs.Streams.{is_of, events_of}
 use Rattle.mama_laws_genuine.proofs.Handled.{none_made}
-use Rattle.mama_laws_callbacks.specs.Told.{told_in, strategy, ticks_told, replies_told, IsTold, TellsAtOnce}
+use Rattle.mama_laws_callbacks.specs.Told.{told_in, tells, ticks_told, replies_told, IsTold, TellsAtOnce}
 use Rattle.mama_laws_callbacks.proofs.Cutting.{told_append, Live, live_open, live_muted, live_one, told_by_journal, told_at_once}
 
 -- ---- what the strategy makes of one message more
@@ -40,8 +41,8 @@ calls_flat c xs m =
     ∙ flat_map-append (λ (calls : List Callback). calls) (calls_after c xs) (callbacks_of (after_all c xs) m ∷ [])
     ∙ ap (λ (cs : List Callback). flat_map (λ (calls : List Callback). calls) (calls_after c xs) ++ cs) (append-nil (callbacks_of (after_all c xs) m))
 
-strategy_more : (kind : SubKind) (size : ℕ) (xs : List MarketMsg) (m : MarketMsg) → strategy kind size (xs ++ m ∷ []) ≡ strategy kind size xs ++ callbacks_of (fold kind size xs) m
-strategy_more kind size xs m = calls_flat (new_context kind size) xs m
+tells_more : (strategy : Strategy) (kind : SubKind) (size : ℕ) (xs : List MarketMsg) (m : MarketMsg) → tells strategy kind size (xs ++ m ∷ []) ≡ tells strategy kind size xs ++ callbacks_of (fold strategy kind size xs) m
+tells_more strategy kind size xs m = calls_flat (new_context strategy kind size) xs m
 
 -- ---- subscriptions
 
@@ -74,10 +75,10 @@ module _ (orders : ObjectId → ℕ → List Order) (s : SubId) where
   starts_handled sofar os known = flat_map-append (messages_in s) sofar (called (Sub s) on.Create os ∷ []) ∙ ap (λ (ms : List MarketMsg). ms ++ []) known
 
   -- a message of its own
-  module _ (kind : SubKind) (size slot : ℕ) (msgs : List MarketMsg) (m : MarketMsg) (before : List (ℕ × QueueNote)) (sofar : List Deed)
-      (said : first_said (λ (e : ℕ × QueueNote). make_in (Sub s) e.1) before ≡ Some (make.Sub kind size)) where
+  module _ (strategy : Strategy) (kind : SubKind) (size slot : ℕ) (msgs : List MarketMsg) (m : MarketMsg) (before : List (ℕ × QueueNote)) (sofar : List Deed)
+      (said : first_said (λ (e : ℕ × QueueNote). make_in (Sub s) e.1) before ≡ Some (make.Sub kind size strategy)) where
     abbrev step_calls : List Callback
-    step_calls = callbacks_of (fold kind size msgs) m
+    step_calls = callbacks_of (fold strategy kind size msgs) m
 
     abbrev taken : List Deed
     taken = sofar ++ handled s m ∷ []
@@ -92,7 +93,7 @@ module _ (orders : ObjectId → ℕ → List Order) (s : SubId) where
         let calls : List Callback = callbacks_of (context_of (first_said (λ (e : ℕ × QueueNote). make_in (Sub s) e.1) before) (messages_of s sofar)) m in
         ap (λ (b : Bool). sofar ++ (if b then [] else (handled s m ∷ made orders (Sub s) (sofar ++ handled s m ∷ []) calls))) live
         ∙ ap (λ (o : Option Make). sofar ++ handled s m ∷ made orders (Sub s) taken (callbacks_of (context_of o (messages_of s sofar)) m)) said
-        ∙ ap (λ (ms : List MarketMsg). sofar ++ handled s m ∷ made orders (Sub s) taken (callbacks_of (fold kind size ms) m)) known
+        ∙ ap (λ (ms : List MarketMsg). sofar ++ handled s m ∷ made orders (Sub s) taken (callbacks_of (fold strategy kind size ms) m)) known
         ∙ sym (append_assoc sofar (handled s m ∷ []) (made orders (Sub s) taken step_calls))
 
     handled_more : HasHandled msgs sofar → HasHandled (msgs ++ m ∷ []) (taken ++ made orders (Sub s) taken step_calls)
@@ -104,31 +105,31 @@ module _ (orders : ObjectId → ℕ → List Order) (s : SubId) where
         ∙ ap (λ (ms : List MarketMsg). ms ++ messages_of s (handled s m ∷ [])) known
         ∙ ap (λ (b : Bool). msgs ++ ((if b then m ∷ [] else []) ++ [])) (same_object-refl (Sub s))
 
-    own_message : Live orders (Sub s) (HasHandled msgs) (strategy kind size msgs) sofar
-        → Live orders (Sub s) (HasHandled (msgs ++ m ∷ [])) (strategy kind size (msgs ++ m ∷ [])) (sofar ++ served orders before sofar (q.Deliver slot s m))
+    own_message : Live orders (Sub s) (HasHandled msgs) (tells strategy kind size msgs) sofar
+        → Live orders (Sub s) (HasHandled (msgs ++ m ∷ [])) (tells strategy kind size (msgs ++ m ∷ [])) (sofar ++ served orders before sofar (q.Deliver slot s m))
     own_message live =
-        subst (λ (cs : List Callback). Live orders (Sub s) (HasHandled (msgs ++ m ∷ [])) cs (sofar ++ served orders before sofar (q.Deliver slot s m))) (sym (strategy_more kind size msgs m))
+        subst (λ (cs : List Callback). Live orders (Sub s) (HasHandled (msgs ++ m ∷ [])) cs (sofar ++ served orders before sofar (q.Deliver slot s m))) (sym (tells_more strategy kind size msgs m))
         (⊎_elim
-        (λ h. subst (Live orders (Sub s) (HasHandled (msgs ++ m ∷ [])) (strategy kind size msgs ++ step_calls)) (sym (own_open h.1.0 h.1.1))
-        (live_open orders (Sub s) (HasHandled msgs) (HasHandled (msgs ++ m ∷ [])) (strategy kind size msgs) step_calls sofar taken live h.0
+        (λ h. subst (Live orders (Sub s) (HasHandled (msgs ++ m ∷ [])) (tells strategy kind size msgs ++ step_calls)) (sym (own_open h.1.0 h.1.1))
+        (live_open orders (Sub s) (HasHandled msgs) (HasHandled (msgs ++ m ∷ [])) (tells strategy kind size msgs) step_calls sofar taken live h.0
         (told_append orders (Sub s) sofar (handled s m ∷ []) ∙ append-nil (told_in (Sub s) sofar))
-        (muted_handled (Sub s) sofar s m ∙ h.1.0) (calls_plain (fold kind size msgs) m) (handled_more h.1.1)))
-        (λ h. subst (λ (ds : List Deed). Live orders (Sub s) (HasHandled (msgs ++ m ∷ [])) (strategy kind size msgs ++ step_calls) (sofar ++ ds)) (sym (own_muted h.1))
-        (subst (Live orders (Sub s) (HasHandled (msgs ++ m ∷ [])) (strategy kind size msgs ++ step_calls)) (sym (append-nil sofar))
-        (live_muted orders (Sub s) (HasHandled msgs) (HasHandled (msgs ++ m ∷ [])) (strategy kind size msgs) step_calls sofar live h.0 h.1)))
+        (muted_handled (Sub s) sofar s m ∙ h.1.0) (calls_plain (fold strategy kind size msgs) m) (handled_more h.1.1)))
+        (λ h. subst (λ (ds : List Deed). Live orders (Sub s) (HasHandled (msgs ++ m ∷ [])) (tells strategy kind size msgs ++ step_calls) (sofar ++ ds)) (sym (own_muted h.1))
+        (subst (Live orders (Sub s) (HasHandled (msgs ++ m ∷ [])) (tells strategy kind size msgs ++ step_calls)) (sym (append-nil sofar))
+        (live_muted orders (Sub s) (HasHandled msgs) (HasHandled (msgs ++ m ∷ [])) (tells strategy kind size msgs) step_calls sofar live h.0 h.1)))
         live.stands)
 
-  pub sub_told : (kind : SubKind) (size slot : ℕ) (tag : ObjectId) (msgs : List MarketMsg) (journal : List (ℕ × QueueNote))
-      → events_of (Sub s) journal ≡ q.Create slot (Sub s) (make.Sub kind size) tag ∷ (map (λ (m : MarketMsg). q.Deliver slot s m) msgs ++ q.Gone slot (Sub s) ∷ [])
-      → IsTold (Sub s) (strategy kind size msgs) (deeds orders journal) (told_in (Sub s) (deeds orders journal))
-  sub_told kind size slot tag msgs journal events =
-      told_by_journal orders (Sub s) (make.Sub kind size) (λ (m : MarketMsg). q.Deliver slot s m) (strategy kind size) HasHandled refl
-      keeps_handled starts_handled (own_message kind size slot) slot tag msgs journal refl events
+  pub sub_told : (strategy : Strategy) (kind : SubKind) (size slot : ℕ) (tag : ObjectId) (msgs : List MarketMsg) (journal : List (ℕ × QueueNote))
+      → events_of (Sub s) journal ≡ q.Create slot (Sub s) (make.Sub kind size strategy) tag ∷ (map (λ (m : MarketMsg). q.Deliver slot s m) msgs ++ q.Gone slot (Sub s) ∷ [])
+      → IsTold (Sub s) (tells strategy kind size msgs) (deeds orders journal) (told_in (Sub s) (deeds orders journal))
+  sub_told strategy kind size slot tag msgs journal events =
+      told_by_journal orders (Sub s) (make.Sub kind size strategy) (λ (m : MarketMsg). q.Deliver slot s m) (tells strategy kind size) HasHandled refl
+      keeps_handled starts_handled (own_message strategy kind size slot) slot tag msgs journal refl events
 
-  pub sub_at_once : (kind : SubKind) (size : ℕ) (journal : List (ℕ × QueueNote)) → TellsAtOnce (Sub s) (make.Sub kind size) (λ slot m. q.Deliver slot s m) (strategy kind size) orders journal
-  sub_at_once kind size journal front back slot tag msgs cut events free =
-      told_at_once orders (Sub s) (make.Sub kind size) (λ (m : MarketMsg). q.Deliver slot s m) (strategy kind size) HasHandled refl
-      keeps_handled starts_handled (own_message kind size slot) slot tag msgs front refl events free
+  pub sub_at_once : (strategy : Strategy) (kind : SubKind) (size : ℕ) (journal : List (ℕ × QueueNote)) → TellsAtOnce (Sub s) (make.Sub kind size strategy) (λ slot m. q.Deliver slot s m) (tells strategy kind size) orders journal
+  sub_at_once strategy kind size journal front back slot tag msgs cut events free =
+      told_at_once orders (Sub s) (make.Sub kind size strategy) (λ (m : MarketMsg). q.Deliver slot s m) (tells strategy kind size) HasHandled refl
+      keeps_handled starts_handled (own_message strategy kind size slot) slot tag msgs front refl events free
 
 -- ---- timers and inboxes
 

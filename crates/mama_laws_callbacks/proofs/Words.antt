@@ -5,19 +5,21 @@ use Rattle.std.proofs.Common.{◌≡◌, ◌⊎◌, ⊎_elim, ℕ, ◌==◌, Boo
 use Rattle.mama_msg.specs.Field.{FieldData}
 use Rattle.mama_event.specs.declared.market.MarketMsg.{MarketMsg}
 use Rattle.mama_event.specs.declared.market.SubKind.{SubKind}
+use Rattle.mama_event.specs.declared.shape.Strategy.{Strategy}
+use Rattle.mama_event.specs.declared.shape.Strategy.TheVariants.{One, Two}
 use Rattle.mama_event.specs.declared.market.SubKind.TheVariants.{Market, Snapshot}
 use Rattle.mama_event.specs.declared.market.Quality.{Quality}
 use Rattle.mama_event.specs.declared.market.Quality.TheVariants as quality
 use Rattle.mama_event.specs.declared.callback.Callback.{Callback}
 use Rattle.mama_event.specs.declared.callback.Callback.TheVariants as on
 use Rattle.mama_dq.specs.declared.table.Phase.{Phase}
-use Rattle.mama_dq.specs.declared.table.Phase.TheVariants.{Await, LiveOk, LiveStale}
+use Rattle.mama_dq.specs.declared.table.Phase.TheVariants.{Await, LiveOk, LiveStale, LiveKept}
 use Rattle.mama_dq.specs.declared.table.Relation.{Relation}
 use Rattle.mama_dq.specs.declared.table.Relation.TheVariants.{Next, Same, Old, Ahead, Other}
 use Rattle.mama_dq.specs.Table.{is_update, decided, relation_of}
-use Rattle.mama_dq.specs.Cache.{Reached, reached}
+use Rattle.mama_dq.specs.Cache.{Reached, reached, above, put, emptied}
 use Rattle.mama_dq.specs.Context.{ContextData, new_context, quality_in}
-use Rattle.mama_dq.specs.Strategy.{Step, if_ok, stale_calls, switch_calls, adopt_calls, updated, update_acted, acted, as_message, handled, cached_above, healed, reached_last, stopped_short, waiting_for, with_image_of, turned_to, snapshot_acted, step_by, after, after_all, callbacks_of, calls_after}
+use Rattle.mama_dq.specs.Strategy.{Step, ok_with, settled, with_update, caught, if_ok, stale_calls, switch_calls, adopt_calls, updated, update_acted, acted, as_message, handled, cached_above, healed, reached_last, stopped_short, waiting_for, with_image_of, turned_to, snapshot_acted, step_by, after, after_all, callbacks_of, calls_after}
 use Rattle.mama_dq.proofs.SameKind.{after_kind}
 use Rattle.mama_laws_callbacks.specs.Word.{last_word, LastWordsAreTrue}
 
@@ -28,6 +30,7 @@ word_append q (on.Quality r n ∷ xs) ys = word_append r xs ys
 word_append q (on.Create ∷ xs) ys = word_append q xs ys
 word_append q (on.Gap first to ∷ xs) ys = word_append q xs ys
 word_append q (on.RecapRequest sender ∷ xs) ys = word_append q xs ys
+word_append q (on.Late sender seq ∷ xs) ys = word_append q xs ys
 word_append q (on.Error code ∷ xs) ys = word_append q xs ys
 word_append q (on.Destroy ∷ xs) ys = word_append q xs ys
 word_append q (on.Tick moment ∷ xs) ys = word_append q xs ys
@@ -51,27 +54,46 @@ adopt_last : (q : Quality) (p : Phase) (m : MarketMsg) → last_word q (adopt_ca
 adopt_last q Await m = refl
 adopt_last q LiveOk m = refl
 adopt_last q LiveStale m = refl
+adopt_last q LiveKept m = refl
+
+-- ---- the image as the record again
+
+-- what is kept for a gap or not, the image is ok
+settled_ok : (c : ContextData) → quality.Ok ≡ quality_in (settled c).phase
+settled_ok c = elim (above c.last c.cache.updates) as (λ (es : List (ℕ × List FieldData)). quality.Ok ≡ quality_in (ok_with es)) [ [] ↦ refl | e ∷ es ↦ refl ]
 
 -- ---- updates while there is an image
 
-update_true : (p : Phase) (r : Relation) (c : ContextData) (m : MarketMsg) → c.phase ≡ p → IsTrue p (update_acted (decided p r true) c m)
-update_true Await r c m at = record { word = ap quality_in (sym at) }
-update_true LiveOk Next c m at = record { word = refl }
-update_true LiveOk Same c m at = record { word = ap quality_in (sym at) }
-update_true LiveOk Old c m at = record { word = ap quality_in (sym at) }
-update_true LiveOk Ahead c m at = record { word = stale_last quality.Ok c.phase c.sender c.last m }
-update_true LiveOk Other c m at = record { word = switch_last quality.Ok c.phase c.last m }
-update_true LiveStale Next c m at = record { word = refl }
-update_true LiveStale Same c m at = record { word = ap quality_in (sym at) }
-update_true LiveStale Old c m at = record { word = ap quality_in (sym at) }
-update_true LiveStale Ahead c m at = record { word = stale_last quality.Stale c.phase c.sender c.last m }
-update_true LiveStale Other c m at = record { word = switch_last quality.Stale c.phase c.last m }
+update_true : (s : Strategy) (p : Phase) (r : Relation) (c : ContextData) (m : MarketMsg) → c.phase ≡ p → IsTrue p (update_acted (decided s p r true) c m)
+update_true s Await r c m at = record { word = ap quality_in (sym at) }
+update_true s LiveOk Next c m at = record { word = settled_ok (with_update LiveOk c m) }
+update_true One LiveOk Same c m at = record { word = ap quality_in (sym at) }
+update_true Two LiveOk Same c m at = record { word = ap quality_in (sym at) }
+update_true One LiveOk Old c m at = record { word = ap quality_in (sym at) }
+update_true Two LiveOk Old c m at = record { word = ap quality_in (sym at) }
+update_true s LiveOk Ahead c m at = record { word = stale_last quality.Ok c.phase c.sender c.last m }
+update_true s LiveOk Other c m at = record { word = switch_last quality.Ok c.phase c.last m }
+update_true s LiveStale Next c m at = record { word = refl }
+update_true One LiveStale Same c m at = record { word = ap quality_in (sym at) }
+update_true Two LiveStale Same c m at = record { word = ap quality_in (sym at) }
+update_true One LiveStale Old c m at = record { word = ap quality_in (sym at) }
+update_true Two LiveStale Old c m at = record { word = ap quality_in (sym at) }
+update_true s LiveStale Ahead c m at = record { word = stale_last quality.Stale c.phase c.sender c.last m }
+update_true s LiveStale Other c m at = record { word = switch_last quality.Stale c.phase c.last m }
+update_true s LiveKept Next c m at = record { word = settled_ok (with_update LiveOk c m) }
+update_true One LiveKept Same c m at = record { word = ap quality_in (sym at) }
+update_true Two LiveKept Same c m at = record { word = ap quality_in (sym at) }
+update_true One LiveKept Old c m at = record { word = ap quality_in (sym at) }
+update_true Two LiveKept Old c m at = record { word = ap quality_in (sym at) }
+update_true One LiveKept Ahead c m at = record { word = stale_last quality.Ok c.phase c.sender c.last m }
+update_true Two LiveKept Ahead c m at = record { word = ap quality_in (sym at) }
+update_true s LiveKept Other c m at = record { word = switch_last quality.Ok c.phase c.last m }
 
 handled_true : (es : List (ℕ × List FieldData)) (c : ContextData) → IsTrue c.phase (handled c es)
 handled_true [] c = record { word = refl }
 handled_true (e ∷ es) c =
     let first : Step = updated c (as_message c.sender e) in
-    let one : IsTrue c.phase first = update_true c.phase (relation_of c.sender c.last (as_message c.sender e)) c (as_message c.sender e) refl in
+    let one : IsTrue c.phase first = update_true c.strategy c.phase (relation_of c.sender c.last (as_message c.sender e)) c (as_message c.sender e) refl in
     let rest : IsTrue first.context.phase (handled first.context es) = handled_true es first.context in
     record {
       word = word_append (quality_in c.phase) first.calls (handled first.context es).calls
@@ -92,41 +114,63 @@ healed_true r c m at = elim (nat_le c.last r.number) as (λ (b : Bool). IsTrue L
   | false ↦ record { word = ap quality_in (sym at) }
 ]
 
-image_true : (p : Phase) (r : Relation) (c : ContextData) (m : MarketMsg) → c.phase ≡ p → IsTrue p (acted (decided p r false) c m)
-image_true Await r c m at = record { word = (handled_true (cached_above c m) (with_image_of m (turned_to m.sender c))).word }
-image_true LiveOk Next c m at = record { word = refl }
-image_true LiveOk Same c m at = record { word = refl }
-image_true LiveOk Old c m at = record { word = ap quality_in (sym at) }
-image_true LiveOk Ahead c m at = record { word = refl }
-image_true LiveOk Other c m at = record { word = adopt_last quality.Ok c.phase m }
-image_true LiveStale Next c m at = healed_true (reached c.cache.updates m.seq m.body) c m at
-image_true LiveStale Same c m at = healed_true (reached c.cache.updates m.seq m.body) c m at
-image_true LiveStale Old c m at = healed_true (reached c.cache.updates m.seq m.body) c m at
-image_true LiveStale Ahead c m at = healed_true (reached c.cache.updates m.seq m.body) c m at
-image_true LiveStale Other c m at = record { word = adopt_last quality.Stale c.phase m }
+caught_true : (c : ContextData) (m : MarketMsg) → c.phase ≡ LiveKept → IsTrue LiveKept (caught c m)
+caught_true c m at = record { word = (handled_true (put c.cache.updates m.seq m.body) (record c { phase = LiveOk; cache = emptied c.cache })).word }
 
-message_true : (p : Phase) (r : Relation) (c : ContextData) (m : MarketMsg) → c.phase ≡ p → IsTrue p (acted (decided p r true) c m)
-message_true Await r c m at = record { word = kept_true c m at }
-message_true LiveOk Next c m at = update_true LiveOk Next c m at
-message_true LiveOk Same c m at = update_true LiveOk Same c m at
-message_true LiveOk Old c m at = update_true LiveOk Old c m at
-message_true LiveOk Ahead c m at = update_true LiveOk Ahead c m at
-message_true LiveOk Other c m at = update_true LiveOk Other c m at
-message_true LiveStale Next c m at = update_true LiveStale Next c m at
-message_true LiveStale Same c m at = update_true LiveStale Same c m at
-message_true LiveStale Old c m at = update_true LiveStale Old c m at
-message_true LiveStale Ahead c m at = update_true LiveStale Ahead c m at
-message_true LiveStale Other c m at = update_true LiveStale Other c m at
+image_true : (s : Strategy) (p : Phase) (r : Relation) (c : ContextData) (m : MarketMsg) → c.phase ≡ p → IsTrue p (acted (decided s p r false) c m)
+image_true One Await r c m at = record { word = (handled_true (cached_above c m) (with_image_of m (turned_to m.sender c))).word }
+image_true Two Await r c m at = record { word = settled_ok (with_image_of m (waiting_for m.sender c)) }
+image_true s LiveOk Next c m at = record { word = settled_ok (with_image_of m c) }
+image_true s LiveOk Same c m at = record { word = settled_ok (with_image_of m c) }
+image_true s LiveOk Old c m at = record { word = ap quality_in (sym at) }
+image_true s LiveOk Ahead c m at = record { word = settled_ok (with_image_of m c) }
+image_true s LiveOk Other c m at = record { word = adopt_last quality.Ok c.phase m }
+image_true s LiveStale Next c m at = healed_true (reached c.cache.updates m.seq m.body) c m at
+image_true s LiveStale Same c m at = healed_true (reached c.cache.updates m.seq m.body) c m at
+image_true s LiveStale Old c m at = healed_true (reached c.cache.updates m.seq m.body) c m at
+image_true s LiveStale Ahead c m at = healed_true (reached c.cache.updates m.seq m.body) c m at
+image_true s LiveStale Other c m at = record { word = adopt_last quality.Stale c.phase m }
+image_true s LiveKept Next c m at = record { word = settled_ok (with_image_of m c) }
+image_true s LiveKept Same c m at = record { word = settled_ok (with_image_of m c) }
+image_true s LiveKept Old c m at = record { word = ap quality_in (sym at) }
+image_true s LiveKept Ahead c m at = record { word = settled_ok (with_image_of m c) }
+image_true s LiveKept Other c m at = record { word = adopt_last quality.Ok c.phase m }
 
-market_true : (update : Bool) (c : ContextData) (m : MarketMsg) → IsTrue c.phase (acted (decided c.phase (relation_of c.sender c.last m) update) c m)
-market_true true c m = message_true c.phase (relation_of c.sender c.last m) c m refl
-market_true false c m = image_true c.phase (relation_of c.sender c.last m) c m refl
+message_true : (s : Strategy) (p : Phase) (r : Relation) (c : ContextData) (m : MarketMsg) → c.phase ≡ p → IsTrue p (acted (decided s p r true) c m)
+message_true s Await r c m at = record { word = kept_true c m at }
+message_true s LiveOk Next c m at = update_true s LiveOk Next c m at
+message_true One LiveOk Same c m at = update_true One LiveOk Same c m at
+message_true Two LiveOk Same c m at = update_true Two LiveOk Same c m at
+message_true One LiveOk Old c m at = update_true One LiveOk Old c m at
+message_true Two LiveOk Old c m at = update_true Two LiveOk Old c m at
+message_true s LiveOk Ahead c m at = update_true s LiveOk Ahead c m at
+message_true s LiveOk Other c m at = update_true s LiveOk Other c m at
+message_true s LiveStale Next c m at = update_true s LiveStale Next c m at
+message_true One LiveStale Same c m at = update_true One LiveStale Same c m at
+message_true Two LiveStale Same c m at = update_true Two LiveStale Same c m at
+message_true One LiveStale Old c m at = update_true One LiveStale Old c m at
+message_true Two LiveStale Old c m at = update_true Two LiveStale Old c m at
+message_true s LiveStale Ahead c m at = update_true s LiveStale Ahead c m at
+message_true s LiveStale Other c m at = update_true s LiveStale Other c m at
+message_true s LiveKept Next c m at = update_true s LiveKept Next c m at
+message_true One LiveKept Same c m at = update_true One LiveKept Same c m at
+message_true Two LiveKept Same c m at = update_true Two LiveKept Same c m at
+message_true One LiveKept Old c m at = update_true One LiveKept Old c m at
+message_true Two LiveKept Old c m at = update_true Two LiveKept Old c m at
+message_true One LiveKept Ahead c m at = update_true One LiveKept Ahead c m at
+message_true Two LiveKept Ahead c m at = caught_true c m at
+message_true s LiveKept Other c m at = update_true s LiveKept Other c m at
+
+market_true : (update : Bool) (c : ContextData) (m : MarketMsg) → IsTrue c.phase (acted (decided c.strategy c.phase (relation_of c.sender c.last m) update) c m)
+market_true true c m = message_true c.strategy c.phase (relation_of c.sender c.last m) c m refl
+market_true false c m = image_true c.strategy c.phase (relation_of c.sender c.last m) c m refl
 
 snapshot_true : (p : Phase) (update : Bool) (c : ContextData) (m : MarketMsg) → c.phase ≡ p → IsTrue p (snapshot_acted p update c m)
 snapshot_true Await false c m at = record { word = refl }
 snapshot_true Await true c m at = record { word = ap quality_in (sym at) }
 snapshot_true LiveOk update c m at = record { word = ap quality_in (sym at) }
 snapshot_true LiveStale update c m at = record { word = ap quality_in (sym at) }
+snapshot_true LiveKept update c m at = record { word = ap quality_in (sym at) }
 
 -- ---- a list of messages
 
@@ -149,4 +193,4 @@ all_true (m ∷ messages) c has =
     ∙ all_true messages (after c m) (subst HasImages (sym (after_kind c m)) has)
 
 pub last_words_are_true : LastWordsAreTrue
-last_words_are_true kind size messages has = all_true messages (new_context kind size) has
+last_words_are_true strategy kind size messages has = all_true messages (new_context strategy kind size) has

@@ -11,13 +11,13 @@ use Rattle.mama_rules_legal.specs.Streams.{terms_of}
 use Rattle.mama_rules_legal.specs.Legal.{IsLegal}
 use Rattle.mama_laws_legal.specs.Laws.{IsOrderly}
 use Rattle.mama_laws_genuine.specs.CalmLinks.{HasPlainLink}
-use Rattle.mama_laws_callbacks.specs.Told.{strategy}
+use Rattle.mama_laws_callbacks.specs.Told.{tells}
 
 -- The strategy makes of what its link lets through just the messages that were sent into it from the first image on, each
 -- called back once and as ok.
 pub record IsToldPlainly (script : ScriptData) (run : RunData) (s : SubId) (link : HasPlainLink script s) : Type 0 where
   pub joined : terms_of script run s ≡ Some link.terms
-  pub whole : strategy link.terms.kind link.terms.cache (through link.terms.faults (window script.shape s (heard script.shape run.bridge)))
+  pub whole : tells script.shape.strategy link.terms.kind link.terms.cache (through link.terms.faults (window script.shape s (heard script.shape run.bridge)))
       ≡ map as_ok (from_first_image (window script.shape s (heard script.shape run.bridge)))
 
 -- so it is with each market subscription that has a plain link

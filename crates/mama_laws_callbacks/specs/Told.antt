@@ -10,6 +10,7 @@ use Rattle.mama_event.specs.declared.ids.ObjectId.{ObjectId}
 use Rattle.mama_event.specs.declared.ids.ObjectId.TheVariants.{Sub, Timer, Inbox}
 use Rattle.mama_event.specs.declared.market.MarketMsg.{MarketMsg}
 use Rattle.mama_event.specs.declared.market.SubKind.{SubKind}
+use Rattle.mama_event.specs.declared.shape.Strategy.{Strategy}
 use Rattle.mama_event.specs.declared.callback.Callback.{Callback}
 use Rattle.mama_event.specs.declared.callback.Callback.TheVariants as on
 use Rattle.mama_event.specs.declared.callback.CallNote.{CallNote}
@@ -76,9 +77,9 @@ TellsAtOnce {X} o how note whole orders journal = (front back : List (ℕ × Que
     → events_of o front ≡ q.Create slot o how tag ∷ map (note slot) xs → is_muted o (deeds orders front) ≡ false
     → told_in o (deeds orders front) ≡ on.Create ∷ whole xs
 
--- what the strategy makes of some messages: the callbacks of each, in order
-abbrev pub strategy : SubKind → ℕ → List MarketMsg → List Callback
-strategy kind size messages = flat_map (λ (calls : List Callback). calls) (calls_of_fold kind size messages)
+-- what a strategy makes of some messages: the callbacks of each, in order
+abbrev pub tells : Strategy → SubKind → ℕ → List MarketMsg → List Callback
+tells strategy kind size messages = flat_map (λ (calls : List Callback). calls) (calls_of_fold strategy kind size messages)
 
 abbrev pub ticks_told : List ℕ → List Callback
 ticks_told moments = map (λ m. on.Tick m) moments
@@ -101,9 +102,9 @@ pub record IsToldLink (script : ScriptData) (run : RunData) (queue : ℕ) (s : S
   pub terms : SubTerms
   pub joined : terms_of script run s ≡ Some terms
   pub there : terms.queue ≡ queue
-  pub told : IsTold (Sub s) (strategy terms.kind terms.cache (through terms.faults (window script.shape s (heard script.shape run.bridge))))
+  pub told : IsTold (Sub s) (tells script.shape.strategy terms.kind terms.cache (through terms.faults (window script.shape s (heard script.shape run.bridge))))
       (deeds_on script run queue) (map call_of calls)
-  pub at_once : TellsAtOnce (Sub s) (make.Sub terms.kind terms.cache) (λ slot m. q.Deliver slot s m) (strategy terms.kind terms.cache)
+  pub at_once : TellsAtOnce (Sub s) (make.Sub terms.kind terms.cache script.shape.strategy) (λ slot m. q.Deliver slot s m) (tells script.shape.strategy terms.kind terms.cache)
       (orders_by (setting_of script)) (slice_index_or run.queues queue [])
 
 -- With these a timer is told its ticks.

@@ -2,6 +2,7 @@
 use Rattle.std.specs.Prelude.{◌≡◌, ◌⊎◌, ℕ, List, [], ◌∷◌}
 use Rattle.mama_event.specs.declared.market.MarketMsg.{MarketMsg}
 use Rattle.mama_event.specs.declared.market.SubKind.{SubKind}
+use Rattle.mama_event.specs.declared.shape.Strategy.{Strategy}
 use Rattle.mama_event.specs.declared.market.SubKind.TheVariants.{Market, Snapshot}
 use Rattle.mama_event.specs.declared.market.Quality.{Quality}
 use Rattle.mama_event.specs.declared.market.Quality.TheVariants.{Stale}
@@ -9,7 +10,7 @@ use Rattle.mama_event.specs.declared.callback.Callback.{Callback}
 use Rattle.mama_event.specs.declared.callback.Callback.TheVariants as on
 use Rattle.mama_dq.specs.Context.{quality_in}
 use Rattle.mama_dq.specs.Strategy.{fold}
-use Rattle.mama_laws_callbacks.specs.Told.{strategy}
+use Rattle.mama_laws_callbacks.specs.Told.{tells}
 
 -- the quality that the last of some callbacks told, where another was told before them
 abbrev pub last_word : Quality → List Callback → Quality
@@ -19,13 +20,14 @@ last_word before (on.Quality quality n ∷ calls) = last_word quality calls
 last_word before (on.Create ∷ calls) = last_word before calls
 last_word before (on.Gap first to ∷ calls) = last_word before calls
 last_word before (on.RecapRequest sender ∷ calls) = last_word before calls
+last_word before (on.Late sender seq ∷ calls) = last_word before calls
 last_word before (on.Error code ∷ calls) = last_word before calls
 last_word before (on.Destroy ∷ calls) = last_word before calls
 last_word before (on.Tick moment ∷ calls) = last_word before calls
 last_word before (on.Reply body ∷ calls) = last_word before calls
 
--- Whatever messages a market or a snapshot subscription handled, in whatever order, the last word that the strategy has on
+-- Whatever messages a market or a snapshot subscription handled, in whatever order, the last word that its strategy has on
 -- quality is the quality of the image that it then has. Without an image that is stale.
 abbrev pub LastWordsAreTrue : Type 0
-LastWordsAreTrue = (kind : SubKind) (size : ℕ) (messages : List MarketMsg) → (kind ≡ Market) ⊎ (kind ≡ Snapshot)
-    → last_word Stale (strategy kind size messages) ≡ quality_in (fold kind size messages).phase
+LastWordsAreTrue = (strategy : Strategy) (kind : SubKind) (size : ℕ) (messages : List MarketMsg) → (kind ≡ Market) ⊎ (kind ≡ Snapshot)
+    → last_word Stale (tells strategy kind size messages) ≡ quality_in (fold strategy kind size messages).phase

@@ -19,25 +19,8 @@ use Rattle.mama_rules_services.specs.Timers as timing
 use Rattle.mama_rules_services.specs.Ports.{bridge_putter, timers_putter}
 use Rattle.mama_laws_legal.proofs.Heard.{is_client_done, who_ends_client, below_at, settled_client}
 use Rattle.mama_laws_legal.proofs.Endings.{ending_settles}
+use Rattle.mama_rules_services.proofs.CameBy.{came_by, cond_off}
 use Rattle.mama_rules_services.proofs.PutterPorts.{by_bridge_port, by_timers_port}
-
--- what passes a test by its meaning came by the port that alone can put it
-came_by : {N E : Type 0} (say : ℕ → N → E) (k : ℕ) (n : N → Bool) (test : E → Bool) → ((port : ℕ) (note : N) → test (say port note) ≡ true → (port ≡ k) × (n note ≡ true))
-    → (journal : List (ℕ × N)) → list_any test (map (λ e. say e.0 e.1) journal) ≡ true → list_any n (by_port k journal) ≡ true
-came_by say k n test means [] h = absurd (both_ways false refl h)
-came_by say k n test means (e ∷ es) h = ⊎_elim
-    (λ here. let parts = means e.0 e.1 here in
-    ap (λ (b : Bool). list_any n (cond b (e.1 ∷ by_port k es) (by_port k es))) (eq-eqb e.0 k parts.0) ∙ or_left (n e.1) (list_any n (by_port k es)) parts.1)
-    (λ later. either (e.0 == k) (came_by say k n test means es later))
-    (or_cases (test (say e.0 e.1)) (list_any test (map (λ e. say e.0 e.1) es)) h)
-  where
-    either : (b : Bool) → list_any n (by_port k es) ≡ true → list_any n (cond b (e.1 ∷ by_port k es) (by_port k es)) ≡ true
-    either true h = or_right (n e.1) (list_any n (by_port k es)) h
-    either false h = h
-
-cond_off : {X : Type 0} (test : X → Bool) (b : Bool) (x y : X) → test x ≡ false → test y ≡ false → test (cond b x y) ≡ false
-cond_off test true x y h g = h
-cond_off test false x y h g = g
 
 -- ---- the bridge
 

@@ -106,7 +106,7 @@ module _ (script : ScriptData) (run : RunData) (orderly : IsOrderly script) (is 
     given_sub : IsGivenAll (taken s) (was_muted (setting_of script) run.queues (Sub s) terms.queue) (calls_on script run orderly is (Sub s) terms.queue)
     given_sub =
         let it : IsPlain script run orderly is s terms = plain script run orderly is s link in
-        let on : IsSubJournal s terms (taken s) journal = (have_streams script run orderly is).subs.each s terms it.client it.said in
+        let on : IsSubJournal script.shape.strategy s terms (taken s) journal = (have_streams script run orderly is).subs.each s terms it.client it.said in
         let ordered = windows_are_in_order script run is.shaped is.edges s terms it.place it.came.joined it.publisher it.fed in
         let all : Part orders s [] done journal = part orders s [] [] journal in
         let passed : List MarketMsg = through terms.faults (taken s) in
@@ -117,18 +117,18 @@ module _ (script : ScriptData) (run : RunData) (orderly : IsOrderly script) (is 
         let cut : taken s ≡ messages_of s done ++ all.left = sym brought ∙ all.whole ∙ ap (λ (ms : List MarketMsg). ms ++ all.left) (sym all.handled) in
         let order : AreInOrder (it.place + 1) ordered.0 (messages_of s done) =
         order_first (it.place + 1) ordered.0 (messages_of s done) all.left (subst (AreInOrder (it.place + 1) ordered.0) cut ordered.1) in
-        let created : events_of (Sub s) journal ≡ q.Create on.slot (Sub s) (make.Sub Market terms.cache) on.tag ∷ tail =
-        on.whole ∙ ap (λ (kind : SubKind). q.Create on.slot (Sub s) (make.Sub kind terms.cache) on.tag ∷ tail) market in
+        let created : events_of (Sub s) journal ≡ q.Create on.slot (Sub s) (make.Sub Market terms.cache script.shape.strategy) on.tag ∷ tail =
+        on.whole ∙ ap (λ (kind : SubKind). q.Create on.slot (Sub s) (make.Sub kind terms.cache script.shape.strategy) on.tag ∷ tail) market in
         let told : given (calls_on script run orderly is (Sub s) terms.queue) ≡ from_first_image (messages_of s done) =
         given_noted (calls_of (Sub s) done) ∙ calls_give orders s done
-        ∙ all_deeds_give orders s terms.cache (it.place + 1) ordered.0 on.slot on.tag tail journal created order in
+        ∙ all_deeds_give orders s script.shape.strategy terms.cache (it.place + 1) ordered.0 on.slot on.tag tail journal created order in
         let more : Continued (messages_of s done) all.left = continued (messages_of s done) all.left in
         let whole : from_first_image (taken s) ≡ given (calls_on script run orderly is (Sub s) terms.queue) ++ more.rest =
         ap from_first_image cut ∙ more.whole ∙ ap (λ (ms : List MarketMsg). ms ++ more.rest) (sym told) in
         record {
           left = more.rest;
           messages = whole;
-          updates = λ first rest begins. (orderly_law terms.cache (it.place + 1) ordered.0 (taken s) ordered.1).updates first rest begins
+          updates = λ first rest begins. (orderly_law script.shape.strategy terms.cache (it.place + 1) ordered.0 (taken s) ordered.1).updates first rest begins
               ∙ sym (image_first (taken s) first rest begins) ∙ ap updates_among (sym begins ∙ whole)
               ∙ filter-append (λ (m : MarketMsg). is_update m.kind) (given (calls_on script run orderly is (Sub s) terms.queue)) more.rest;
           all = λ live. more.none (all.all live);

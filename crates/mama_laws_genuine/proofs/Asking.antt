@@ -8,16 +8,18 @@ use Rattle.mama_event.specs.declared.market.SubKind.{SubKind}
 use Rattle.mama_event.specs.declared.market.SubKind.TheVariants.{Market, Snapshot, Basic}
 use Rattle.mama_event.specs.declared.callback.Callback.{Callback}
 use Rattle.mama_event.specs.declared.callback.Callback.TheVariants as on
+use Rattle.mama_event.specs.declared.shape.Strategy.{Strategy}
+use Rattle.mama_event.specs.declared.shape.Strategy.TheVariants.{One, Two}
 use Rattle.mama_dq.specs.declared.table.Phase.{Phase}
-use Rattle.mama_dq.specs.declared.table.Phase.TheVariants.{Await, LiveOk, LiveStale}
+use Rattle.mama_dq.specs.declared.table.Phase.TheVariants.{Await, LiveOk, LiveStale, LiveKept}
 use Rattle.mama_dq.specs.declared.table.Relation.{Relation}
 use Rattle.mama_dq.specs.declared.table.Relation.TheVariants.{Next, Same, Old, Ahead, Other}
 use Rattle.mama_dq.specs.declared.table.Action.{Action}
-use Rattle.mama_dq.specs.declared.table.Action.TheVariants.{Keep, Start, Apply, ApplyKeep, KeepOnly, Ignore, Gap, Switch, Replace, Heal, Adopt}
+use Rattle.mama_dq.specs.declared.table.Action.TheVariants.{Keep, Start, Apply, ApplyKeep, KeepOnly, Ignore, Gap, Switch, Replace, Heal, Adopt, StartKeep, Catch, Late, KeepLate}
 use Rattle.mama_dq.specs.Table.{is_update, decided, relation_of, relation_of_number}
-use Rattle.mama_dq.specs.Cache.{Reached, reached, above}
+use Rattle.mama_dq.specs.Cache.{Reached, reached, above, put, emptied}
 use Rattle.mama_dq.specs.Context.{ContextData, new_context}
-use Rattle.mama_dq.specs.Strategy.{Step, unchanged, turned_to, with_image_of, waiting_for, stale_calls, switch_calls, adopt_calls, update_acted, updated, as_message, handled, cached_above, reached_last, stopped_short, healed, acted, snapshot_acted, step_by, after, after_all, callbacks_of, fold}
+use Rattle.mama_dq.specs.Strategy.{Step, ok_with, settled, unchanged, turned_to, with_image_of, waiting_for, stale_calls, switch_calls, adopt_calls, update_acted, updated, as_message, handled, cached_above, reached_last, stopped_short, healed, acted, snapshot_acted, step_by, after, after_all, callbacks_of, fold}
 use Rattle.mama_dq.proofs.Comparisons.{eq_true}
 use Rattle.mama_laws_genuine.proofs.Elements.{all_append}
 
@@ -29,6 +31,7 @@ module _ (own : ℕ) where
   Asks (on.Quality q n) = Unit {0}
   Asks on.Create = Unit {0}
   Asks (on.Msg m q) = Unit {0}
+  Asks (on.Late s n) = Unit {0}
   Asks (on.Error e) = Unit {0}
   Asks on.Destroy = Unit {0}
   Asks (on.Tick t) = Unit {0}
@@ -50,11 +53,16 @@ module _ (own : ℕ) where
     pub sender : step.context.sender ≡ own
     pub calls : AllAsk step.calls
 
-  -- while there is no image, a cache that holds something is of that sender; and so is an image that may lack updates
+  -- a cache that holds something is of that sender
+  abbrev HasOwnCache : ContextData → Type 0
+  HasOwnCache c = (c.cache.updates ≡ []) ⊎ (c.sender ≡ own)
+
+  -- and so is an image that may lack updates
   abbrev HasOwn : Phase → ContextData → Type 0
-  HasOwn Await c = (c.cache.updates ≡ []) ⊎ (c.sender ≡ own)
-  HasOwn LiveOk c = Unit {0}
+  HasOwn Await c = HasOwnCache c
+  HasOwn LiveOk c = HasOwnCache c
   HasOwn LiveStale c = c.sender ≡ own
+  HasOwn LiveKept c = HasOwnCache c
 
   record Fine (step : Step) : Type 0 where
     pub context : HasOwn step.context.phase step.context
@@ -62,8 +70,9 @@ module _ (own : ℕ) where
 
   has_own : (phase : Phase) (c : ContextData) → c.sender ≡ own → HasOwn phase c
   has_own Await c is = inr is
-  has_own LiveOk c is = tt
+  has_own LiveOk c is = inr is
   has_own LiveStale c is = is
+  has_own LiveKept c is = inr is
 
   fine : (step : Step) → Keeps step → Fine step
   fine step keeps = record { context = has_own step.context.phase step.context keeps.sender; calls = keeps.calls }
@@ -74,16 +83,19 @@ module _ (own : ℕ) where
   stale_ask Await sender last m is = (tt, tt)
   stale_ask LiveOk sender last m is = (tt, (is, (tt, tt)))
   stale_ask LiveStale sender last m is = (tt, tt)
+  stale_ask LiveKept sender last m is = (tt, (is, (tt, tt)))
 
   switch_ask : (phase : Phase) (last : ℕ) (m : MarketMsg) → Own m → AllAsk (switch_calls phase last m)
   switch_ask Await last m is = (is, (tt, tt))
   switch_ask LiveOk last m is = (tt, (is, (tt, tt)))
   switch_ask LiveStale last m is = (is, (tt, tt))
+  switch_ask LiveKept last m is = (tt, (is, (tt, tt)))
 
   adopt_ask : (phase : Phase) (m : MarketMsg) → AllAsk (adopt_calls phase m)
   adopt_ask Await m = (tt, tt)
   adopt_ask LiveOk m = (tt, tt)
   adopt_ask LiveStale m = (tt, (tt, tt))
+  adopt_ask LiveKept m = (tt, tt)
 
   -- ---- steps
 
@@ -99,12 +111,16 @@ module _ (own : ℕ) where
   update_keeps Replace c m same is = record { sender = same; calls = tt }
   update_keeps Heal c m same is = record { sender = same; calls = tt }
   update_keeps Adopt c m same is = record { sender = same; calls = tt }
+  update_keeps StartKeep c m same is = record { sender = same; calls = tt }
+  update_keeps Catch c m same is = record { sender = same; calls = tt }
+  update_keeps Late c m same is = record { sender = same; calls = (tt, tt) }
+  update_keeps KeepLate c m same is = record { sender = same; calls = (tt, tt) }
 
   handled_keeps : (es : List (ℕ × List FieldData)) (c : ContextData) → c.sender ≡ own → Keeps (handled c es)
   handled_keeps [] c same = record { sender = same; calls = tt }
   handled_keeps (e ∷ es) c same =
       let m : MarketMsg = as_message c.sender e in
-      let first : Keeps (updated c m) = update_keeps (decided c.phase (relation_of c.sender c.last m) true) c m same same in
+      let first : Keeps (updated c m) = update_keeps (decided c.strategy c.phase (relation_of c.sender c.last m) true) c m same same in
       let rest : Keeps (handled (updated c m).context es) = handled_keeps es (updated c m).context first.sender in
       record { sender = rest.sender; calls = all_append Asks (updated c m).calls (handled (updated c m).context es).calls first.calls rest.calls }
 
@@ -140,7 +156,7 @@ module _ (own : ℕ) where
       none_above false none = refl
 
   begun : (c : ContextData) (m : MarketMsg) (es : List (ℕ × List FieldData)) → (es ≡ []) ⊎ Own m → Fine (handled (with_image_of m (turned_to m.sender c)) es)
-  begun c m [] which = record { context = tt; calls = tt }
+  begun c m [] which = record { context = inl refl; calls = tt }
   begun c m (e ∷ es) which = ⊎_elim
       (λ none. absurd (no_list none))
       (λ is. fine (handled (with_image_of m (turned_to m.sender c)) (e ∷ es)) (handled_keeps (e ∷ es) (with_image_of m (turned_to m.sender c)) is))
@@ -182,57 +198,96 @@ module _ (own : ℕ) where
   unchanged_fine : (c : ContextData) → HasOwn c.phase c → Fine (unchanged c)
   unchanged_fine c has = record { context = has; calls = tt }
 
-  update_fine : (phase : Phase) (relation : Relation) (c : ContextData) (m : MarketMsg) → HasOwn c.phase c → Here relation m.sender c.sender → Own m
-      → Fine (acted (decided phase relation true) c m)
-  update_fine Await relation c m has near is = fine (acted Keep c m) (kept_keeps c m is)
-  update_fine LiveOk Next c m has near is = record { context = tt; calls = (tt, tt) }
-  update_fine LiveOk Same c m has near is = unchanged_fine c has
-  update_fine LiveOk Old c m has near is = unchanged_fine c has
-  update_fine LiveOk Ahead c m has near is = fine (update_acted Gap c m) (update_keeps Gap c m (sym near ∙ is) is)
-  update_fine LiveOk Other c m has near is = switched_fine c m is
-  update_fine LiveStale Next c m has near is = fine (update_acted ApplyKeep c m) (update_keeps ApplyKeep c m (sym near ∙ is) is)
-  update_fine LiveStale Same c m has near is = fine (update_acted KeepOnly c m) (update_keeps KeepOnly c m (sym near ∙ is) is)
-  update_fine LiveStale Old c m has near is = fine (update_acted KeepOnly c m) (update_keeps KeepOnly c m (sym near ∙ is) is)
-  update_fine LiveStale Ahead c m has near is = fine (update_acted Gap c m) (update_keeps Gap c m (sym near ∙ is) is)
-  update_fine LiveStale Other c m has near is = switched_fine c m is
+  caught_fine : (c : ContextData) (m : MarketMsg) → c.sender ≡ own → Fine (acted Catch c m)
+  caught_fine c m same =
+      let from : ContextData = record c { phase = LiveOk; cache = emptied c.cache } in
+      fine (acted Catch c m) (handled_keeps (put c.cache.updates m.seq m.body) from same)
 
-  replaced_fine : (c : ContextData) (m : MarketMsg) → Fine (acted Replace c m)
-  replaced_fine c m = record { context = tt; calls = (tt, tt) }
+  -- an update applied to an image that is ok: what is kept above it is of the sender of the context
+  settled_own : (c : ContextData) → HasOwnCache c → HasOwn (settled c).phase (settled c)
+  settled_own c has =
+      let own_cache : HasOwnCache (settled c) = ⊎_elim (λ none. inl (ap (above c.last) none)) (λ is. inr is) has in
+      elim (above c.last c.cache.updates) as (λ (es : List (ℕ × List FieldData)). HasOwn (ok_with es) (settled c)) [ [] ↦ own_cache | e ∷ es ↦ own_cache ]
+
+  update_fine : (s : Strategy) (phase : Phase) (relation : Relation) (c : ContextData) (m : MarketMsg) → HasOwn c.phase c → Here relation m.sender c.sender → Own m
+      → Fine (acted (decided s phase relation true) c m)
+  update_fine s Await relation c m has near is = fine (acted Keep c m) (kept_keeps c m is)
+  update_fine s LiveOk Next c m has near is = fine (update_acted Apply c m) (update_keeps Apply c m (sym near ∙ is) is)
+  update_fine One LiveOk Same c m has near is = fine (update_acted Ignore c m) (update_keeps Ignore c m (sym near ∙ is) is)
+  update_fine Two LiveOk Same c m has near is = fine (update_acted Late c m) (update_keeps Late c m (sym near ∙ is) is)
+  update_fine One LiveOk Old c m has near is = fine (update_acted Ignore c m) (update_keeps Ignore c m (sym near ∙ is) is)
+  update_fine Two LiveOk Old c m has near is = fine (update_acted Late c m) (update_keeps Late c m (sym near ∙ is) is)
+  update_fine s LiveOk Ahead c m has near is = fine (update_acted Gap c m) (update_keeps Gap c m (sym near ∙ is) is)
+  update_fine s LiveOk Other c m has near is = switched_fine c m is
+  update_fine s LiveStale Next c m has near is = fine (update_acted ApplyKeep c m) (update_keeps ApplyKeep c m (sym near ∙ is) is)
+  update_fine One LiveStale Same c m has near is = fine (update_acted KeepOnly c m) (update_keeps KeepOnly c m (sym near ∙ is) is)
+  update_fine Two LiveStale Same c m has near is = fine (update_acted KeepLate c m) (update_keeps KeepLate c m (sym near ∙ is) is)
+  update_fine One LiveStale Old c m has near is = fine (update_acted KeepOnly c m) (update_keeps KeepOnly c m (sym near ∙ is) is)
+  update_fine Two LiveStale Old c m has near is = fine (update_acted KeepLate c m) (update_keeps KeepLate c m (sym near ∙ is) is)
+  update_fine s LiveStale Ahead c m has near is = fine (update_acted Gap c m) (update_keeps Gap c m (sym near ∙ is) is)
+  update_fine s LiveStale Other c m has near is = switched_fine c m is
+  update_fine s LiveKept Next c m has near is = fine (update_acted Apply c m) (update_keeps Apply c m (sym near ∙ is) is)
+  update_fine One LiveKept Same c m has near is = fine (update_acted Ignore c m) (update_keeps Ignore c m (sym near ∙ is) is)
+  update_fine Two LiveKept Same c m has near is = fine (update_acted Late c m) (update_keeps Late c m (sym near ∙ is) is)
+  update_fine One LiveKept Old c m has near is = fine (update_acted Ignore c m) (update_keeps Ignore c m (sym near ∙ is) is)
+  update_fine Two LiveKept Old c m has near is = fine (update_acted Late c m) (update_keeps Late c m (sym near ∙ is) is)
+  update_fine One LiveKept Ahead c m has near is = fine (update_acted Gap c m) (update_keeps Gap c m (sym near ∙ is) is)
+  update_fine Two LiveKept Ahead c m has near is = caught_fine c m (sym near ∙ is)
+  update_fine s LiveKept Other c m has near is = switched_fine c m is
+
+  replaced_fine : (c : ContextData) (m : MarketMsg) → HasOwnCache c → Fine (acted Replace c m)
+  replaced_fine c m has = record { context = settled_own (with_image_of m c) has; calls = (tt, tt) }
+
+  waiting_own : (c : ContextData) (sender : ℕ) → HasOwnCache c → HasOwnCache (waiting_for sender c)
+  waiting_own c sender has = elim (c.sender == sender) as (λ (b : Bool). HasOwnCache (if b then c else turned_to sender c)) [
+    | true ↦ has
+    | false ↦ inl refl
+  ]
+
+  kept_fine : (c : ContextData) (m : MarketMsg) → HasOwnCache c → Fine (acted StartKeep c m)
+  kept_fine c m has = record { context = settled_own (with_image_of m (waiting_for m.sender c)) (waiting_own c m.sender has); calls = (tt, tt) }
 
   adopted_fine : (c : ContextData) (m : MarketMsg) → Fine (acted Adopt c m)
-  adopted_fine c m = record { context = tt; calls = adopt_ask c.phase m }
+  adopted_fine c m = record { context = inl refl; calls = adopt_ask c.phase m }
 
   healed_fine : (c : ContextData) (m : MarketMsg) → c.sender ≡ own → Fine (acted Heal c m)
   healed_fine c m same = fine (acted Heal c m) (healed_keeps (reached c.cache.updates m.seq m.body) c m same)
 
   -- image messages, whatever their sender
-  image_fine : (phase : Phase) (relation : Relation) (c : ContextData) (m : MarketMsg) → HasOwn c.phase c → HasOwn phase c
-      → Fine (acted (decided phase relation false) c m)
-  image_fine Await relation c m has own_phase = started_fine c m own_phase
-  image_fine LiveOk Next c m has own_phase = replaced_fine c m
-  image_fine LiveOk Same c m has own_phase = replaced_fine c m
-  image_fine LiveOk Old c m has own_phase = unchanged_fine c has
-  image_fine LiveOk Ahead c m has own_phase = replaced_fine c m
-  image_fine LiveOk Other c m has own_phase = adopted_fine c m
-  image_fine LiveStale Next c m has own_phase = healed_fine c m own_phase
-  image_fine LiveStale Same c m has own_phase = healed_fine c m own_phase
-  image_fine LiveStale Old c m has own_phase = healed_fine c m own_phase
-  image_fine LiveStale Ahead c m has own_phase = healed_fine c m own_phase
-  image_fine LiveStale Other c m has own_phase = adopted_fine c m
+  image_fine : (s : Strategy) (phase : Phase) (relation : Relation) (c : ContextData) (m : MarketMsg) → HasOwn c.phase c → HasOwn phase c
+      → Fine (acted (decided s phase relation false) c m)
+  image_fine One Await relation c m has own_phase = started_fine c m own_phase
+  image_fine Two Await relation c m has own_phase = kept_fine c m own_phase
+  image_fine s LiveOk Next c m has own_phase = replaced_fine c m own_phase
+  image_fine s LiveOk Same c m has own_phase = replaced_fine c m own_phase
+  image_fine s LiveOk Old c m has own_phase = unchanged_fine c has
+  image_fine s LiveOk Ahead c m has own_phase = replaced_fine c m own_phase
+  image_fine s LiveOk Other c m has own_phase = adopted_fine c m
+  image_fine s LiveStale Next c m has own_phase = healed_fine c m own_phase
+  image_fine s LiveStale Same c m has own_phase = healed_fine c m own_phase
+  image_fine s LiveStale Old c m has own_phase = healed_fine c m own_phase
+  image_fine s LiveStale Ahead c m has own_phase = healed_fine c m own_phase
+  image_fine s LiveStale Other c m has own_phase = adopted_fine c m
+  image_fine s LiveKept Next c m has own_phase = replaced_fine c m own_phase
+  image_fine s LiveKept Same c m has own_phase = replaced_fine c m own_phase
+  image_fine s LiveKept Old c m has own_phase = unchanged_fine c has
+  image_fine s LiveKept Ahead c m has own_phase = replaced_fine c m own_phase
+  image_fine s LiveKept Other c m has own_phase = adopted_fine c m
 
-  market_fine : (phase : Phase) (relation : Relation) (update : Bool) (c : ContextData) (m : MarketMsg) → HasOwn c.phase c → HasOwn phase c
-      → Here relation m.sender c.sender → (update ≡ true → Own m) → Fine (acted (decided phase relation update) c m)
-  market_fine phase relation true c m has own_phase near is = update_fine phase relation c m has near (is refl)
-  market_fine phase relation false c m has own_phase near is = image_fine phase relation c m has own_phase
+  market_fine : (s : Strategy) (phase : Phase) (relation : Relation) (update : Bool) (c : ContextData) (m : MarketMsg) → HasOwn c.phase c → HasOwn phase c
+      → Here relation m.sender c.sender → (update ≡ true → Own m) → Fine (acted (decided s phase relation update) c m)
+  market_fine s phase relation true c m has own_phase near is = update_fine s phase relation c m has near (is refl)
+  market_fine s phase relation false c m has own_phase near is = image_fine s phase relation c m has own_phase
 
   snapshot_fine : (phase : Phase) (update : Bool) (c : ContextData) (m : MarketMsg) → HasOwn c.phase c → Fine (snapshot_acted phase update c m)
-  snapshot_fine Await false c m has = record { context = tt; calls = (tt, tt) }
+  snapshot_fine Await false c m has = record { context = inl refl; calls = (tt, tt) }
   snapshot_fine Await true c m has = unchanged_fine c has
   snapshot_fine LiveOk update c m has = unchanged_fine c has
   snapshot_fine LiveStale update c m has = unchanged_fine c has
+  snapshot_fine LiveKept update c m has = unchanged_fine c has
 
   step_fine : (kind : SubKind) (c : ContextData) (m : MarketMsg) → HasOwn c.phase c → OwnUpdate m → Fine (step_by kind c m)
-  step_fine Market c m has is = market_fine c.phase (relation_of c.sender c.last m) (is_update m.kind) c m has has (here c.sender c.last m) is
+  step_fine Market c m has is = market_fine c.strategy c.phase (relation_of c.sender c.last m) (is_update m.kind) c m has has (here c.sender c.last m) is
   step_fine Snapshot c m has is = snapshot_fine c.phase (is_update m.kind) c m has
   step_fine Basic c m has is = record { context = has; calls = (tt, tt) }
 
@@ -242,6 +297,6 @@ module _ (own : ℕ) where
   after_all_own (m ∷ messages) c has all = after_all_own messages (after c m) (step_fine c.kind c m has all.0).context all.1
 
   -- what a message makes a context call, after others
-  pub all_ask : (kind : SubKind) (size : ℕ) (before : List MarketMsg) (m : MarketMsg) → AllByRecursion OwnUpdate before → OwnUpdate m → AllAsk (callbacks_of (fold kind size before) m)
-  all_ask kind size before m all is =
-      (step_fine (fold kind size before).kind (fold kind size before) m (after_all_own before (new_context kind size) (inl refl) all) is).calls
+  pub all_ask : (strategy : Strategy) (kind : SubKind) (size : ℕ) (before : List MarketMsg) (m : MarketMsg) → AllByRecursion OwnUpdate before → OwnUpdate m → AllAsk (callbacks_of (fold strategy kind size before) m)
+  all_ask strategy kind size before m all is =
+      (step_fine (fold strategy kind size before).kind (fold strategy kind size before) m (after_all_own before (new_context strategy kind size) (inl refl) all) is).calls

@@ -29,6 +29,7 @@ use Rattle.mama_rules_services.specs.Ports.{Putter, ByClient, ByPublisher, ByQue
 use Rattle.mama_rules_services.specs.Bridge.{BridgeEvent, joins, leaves, opens, closes, asks, publishes, images, replies, wishes, no_event, from_client, from_publisher, from_queue, put_by, heard, terms_in, is_live, live_subs, open_inboxes, sent_to, sent_with, window, faults_of, inbox_faults_of, inbox_terms_in, reply_window, replied_to, joins_sub, opens_inbox, is_open, is_settling, has_ending, free_slot, may_wish, BridgePut, to_publisher, to_queue, to_timers, place_of, to_place, to_found, to_first, wants_image, delivered, replied, gone, passed_on, passed, ended, ended_inbox, answer, settle_begins, ending_comes, bridge_reaction, bridge_puts}
 use Rattle.mama_laws_genuine.specs.Sent.{Delivers}
 use Rattle.mama_laws_genuine.proofs.Elements.{all_append, all_if, all_flat_map, all_flat, all_map, all_mapped, all_puts_after, all_puts_so_far}
+use Rattle.mama_laws_genuine.proofs.Reactions as reactions
 use Rattle.mama_laws_genuine.proofs.Carried.{InBridgeNote, InEvent, InBridgePut, AsksImage}
 use Rattle.mama_laws_genuine.proofs.Linked.{all_passed_on, all_rest}
 
@@ -149,7 +150,7 @@ module _ (G : MarketMsg → Type 0) (R : List FieldData → Type 0) where
     all_answered : (e : BridgeEvent) → InEvent G R e → AllByRecursion (InBridgePut G R) (answer shape before sofar e)
     all_answered (joins s terms tag) h =
         all_if (InBridgePut G R) (list_any (joins_sub s) before) []
-        (to_queue terms.queue (q.Create (free_slot shape before sofar terms.queue) (Sub s) (make.Sub terms.kind terms.cache) tag) ∷ wants_image shape s terms.kind terms.topic)
+        (to_queue terms.queue (q.Create (free_slot shape before sofar terms.queue) (Sub s) (make.Sub terms.kind terms.cache shape.strategy) tag) ∷ wants_image shape s terms.kind terms.topic)
         tt (tt, all_wanted shape s terms.kind terms.topic)
     all_answered (leaves s) h = all_if (InBridgePut G R) (is_live shape s before) (ended shape before sofar s) [] (all_ended s) tt
     all_answered (opens i terms tag) h =
@@ -172,34 +173,12 @@ module _ (G : MarketMsg → Type 0) (R : List FieldData → Type 0) where
         (tt, tt) tt
     all_answered _ h = tt
 
-    all_settling : (e : BridgeEvent) → AllByRecursion (InBridgePut G R) (settle_begins shape before e)
-    all_settling e =
-        all_if (InBridgePut G R) (turns (is_settling shape) before e) (map (λ (r : ℕ). to_publisher r p.Settle) (numbers_below (publishers_of shape))) []
-        (all_mapped (InBridgePut G R) (λ (r : ℕ). to_publisher r p.Settle) (λ r. tt) (numbers_below (publishers_of shape))) tt
-
-    all_ending : (e : BridgeEvent) → AllByRecursion (InBridgePut G R) (ending_comes shape before sofar e)
-    all_ending e =
-        let subs : List BridgePut = flat_map (ended shape before sofar) (live_subs shape before) in
-        let inboxes : List BridgePut = flat_map (ended_inbox shape before sofar) (open_inboxes shape before) in
-        let queues : List BridgePut = map (λ (k : ℕ). to_queue k q.Fin) (numbers_below (queues_of shape)) in
-        let publishers : List BridgePut = map (λ (r : ℕ). to_publisher r p.Fin) (numbers_below (publishers_of shape)) in
-        all_if (InBridgePut G R) (turns (has_ending shape) before e) (subs ++ inboxes ++ to_timers t.Fin ∷ [] ++ queues ++ publishers) []
-        (all_append (InBridgePut G R) (subs ++ inboxes ++ to_timers t.Fin ∷ [] ++ queues) publishers
-        (all_append (InBridgePut G R) (subs ++ inboxes ++ to_timers t.Fin ∷ []) queues
-        (all_append (InBridgePut G R) (subs ++ inboxes) (to_timers t.Fin ∷ [])
-        (all_append (InBridgePut G R) subs inboxes
-        (all_flat (InBridgePut G R) (ended shape before sofar) all_ended (live_subs shape before))
-        (all_flat (InBridgePut G R) (ended_inbox shape before sofar) all_ended_inbox (open_inboxes shape before)))
-        (tt, tt))
-        (all_mapped (InBridgePut G R) (λ (k : ℕ). to_queue k q.Fin) (λ k. tt) (numbers_below (queues_of shape))))
-        (all_mapped (InBridgePut G R) (λ (r : ℕ). to_publisher r p.Fin) (λ r. tt) (numbers_below (publishers_of shape))))
-        tt
-
     all_reaction : (e : BridgeEvent) → InEvent G R e → AllByRecursion (InBridgePut G R) (bridge_reaction shape before sofar e)
     all_reaction e h =
-        all_append (InBridgePut G R) (answer shape before sofar e ++ settle_begins shape before e) (ending_comes shape before sofar e)
-        (all_append (InBridgePut G R) (answer shape before sofar e) (settle_begins shape before e) (all_answered e h) (all_settling e))
-        (all_ending e)
+        reactions.all_reaction (InBridgePut G R) (record { settle = λ n. tt; publisher = λ n. tt; queue = λ k. tt; timers = tt }) shape before sofar e
+        (all_flat (InBridgePut G R) (ended shape before sofar) all_ended (live_subs shape before))
+        (all_flat (InBridgePut G R) (ended_inbox shape before sofar) all_ended_inbox (open_inboxes shape before))
+        (all_answered e h)
 
   -- all that the bridge puts
   pub all_bridge_puts : (shape : Shape) (journal : List (ℕ × BridgeNote)) → AllByRecursion (λ (e : ℕ × BridgeNote). InBridgeNote G R e.1) journal

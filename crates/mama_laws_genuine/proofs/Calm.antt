@@ -27,7 +27,7 @@ use Rattle.mama_event.specs.declared.to_queue.Make.{Make}
 use Rattle.mama_event.specs.declared.to_queue.QueueNote.{QueueNote}
 use Rattle.mama_event.specs.declared.to_queue.QueueNote.TheVariants as q
 use Rattle.mama_dq.specs.declared.table.Phase.{Phase}
-use Rattle.mama_dq.specs.declared.table.Phase.TheVariants.{Await, LiveOk, LiveStale}
+use Rattle.mama_dq.specs.declared.table.Phase.TheVariants.{Await, LiveOk, LiveStale, LiveKept}
 use Rattle.mama_dq.specs.Table.{is_update}
 use Rattle.mama_dq.specs.Context.{ContextData, new_context}
 use Rattle.mama_dq.specs.Strategy.{step_by, snapshot_acted, callbacks_of, after, after_all, fold, calls_after}
@@ -40,6 +40,7 @@ use Rattle.mama_rules_services.specs.Timers.{timers_puts}
 use Rattle.mama_rules_queue.specs.Queue.{deeds, messages_of, calls_of, make_in}
 use Rattle.mama_link.specs.declared.faults.FaultRow.{FaultRow}
 use Rattle.mama_event.specs.declared.to_bridge.SubTerms.{SubTerms}
+use Rattle.mama_event.specs.declared.shape.Strategy.{Strategy}
 use Rattle.mama_script.specs.Script.{ScriptData}
 use Rattle.mama_record.specs.RunData.{RunData}
 use Rattle.mama_rules_rounds.specs.World.{orders_by, queue_part}
@@ -49,7 +50,7 @@ use Rattle.mama_rules_legal.specs.Streams.{is_of, put_for, stream_of, IsSubStrea
 use Rattle.mama_laws_legal.proofs.SubStreams.{subs_streams}
 use Rattle.mama_laws_legal.proofs.Lives.{same_sub-itself}
 use Rattle.mama_laws_genuine.specs.Sent.{Delivers}
-use Rattle.mama_laws_genuine.specs.Told.{TellsOf, kind_of, size_of, IsMadeBy}
+use Rattle.mama_laws_genuine.specs.Told.{TellsOf, strategy_of, kind_of, size_of, IsMadeBy}
 use Rattle.mama_laws_genuine.specs.Faultless.{IsCalm, FaultlessLinksAreCalm}
 use Rattle.mama_laws_genuine.proofs.Elements.{all_map, all_mapped, all_by_port, all_weaker, first_came, rest_came, all_left, all_right}
 use Rattle.mama_laws_genuine.proofs.Timing.{all_timers_puts}
@@ -70,33 +71,35 @@ snapshot_calm Await false c m = (tt, tt)
 snapshot_calm Await true c m = tt
 snapshot_calm LiveOk update c m = tt
 snapshot_calm LiveStale update c m = tt
+snapshot_calm LiveKept update c m = tt
 
-calm_calls : (kind : SubKind) (size sender n : ℕ) (messages before : List MarketMsg) (m : MarketMsg) (later : List MarketMsg) → messages ≡ before ++ m ∷ later
-    → AreInOrder sender n messages → AllByRecursion IsCalm (callbacks_of (fold kind size before) m)
-calm_calls Market size sender n messages before m later cut order =
-    one_step IsCalm (new_context Market size) before m later
-    (subst (λ (ms : List MarketMsg). AllByRecursion IsCalm (flat_map (λ (calls : List Callback). calls) (calls_after (new_context Market size) ms))) cut
-    (subst (AllByRecursion IsCalm) (sym (orderly_law size sender n messages order).calls)
+calm_calls : (strategy : Strategy) (kind : SubKind) (size sender n : ℕ) (messages before : List MarketMsg) (m : MarketMsg) (later : List MarketMsg) → messages ≡ before ++ m ∷ later
+    → AreInOrder sender n messages → AllByRecursion IsCalm (callbacks_of (fold strategy kind size before) m)
+calm_calls strategy Market size sender n messages before m later cut order =
+    one_step IsCalm (new_context strategy Market size) before m later
+    (subst (λ (ms : List MarketMsg). AllByRecursion IsCalm (flat_map (λ (calls : List Callback). calls) (calls_after (new_context strategy Market size) ms))) cut
+    (subst (AllByRecursion IsCalm) (sym (orderly_law strategy size sender n messages order).calls)
     (all_mapped IsCalm as_ok (λ x. tt) (from_first_image messages))))
-calm_calls Snapshot size sender n messages before m later cut order =
-    subst (λ (k : SubKind). AllByRecursion IsCalm (step_by k (fold Snapshot size before) m).calls) (sym (after_all_kind before (new_context Snapshot size)))
-    (snapshot_calm (fold Snapshot size before).phase (is_update m.kind) (fold Snapshot size before) m)
-calm_calls Basic size sender n messages before m later cut order =
-    subst (λ (k : SubKind). AllByRecursion IsCalm (step_by k (fold Basic size before) m).calls) (sym (after_all_kind before (new_context Basic size))) (tt, tt)
+calm_calls strategy Snapshot size sender n messages before m later cut order =
+    subst (λ (k : SubKind). AllByRecursion IsCalm (step_by k (fold strategy Snapshot size before) m).calls) (sym (after_all_kind before (new_context strategy Snapshot size)))
+    (snapshot_calm (fold strategy Snapshot size before).phase (is_update m.kind) (fold strategy Snapshot size before) m)
+calm_calls strategy Basic size sender n messages before m later cut order =
+    subst (λ (k : SubKind). AllByRecursion IsCalm (step_by k (fold strategy Basic size before) m).calls) (sym (after_all_kind before (new_context strategy Basic size))) (tt, tt)
 
-module _ (kind : SubKind) (size sender n : ℕ) (messages : List MarketMsg) (order : AreInOrder sender n messages) where
-  made_calm : (call : Callback) → IsMadeBy kind size messages call → IsCalm call
+module _ (strategy : Strategy) (kind : SubKind) (size sender n : ℕ) (messages : List MarketMsg) (order : AreInOrder sender n messages) where
+  made_calm : (call : Callback) → IsMadeBy strategy kind size messages call → IsCalm call
   made_calm call by =
-      All-contains IsCalm (callbacks_of (fold kind size by.before) by.message) call
-      (All-from_recursion IsCalm (callbacks_of (fold kind size by.before) by.message) (calm_calls kind size sender n messages by.before by.message by.later by.cut order)) by.made
+      All-contains IsCalm (callbacks_of (fold strategy kind size by.before) by.message) call
+      (All-from_recursion IsCalm (callbacks_of (fold strategy kind size by.before) by.message) (calm_calls strategy kind size sender n messages by.before by.message by.later by.cut order)) by.made
 
-  told_calm : (call : Callback) → TellsOf kind size messages call → IsCalm call
+  told_calm : (call : Callback) → TellsOf strategy kind size messages call → IsCalm call
   told_calm (on.Gap first to) told = made_calm (on.Gap first to) told.by
   told_calm (on.Quality quality.Ok k) told = made_calm (on.Quality quality.Ok k) told
   told_calm (on.Quality quality.Stale k) told = made_calm (on.Quality quality.Stale k) told.by
   told_calm (on.RecapRequest s) told = made_calm (on.RecapRequest s) told
   told_calm on.Create told = tt
   told_calm (on.Msg m q) told = tt
+  told_calm (on.Late a k) told = made_calm (on.Late a k) told
   told_calm (on.Error e) told = tt
   told_calm on.Destroy told = tt
   told_calm (on.Tick t) told = tt
@@ -211,7 +214,7 @@ module _ (script : ScriptData) (run : RunData) (edges : AreEdges script run) (s 
       ∙ all_put s k (bridge_puts script.shape run.bridge)
 
   -- the messages of the subscription's stream on this queue
-  module _ (terms : SubTerms) (gone_in : List MarketMsg) (is : IsSubStream s terms gone_in stream) where
+  module _ (terms : SubTerms) (gone_in : List MarketMsg) (is : IsSubStream script.shape.strategy s terms gone_in stream) where
     abbrev passed : List MarketMsg
     passed = through terms.faults gone_in
 
@@ -243,13 +246,13 @@ module _ (script : ScriptData) (run : RunData) (edges : AreEdges script run) (s 
         let first = handled_first orders s journal in
         let handled_order : AreInOrder sender n messages =
         order_first sender n messages first.0 (subst (AreInOrder sender n) first.1 (in_order sender n order)) in
-        all_weaker (λ (c : Callback × List Order). TellsOf (kind_of how) (size_of how) messages c.0) (λ (c : Callback × List Order). IsCalm c.0)
-        (λ c told. told_calm (kind_of how) (size_of how) sender n messages handled_order c.0 told) (calls_of (Sub s) (deeds orders journal)) (calls_tell orders s journal)
+        all_weaker (λ (c : Callback × List Order). TellsOf (strategy_of how) (kind_of how) (size_of how) messages c.0) (λ (c : Callback × List Order). IsCalm c.0)
+        (λ c told. told_calm (strategy_of how) (kind_of how) (size_of how) sender n messages handled_order c.0 told) (calls_of (Sub s) (deeds orders journal)) (calls_tell orders s journal)
 
 pub faultless_is_calm : FaultlessLinksAreCalm
 faultless_is_calm script run shaped edges s terms p said faultless within fed_by was gone_now o same small =
     let gone_in : List MarketMsg = window script.shape s (heard script.shape run.bridge) in
-    let is : IsSubStream s terms gone_in (stream_of (Sub s) (bridge_puts script.shape run.bridge)) = subs_streams script.shape run.bridge s terms was gone_now said in
+    let is : IsSubStream script.shape.strategy s terms gone_in (stream_of (Sub s) (bridge_puts script.shape run.bridge)) = subs_streams script.shape run.bridge s terms was gone_now said in
     let ordered = windows_are_in_order script run shaped edges s terms p said within fed_by in
     let whole : through terms.faults gone_in ≡ gone_in = ap (λ (rows : List FaultRow). through rows gone_in) faultless ∙ passes_all gone_in in
     let calls = calm script run edges s o.queue small terms gone_in is (p + 1) ordered.0 (subst (AreInOrder (p + 1) ordered.0) (sym whole) ordered.1) in

@@ -32,6 +32,7 @@ use Rattle.mama_dq.specs.Table.{is_update}
 use Rattle.mama_rules_services.specs.Bridge.{BridgeEvent, joins, leaves, opens, closes, asks, publishes, images, replies, wishes, client_done, sends_done, settled, bye, no_event, terms_in, is_live, live_subs, open_inboxes, sent_to, sent_with, window, faults_of, inbox_faults_of, inbox_terms_in, reply_window, replied_to, joins_sub, opens_inbox, is_open, is_settling, has_ending, free_slot, may_wish, BridgePut, to_publisher, to_queue, to_timers, place_of, to_place, to_found, to_first, wants_image, delivered, replied, gone, passed_on, passed, passed_reply, ended, ended_inbox, answer, settle_begins, ending_comes, bridge_reaction}
 use Rattle.mama_laws_legal.proofs.Lives.{same_sub-is}
 use Rattle.mama_laws_genuine.proofs.Elements.{all_append, all_if, all_flat_map, all_flat, all_mapped, all_puts_known, all_puts_so_far, all_each}
+use Rattle.mama_laws_genuine.proofs.Reactions as reactions
 use Rattle.mama_laws_genuine.proofs.Linked.{all_passed_on, all_rest}
 use Rattle.mama_laws_genuine.proofs.Wishing.{Brings}
 
@@ -174,7 +175,7 @@ module _ (shape : Shape) (s : SubId) (wanted : ℕ) (Mine : MarketMsg → Type 0
     all_answered : (e : BridgeEvent) → Feeds e → AllByRecursion InPut (answer shape before sofar e)
     all_answered (joins sub terms tag) h =
         all_if InPut (list_any (joins_sub sub) before) []
-        (to_queue terms.queue (q.Create (free_slot shape before sofar terms.queue) (Sub sub) (make.Sub terms.kind terms.cache) tag) ∷ wants_image shape sub terms.kind terms.topic)
+        (to_queue terms.queue (q.Create (free_slot shape before sofar terms.queue) (Sub sub) (make.Sub terms.kind terms.cache shape.strategy) tag) ∷ wants_image shape sub terms.kind terms.topic)
         tt (tt, all_wanted sub terms.kind terms.topic h)
     all_answered (leaves sub) h = all_if InPut (is_live shape sub before) (ended shape before sofar sub) [] (all_ended sub) tt
     all_answered (opens i terms tag) h =
@@ -194,34 +195,12 @@ module _ (shape : Shape) (s : SubId) (wanted : ℕ) (Mine : MarketMsg → Type 0
         ((refl, λ same. asked sender (h same)), tt) tt
     all_answered _ h = tt
 
-    all_settling : (e : BridgeEvent) → AllByRecursion InPut (settle_begins shape before e)
-    all_settling e =
-        all_if InPut (turns (is_settling shape) before e) (map (λ (n : ℕ). to_publisher n p.Settle) (numbers_below (publishers_of shape))) []
-        (all_mapped InPut (λ (n : ℕ). to_publisher n p.Settle) (λ n. tt) (numbers_below (publishers_of shape))) tt
-
-    all_ending : (e : BridgeEvent) → AllByRecursion InPut (ending_comes shape before sofar e)
-    all_ending e =
-        let subs : List BridgePut = flat_map (ended shape before sofar) (live_subs shape before) in
-        let inboxes : List BridgePut = flat_map (ended_inbox shape before sofar) (open_inboxes shape before) in
-        let queues : List BridgePut = map (λ (k : ℕ). to_queue k q.Fin) (numbers_below (queues_of shape)) in
-        let publishers : List BridgePut = map (λ (n : ℕ). to_publisher n p.Fin) (numbers_below (publishers_of shape)) in
-        all_if InPut (turns (has_ending shape) before e) (subs ++ inboxes ++ to_timers t.Fin ∷ [] ++ queues ++ publishers) []
-        (all_append InPut (subs ++ inboxes ++ to_timers t.Fin ∷ [] ++ queues) publishers
-        (all_append InPut (subs ++ inboxes ++ to_timers t.Fin ∷ []) queues
-        (all_append InPut (subs ++ inboxes) (to_timers t.Fin ∷ [])
-        (all_append InPut subs inboxes
-        (all_flat InPut (ended shape before sofar) all_ended (live_subs shape before))
-        (all_flat InPut (ended_inbox shape before sofar) all_ended_inbox (open_inboxes shape before)))
-        (tt, tt))
-        (all_mapped InPut (λ (k : ℕ). to_queue k q.Fin) (λ k. tt) (numbers_below (queues_of shape))))
-        (all_mapped InPut (λ (n : ℕ). to_publisher n p.Fin) (λ n. tt) (numbers_below (publishers_of shape))))
-        tt
-
     all_reaction : (e : BridgeEvent) → Feeds e → AllByRecursion InPut (bridge_reaction shape before sofar e)
     all_reaction e h =
-        all_append InPut (answer shape before sofar e ++ settle_begins shape before e) (ending_comes shape before sofar e)
-        (all_append InPut (answer shape before sofar e) (settle_begins shape before e) (all_answered e h) (all_settling e))
-        (all_ending e)
+        reactions.all_reaction InPut (record { settle = λ n. tt; publisher = λ n. tt; queue = λ k. tt; timers = tt }) shape before sofar e
+        (all_flat InPut (ended shape before sofar) all_ended (live_subs shape before))
+        (all_flat InPut (ended_inbox shape before sofar) all_ended_inbox (open_inboxes shape before))
+        (all_answered e h)
 
   -- all that the bridge puts
   pub all_fed : (es : List BridgeEvent) → AllByRecursion Feeds es → AllByRecursion InPut (all_puts (bridge_reaction shape) es)

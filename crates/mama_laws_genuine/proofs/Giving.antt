@@ -19,6 +19,7 @@ use Rattle.mama_event.specs.declared.to_queue.Make.{Make}
 use Rattle.mama_event.specs.declared.to_queue.Make.TheVariants as make
 use Rattle.mama_event.specs.declared.to_queue.QueueNote.{QueueNote}
 use Rattle.mama_event.specs.declared.to_queue.QueueNote.TheVariants as q
+use Rattle.mama_event.specs.declared.shape.Strategy.{Strategy}
 use Rattle.mama_dq.specs.Table.{is_update}
 use Rattle.mama_dq.specs.Context.{new_context}
 use Rattle.mama_dq.specs.Strategy.{callbacks_of, fold, calls_after}
@@ -88,22 +89,22 @@ continued (x ∷ messages) more = by_case (is_update x.kind) refl (continued mes
 
 -- ---- the callbacks of a message in order
 
-abbrev told : ℕ → List MarketMsg → List Callback
-told size messages = flat_map (λ (calls : List Callback). calls) (calls_after (new_context Market size) messages)
+abbrev told : Strategy → ℕ → List MarketMsg → List Callback
+told strategy size messages = flat_map (λ (calls : List Callback). calls) (calls_after (new_context strategy Market size) messages)
 
-told_more : (size : ℕ) (messages : List MarketMsg) (m : MarketMsg) → told size (messages ++ m ∷ []) ≡ told size messages ++ callbacks_of (fold Market size messages) m
-told_more size messages m =
-    ap (λ (calls : List (List Callback)). flat_map (λ (c : List Callback). c) calls) (calls_after-append (new_context Market size) messages (m ∷ []))
-    ∙ flat_map-append (λ (c : List Callback). c) (calls_after (new_context Market size) messages) (callbacks_of (fold Market size messages) m ∷ [])
-    ∙ ap (λ (calls : List Callback). told size messages ++ calls) (append-nil (callbacks_of (fold Market size messages) m))
+told_more : (strategy : Strategy) (size : ℕ) (messages : List MarketMsg) (m : MarketMsg) → told strategy size (messages ++ m ∷ []) ≡ told strategy size messages ++ callbacks_of (fold strategy Market size messages) m
+told_more strategy size messages m =
+    ap (λ (calls : List (List Callback)). flat_map (λ (c : List Callback). c) calls) (calls_after-append (new_context strategy Market size) messages (m ∷ []))
+    ∙ flat_map-append (λ (c : List Callback). c) (calls_after (new_context strategy Market size) messages) (callbacks_of (fold strategy Market size messages) m ∷ [])
+    ∙ ap (λ (calls : List Callback). told strategy size messages ++ calls) (append-nil (callbacks_of (fold strategy Market size messages) m))
 
-own_calls : (size sender n : ℕ) (messages : List MarketMsg) (m : MarketMsg) → AreInOrder sender n (messages ++ m ∷ []) → (is : Added messages m)
-    → callbacks_of (fold Market size messages) m ≡ map as_ok is.added
-own_calls size sender n messages m order is =
-    append_cancel_left (map as_ok (from_first_image messages)) (callbacks_of (fold Market size messages) m) (map as_ok is.added)
-    (ap (λ (calls : List Callback). calls ++ callbacks_of (fold Market size messages) m) (sym (orderly_law size sender n messages (order_first sender n messages (m ∷ []) order)).calls)
-    ∙ sym (told_more size messages m)
-    ∙ (orderly_law size sender n (messages ++ m ∷ []) order).calls
+own_calls : (strategy : Strategy) (size sender n : ℕ) (messages : List MarketMsg) (m : MarketMsg) → AreInOrder sender n (messages ++ m ∷ []) → (is : Added messages m)
+    → callbacks_of (fold strategy Market size messages) m ≡ map as_ok is.added
+own_calls strategy size sender n messages m order is =
+    append_cancel_left (map as_ok (from_first_image messages)) (callbacks_of (fold strategy Market size messages) m) (map as_ok is.added)
+    (ap (λ (calls : List Callback). calls ++ callbacks_of (fold strategy Market size messages) m) (sym (orderly_law strategy size sender n messages (order_first sender n messages (m ∷ []) order)).calls)
+    ∙ sym (told_more strategy size messages m)
+    ∙ (orderly_law strategy size sender n (messages ++ m ∷ []) order).calls
     ∙ ap (λ (ms : List MarketMsg). map as_ok ms) is.whole
     ∙ map-append as_ok (from_first_image messages) is.added)
 
@@ -162,9 +163,9 @@ module _ (orders : ObjectId → ℕ → List Order) (s : SubId) where
 
   -- ---- the walk over a journal
 
-  module _ (size sender n : ℕ) where
+  module _ (strategy : Strategy) (size sender n : ℕ) where
     abbrev how : Option Make
-    how = Some (make.Sub Market size)
+    how = Some (make.Sub Market size strategy)
 
     abbrev made_before : List (ℕ × QueueNote) → SubId → Option Make
     made_before before sub = first_said (λ (e : ℕ × QueueNote). make_in (Sub sub) e.1) before
@@ -214,7 +215,7 @@ module _ (orders : ObjectId → ℕ → List Order) (s : SubId) where
           ∙ ap (λ (ms : List MarketMsg). messages_of s sofar ++ msg ∷ ms) (none_made orders s (Sub s) (sofar ++ handled s msg ∷ []) (calls_for s msg)) in
           own_given sofar msg (calls_for s msg) live is
           (ap (λ (o : Option Make). callbacks_of (context_of o (messages_of s sofar)) msg) created
-          ∙ own_calls size sender n (messages_of s sofar) msg (subst (AreInOrder sender n) grown order) is) so
+          ∙ own_calls strategy size sender n (messages_of s sofar) msg (subst (AreInOrder sender n) grown order) is) so
 
       other_message : (sub : SubId) (msg : MarketMsg) → same_sub sub s ≡ false → IsGiven (sofar ++ handled sub msg ∷ rest_of sub msg)
       other_message sub msg other =
@@ -257,7 +258,7 @@ module _ (orders : ObjectId → ℕ → List Order) (s : SubId) where
 
     module _ (slot : ℕ) (tag : ObjectId) (tail : List QueueNote) where
       abbrev create : QueueNote
-      create = q.Create slot (Sub s) (make.Sub Market size) tag
+      create = q.Create slot (Sub s) (make.Sub Market size strategy) tag
 
       not_made : (note : QueueNote) → is_of (Sub s) note ≡ false → make_in (Sub s) note ≡ None
       not_made (q.Create slot object made tag) other = ap (λ (b : Bool). if b then Some made else None) other

@@ -17,9 +17,9 @@ use Rattle.mama_event.specs.declared.to_queue.Make.TheVariants as make
 use Rattle.mama_event.specs.declared.to_queue.QueueNote.{QueueNote}
 use Rattle.mama_event.specs.Publisher.{PublisherScript}
 use Rattle.mama_dq.specs.declared.table.Phase.{Phase}
-use Rattle.mama_dq.specs.declared.table.Phase.TheVariants.{Await, LiveOk, LiveStale}
+use Rattle.mama_dq.specs.declared.table.Phase.TheVariants.{Await, LiveOk, LiveStale, LiveKept}
 use Rattle.mama_dq.specs.Cache.{CacheData}
-use Rattle.mama_dq.specs.Context.{ContextData}
+use Rattle.mama_dq.specs.Context.{ContextData, quality_in}
 use Rattle.mama_dq.specs.Strategy.{fold}
 use Rattle.mama_rules_queue.specs.Queue.{deeds, messages_of, context_of, make_in}
 use Rattle.mama_record.specs.RunData.{RunData, LastImage}
@@ -30,6 +30,8 @@ use Rattle.mama_rules_rounds.specs.Round.{publishers_from, setting_of, image_in,
 use Rattle.mama_event.specs.declared.callback.Callback.{Callback}
 use Rattle.mama_event.specs.declared.callback.CallNote.{CallNote}
 use Rattle.mama_event.specs.declared.order.Order.{Order}
+use Rattle.mama_event.specs.declared.shape.Strategy.{Strategy}
+use Rattle.mama_event.specs.declared.shape.Strategy.TheVariants.{One}
 use Rattle.mama_rules_queue.specs.Queue.{calls_of}
 use Rattle.mama_rules_rounds.specs.Round.{object_calls, noted}
 use Rattle.mama_record.specs.RunData.{ObjectCalls}
@@ -63,29 +65,31 @@ module _ (publishers : List PublisherScript) where
     body = pinned.body;
   }
 
-  image_records : (s : SubId) (kind : SubKind) (phase : Phase) (sender last : ℕ) (image : List FieldData) (cache : CacheData)
-      → (phase ≡ LiveOk → IsPinned publishers sender last image)
-      → AllByRecursion IsRecordIfOk (image_in s (record { kind = kind; phase = phase; sender = sender; last = last; image = image; cache = cache }))
-  image_records s Basic phase sender last image cache pinned = tt
-  image_records s Market Await sender last image cache pinned = tt
-  image_records s Market LiveOk sender last image cache pinned = (λ ok. image_record s sender last image (pinned refl), tt)
-  image_records s Market LiveStale sender last image cache pinned = (λ ok. absurd cc, tt)
-  image_records s Snapshot Await sender last image cache pinned = tt
-  image_records s Snapshot LiveOk sender last image cache pinned = (λ ok. image_record s sender last image (pinned refl), tt)
-  image_records s Snapshot LiveStale sender last image cache pinned = (λ ok. absurd cc, tt)
+  image_records : (s : SubId) (strategy : Strategy) (kind : SubKind) (phase : Phase) (sender last : ℕ) (image : List FieldData) (cache : CacheData)
+      → (quality_in phase ≡ quality.Ok → IsPinned publishers sender last image)
+      → AllByRecursion IsRecordIfOk (image_in s (record { strategy = strategy; kind = kind; phase = phase; sender = sender; last = last; image = image; cache = cache }))
+  image_records s strategy Basic phase sender last image cache pinned = tt
+  image_records s strategy Market Await sender last image cache pinned = tt
+  image_records s strategy Market LiveOk sender last image cache pinned = (λ ok. image_record s sender last image (pinned refl), tt)
+  image_records s strategy Market LiveKept sender last image cache pinned = (λ ok. image_record s sender last image (pinned refl), tt)
+  image_records s strategy Market LiveStale sender last image cache pinned = (λ ok. absurd cc, tt)
+  image_records s strategy Snapshot Await sender last image cache pinned = tt
+  image_records s strategy Snapshot LiveOk sender last image cache pinned = (λ ok. image_record s sender last image (pinned refl), tt)
+  image_records s strategy Snapshot LiveKept sender last image cache pinned = (λ ok. image_record s sender last image (pinned refl), tt)
+  image_records s strategy Snapshot LiveStale sender last image cache pinned = (λ ok. absurd cc, tt)
 
-  folded : (s : SubId) (kind : SubKind) (size : ℕ) (messages : List MarketMsg) → AllByRecursion (IsSent publishers) messages
-      → AllByRecursion IsRecordIfOk (image_in s (fold kind size messages))
-  folded s kind size messages all =
-      let c : ContextData = fold kind size messages in
-      image_records s c.kind c.phase c.sender c.last c.image c.cache (image_pinned publishers kind size messages all)
+  folded : (s : SubId) (strategy : Strategy) (kind : SubKind) (size : ℕ) (messages : List MarketMsg) → AllByRecursion (IsSent publishers) messages
+      → AllByRecursion IsRecordIfOk (image_in s (fold strategy kind size messages))
+  folded s strategy kind size messages all =
+      let c : ContextData = fold strategy kind size messages in
+      image_records s c.strategy c.kind c.phase c.sender c.last c.image c.cache (image_pinned publishers strategy kind size messages all)
 
   made : (s : SubId) (how : Option Make) (messages : List MarketMsg) → AllByRecursion (IsSent publishers) messages
       → AllByRecursion IsRecordIfOk (image_in s (context_of how messages))
-  made s (Some (make.Sub kind cache)) messages all = folded s kind cache messages all
-  made s (Some make.Timer) messages all = folded s Basic 0 messages all
-  made s (Some make.Inbox) messages all = folded s Basic 0 messages all
-  made s None messages all = folded s Basic 0 messages all
+  made s (Some (make.Sub kind cache strategy)) messages all = folded s strategy kind cache messages all
+  made s (Some make.Timer) messages all = folded s One Basic 0 messages all
+  made s (Some make.Inbox) messages all = folded s One Basic 0 messages all
+  made s None messages all = folded s One Basic 0 messages all
 
   of_journal : (setting : Setting) (s : SubId) (journal : List (ℕ × QueueNote)) → AllByRecursion (Told publishers) journal
       → AllByRecursion IsRecordIfOk (image_in s (context_of (first_said (λ (e : ℕ × QueueNote). make_in (Sub s) e.1) journal) (messages_of s (deeds (orders_by setting) journal))))

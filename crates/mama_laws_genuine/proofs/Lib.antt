@@ -1,4 +1,5 @@
 pub mod Elements
+pub mod Reactions
 pub mod Carried
 pub mod Linked
 pub mod Bridging

@@ -18,7 +18,9 @@ use Rattle.mama_event.specs.declared.market.MsgKind.TheVariants.{Initial, Update
 use Rattle.mama_event.specs.declared.market.SubKind.{SubKind}
 use Rattle.mama_event.specs.Record.{record_after, IsGenuineBody, IsGenuine}
 use Rattle.mama_event.specs.Publisher.{PublisherScript, updates_of}
-use Rattle.mama_dq.specs.declared.table.Phase.TheVariants.{LiveOk}
+use Rattle.mama_event.specs.declared.market.Quality.TheVariants as quality
+use Rattle.mama_event.specs.declared.shape.Strategy.{Strategy}
+use Rattle.mama_dq.specs.Context.{quality_in}
 use Rattle.mama_dq.specs.Strategy.{fold}
 use Rattle.mama_dq.proofs.ImageLaw.{image_law}
 use Rattle.mama_laws_genuine.specs.Sent.{IsSent}
@@ -151,10 +153,10 @@ module _ (publishers : List PublisherScript) where
     pinned = pinned_to (section_of sender) refl
 
   -- an image that is ok, in a context that took messages of the publishers
-  pub image_pinned : (kind : SubKind) (size : ℕ) (messages : List MarketMsg) → AllByRecursion (IsSent publishers) messages
-      → (fold kind size messages).phase ≡ LiveOk
-      → IsPinned (fold kind size messages).sender (fold kind size messages).last (fold kind size messages).image
-  image_pinned kind size messages all ok =
-      pinned (fold kind size messages).sender (fold kind size messages).last (fold kind size messages).image
-      (λ other more. image_law (λ s. base_or other (section_of s)) (λ s. updates_and more (section_of s)) kind size messages
+  pub image_pinned : (strategy : Strategy) (kind : SubKind) (size : ℕ) (messages : List MarketMsg) → AllByRecursion (IsSent publishers) messages
+      → quality_in (fold strategy kind size messages).phase ≡ quality.Ok
+      → IsPinned (fold strategy kind size messages).sender (fold strategy kind size messages).last (fold strategy kind size messages).image
+  image_pinned strategy kind size messages all ok =
+      pinned (fold strategy kind size messages).sender (fold strategy kind size messages).last (fold strategy kind size messages).image
+      (λ other more. image_law (λ s. base_or other (section_of s)) (λ s. updates_and more (section_of s)) strategy kind size messages
       (all_weaker (IsSent publishers) (IsGenuine (λ s. base_or other (section_of s)) (λ s. updates_and more (section_of s))) (is_genuine other more) messages all) ok)

@@ -4,6 +4,7 @@ use Rattle.std.specs.List.{filter}
 use Rattle.std.proofs.Common.{◌≡◌, ℕ, false, List, [], ◌∷◌, ◌++◌, refl, ◌∙◌, ap, subst}
 use Rattle.mama_link.specs.declared.faults.FaultRow.{FaultRow}
 use Rattle.mama_link.specs.declared.faults.Fault.TheVariants.{Lose}
+use Rattle.mama_words.specs.declared.version.Version.TheVariants as version
 use Rattle.mama_event.specs.declared.ids.SubId.{SubId}
 use Rattle.mama_event.specs.declared.market.MarketMsg.{MarketMsg}
 use Rattle.mama_event.specs.declared.market.MsgKind.{MsgKind}
@@ -14,6 +15,7 @@ use Rattle.mama_event.specs.declared.callback.Callback.{Callback}
 use Rattle.mama_event.specs.declared.callback.Callback.TheVariants as on
 use Rattle.mama_event.specs.declared.callback.CallNote.{CallNote}
 use Rattle.mama_event.specs.declared.to_bridge.SubTerms.{SubTerms}
+use Rattle.mama_event.specs.declared.shape.Strategy.TheVariants as strategy
 use Rattle.mama_script.specs.declared.client.ClientLine.{ClientLine}
 use Rattle.mama_script.specs.declared.client.ClientLine.TheVariants as line
 use Rattle.mama_script.specs.declared.client.QueueWord.TheVariants.{Number}
@@ -34,7 +36,8 @@ part topic = record { topic = topic; base = []; lines = [] }
 -- publishers 0 and 2 have topic 0, publisher 1 has topic 1; three subscriptions of one client, behind a line that reads the clock
 abbrev script : ScriptData
 script = record {
-  shape = record { clients = 1; publisher_topics = 0 ∷ 1 ∷ 0 ∷ []; bounds = record { topics = 2; queues = 1 } };
+  version = version.One;
+  shape = record { clients = 1; publisher_topics = 0 ∷ 1 ∷ 0 ∷ []; bounds = record { topics = 2; queues = 1 }; strategy = strategy.One };
   topics = [];
   publishers = part 0 ∷ part 1 ∷ part 0 ∷ [];
   clients = (line.NowClock ∷ sub_line 1 [] ∷ sub_line 1 (record { index = 1; fault = Lose } ∷ []) ∷ sub_line 0 [] ∷ []) ∷ [];

@@ -18,6 +18,7 @@ use Rattle.mama_event.specs.declared.callback.Callback.TheVariants as on
 use Rattle.mama_event.specs.declared.order.Order.{Order}
 use Rattle.mama_event.specs.declared.to_queue.QueueNote.{QueueNote}
 use Rattle.mama_event.specs.declared.to_queue.QueueNote.TheVariants as q
+use Rattle.mama_event.specs.declared.shape.Strategy.TheVariants.{One}
 use Rattle.mama_dq.specs.Strategy.{callbacks_of}
 use Rattle.mama_rules_queue.specs.Queue.{Deed, handled, called, calls_of, calls_in, messages_in, messages_of, is_muted, is_destroy, made, make_in, context_of, served, deeds}
 use Rattle.mama_laws_genuine.specs.Sent.{Delivers, Gives}
@@ -42,10 +43,10 @@ module _ (G : MarketMsg → Type 0) (R : List FieldData → Type 0) (orders : Ob
 
   given : (how : Option Make) (messages : List MarketMsg) (msg : MarketMsg) → AllByRecursion G messages → G msg
       → AllByRecursion (Gives G R) (callbacks_of (context_of how messages) msg)
-  given (Some (make.Sub kind cache)) messages msg all h = all_given G R kind cache messages msg all h
-  given (Some make.Timer) messages msg all h = all_given G R Basic 0 messages msg all h
-  given (Some make.Inbox) messages msg all h = all_given G R Basic 0 messages msg all h
-  given None messages msg all h = all_given G R Basic 0 messages msg all h
+  given (Some (make.Sub kind cache strategy)) messages msg all h = all_given G R strategy kind cache messages msg all h
+  given (Some make.Timer) messages msg all h = all_given G R One Basic 0 messages msg all h
+  given (Some make.Inbox) messages msg all h = all_given G R One Basic 0 messages msg all h
+  given None messages msg all h = all_given G R One Basic 0 messages msg all h
 
   all_served : (before : List (ℕ × QueueNote)) (sofar : List Deed) (note : QueueNote) → AllByRecursion (InDeed G R) sofar → Delivers G R note
       → AllByRecursion (InDeed G R) (served orders before sofar note)

@@ -22,6 +22,8 @@ use Rattle.mama_event.specs.declared.to_queue.Make.{Make}
 use Rattle.mama_event.specs.declared.to_queue.Make.TheVariants as make
 use Rattle.mama_event.specs.declared.to_queue.QueueNote.{QueueNote}
 use Rattle.mama_event.specs.declared.to_queue.QueueNote.TheVariants as q
+use Rattle.mama_event.specs.declared.shape.Strategy.{Strategy}
+use Rattle.mama_event.specs.declared.shape.Strategy.TheVariants.{One}
 use Rattle.mama_dq.specs.Context.{ContextData, new_context}
 use Rattle.mama_dq.specs.Gap.{IsTrueGap, TellsTrueGap, stretch_of}
 use Rattle.mama_dq.specs.Strategy.{step_by, callbacks_of, fold}
@@ -29,7 +31,7 @@ use Rattle.mama_dq.proofs.GapLaw.{gap_law}
 use Rattle.mama_dq.proofs.StaleLaw.{stale_law}
 use Rattle.mama_dq.proofs.SameKind.{after_all_kind}
 use Rattle.mama_rules_queue.specs.Queue.{Deed, handled, called, calls_in, calls_of, messages_in, messages_of, is_muted, is_destroy, made, make_in, context_of, served, deeds}
-use Rattle.mama_laws_genuine.specs.Told.{IsMadeBy, TellsOf, kind_of, size_of}
+use Rattle.mama_laws_genuine.specs.Told.{IsMadeBy, TellsOf, strategy_of, kind_of, size_of}
 use Rattle.mama_laws_genuine.proofs.Elements.{all_append, all_if, all_flat_map, all_weaker, all_both}
 
 -- what is said first among the first entries is nothing, or what is said first among all
@@ -42,29 +44,29 @@ said_first say (e ∷ before) es =
     ]
 
 -- a message of a basic subscription tells nothing but itself
-basic_calls : (kind : SubKind) (size : ℕ) (messages : List MarketMsg) (c : ContextData) (m : MarketMsg) → c.kind ≡ Basic
-    → AllByRecursion (TellsOf kind size messages) (callbacks_of c m)
-basic_calls kind size messages c m basic = subst (λ (k : SubKind). AllByRecursion (TellsOf kind size messages) (step_by k c m).calls) (sym basic) (tt, tt)
+basic_calls : (strategy : Strategy) (kind : SubKind) (size : ℕ) (messages : List MarketMsg) (c : ContextData) (m : MarketMsg) → c.kind ≡ Basic
+    → AllByRecursion (TellsOf strategy kind size messages) (callbacks_of c m)
+basic_calls strategy kind size messages c m basic = subst (λ (k : SubKind). AllByRecursion (TellsOf strategy kind size messages) (step_by k c m).calls) (sym basic) (tt, tt)
 
 module _ (orders : ObjectId → ℕ → List Order) (s : SubId) (how : Option Make) where
   abbrev Tells : List MarketMsg → Callback → Type 0
-  Tells messages call = TellsOf (kind_of how) (size_of how) messages call
+  Tells messages call = TellsOf (strategy_of how) (kind_of how) (size_of how) messages call
 
   abbrev DeedTells : List MarketMsg → Deed → Type 0
   DeedTells messages (handled sub msg) = Unit {0}
   DeedTells messages (called object call given) = same_object object (Sub s) ≡ true → Tells messages call
 
   -- each gap that a message tells is true, and it calls the image stale for a reason
-  gaps_true : (messages : List MarketMsg) (first to : ℕ) (other : IsMadeBy (kind_of how) (size_of how) messages (on.Gap first to))
-      → IsTrueGap (stretch_of (kind_of how) (size_of how) other.before other.message) other.message.sender first to
+  gaps_true : (messages : List MarketMsg) (first to : ℕ) (other : IsMadeBy (strategy_of how) (kind_of how) (size_of how) messages (on.Gap first to))
+      → IsTrueGap (stretch_of (strategy_of how) (kind_of how) (size_of how) other.before other.message) other.message.sender first to
   gaps_true messages first to other =
-      let True : Callback → Type 0 = TellsTrueGap (stretch_of (kind_of how) (size_of how) other.before other.message) other.message.sender in
-      let calls : List Callback = callbacks_of (fold (kind_of how) (size_of how) other.before) other.message in
-      All-contains True calls (on.Gap first to) (All-from_recursion True calls (gap_law (kind_of how) (size_of how) other.before other.message)) other.made
+      let True : Callback → Type 0 = TellsTrueGap (stretch_of (strategy_of how) (kind_of how) (size_of how) other.before other.message) other.message.sender in
+      let calls : List Callback = callbacks_of (fold (strategy_of how) (kind_of how) (size_of how) other.before) other.message in
+      All-contains True calls (on.Gap first to) (All-from_recursion True calls (gap_law (strategy_of how) (kind_of how) (size_of how) other.before other.message)) other.made
 
   -- what was told stays true while more messages are handled
-  abbrev later_made : (messages more : List MarketMsg) (call : Callback) → IsMadeBy (kind_of how) (size_of how) messages call
-      → IsMadeBy (kind_of how) (size_of how) (messages ++ more) call
+  abbrev later_made : (messages more : List MarketMsg) (call : Callback) → IsMadeBy (strategy_of how) (kind_of how) (size_of how) messages call
+      → IsMadeBy (strategy_of how) (kind_of how) (size_of how) (messages ++ more) call
   later_made messages more call by = record {
     before = by.before;
     message = by.message;
@@ -79,11 +81,12 @@ module _ (orders : ObjectId → ℕ → List Order) (s : SubId) (how : Option Ma
   later_tells messages more (on.Quality quality.Stale n) told = record {
     by = later_made messages more (on.Quality quality.Stale n) told.by;
     reason = told.reason;
-    each = λ other. stale_law (kind_of how) (size_of how) other.before other.message;
+    each = λ other. stale_law (strategy_of how) (kind_of how) (size_of how) other.before other.message;
   }
   later_tells messages more (on.RecapRequest sender) told = later_made messages more (on.RecapRequest sender) told
   later_tells messages more on.Create told = tt
   later_tells messages more (on.Msg m q) told = tt
+  later_tells messages more (on.Late a n) told = later_made messages more (on.Late a n) told
   later_tells messages more (on.Error e) told = tt
   later_tells messages more on.Destroy told = tt
   later_tells messages more (on.Tick t) told = tt
@@ -105,22 +108,23 @@ module _ (orders : ObjectId → ℕ → List Order) (s : SubId) (how : Option Ma
   -- what a message tells is true of the messages before it and itself
   module _ (before : List MarketMsg) (m : MarketMsg) (later messages : List MarketMsg) (cut : messages ≡ before ++ m ∷ later) where
     abbrev own_calls : List Callback
-    own_calls = callbacks_of (fold (kind_of how) (size_of how) before) m
+    own_calls = callbacks_of (fold (strategy_of how) (kind_of how) (size_of how) before) m
 
-    abbrev by_it : (call : Callback) → Contains own_calls call → IsMadeBy (kind_of how) (size_of how) messages call
+    abbrev by_it : (call : Callback) → Contains own_calls call → IsMadeBy (strategy_of how) (kind_of how) (size_of how) messages call
     by_it call made = record { before = before; message = m; later = later; cut = cut; made = made }
 
-    true_call : (call : Callback) → TellsTrueGap (stretch_of (kind_of how) (size_of how) before m) m.sender call × Contains own_calls call → Tells messages call
+    true_call : (call : Callback) → TellsTrueGap (stretch_of (strategy_of how) (kind_of how) (size_of how) before m) m.sender call × Contains own_calls call → Tells messages call
     true_call (on.Gap first to) (gap, made) = record { by = by_it (on.Gap first to) made; gap = gap; each = gaps_true messages first to }
     true_call (on.Quality quality.Ok n) (gap, made) = by_it (on.Quality quality.Ok n) made
     true_call (on.Quality quality.Stale n) (gap, made) = record {
       by = by_it (on.Quality quality.Stale n) made;
-      reason = stale_law (kind_of how) (size_of how) before m;
-      each = λ other. stale_law (kind_of how) (size_of how) other.before other.message;
+      reason = stale_law (strategy_of how) (kind_of how) (size_of how) before m;
+      each = λ other. stale_law (strategy_of how) (kind_of how) (size_of how) other.before other.message;
     }
     true_call (on.RecapRequest sender) (gap, made) = by_it (on.RecapRequest sender) made
     true_call on.Create both = tt
     true_call (on.Msg given q) both = tt
+    true_call (on.Late a n) (gap, made) = by_it (on.Late a n) made
     true_call (on.Error e) both = tt
     true_call on.Destroy both = tt
     true_call (on.Tick t) both = tt
@@ -128,12 +132,12 @@ module _ (orders : ObjectId → ℕ → List Order) (s : SubId) (how : Option Ma
 
     own_true : AllByRecursion (Tells messages) own_calls
     own_true =
-        let True : Callback → Type 0 = TellsTrueGap (stretch_of (kind_of how) (size_of how) before m) m.sender in
+        let True : Callback → Type 0 = TellsTrueGap (stretch_of (strategy_of how) (kind_of how) (size_of how) before m) m.sender in
         all_weaker (λ (call : Callback). True call × Contains own_calls call) (Tells messages) true_call own_calls
-        (all_both True (Contains own_calls) own_calls (gap_law (kind_of how) (size_of how) before m) (recursion_from_All (Contains own_calls) own_calls (All-contains_itself own_calls)))
+        (all_both True (Contains own_calls) own_calls (gap_law (strategy_of how) (kind_of how) (size_of how) before m) (recursion_from_All (Contains own_calls) own_calls (All-contains_itself own_calls)))
 
-  context_is : (o : Option Make) (messages : List MarketMsg) → context_of o messages ≡ fold (kind_of o) (size_of o) messages
-  context_is (Some (make.Sub kind cache)) messages = refl
+  context_is : (o : Option Make) (messages : List MarketMsg) → context_of o messages ≡ fold (strategy_of o) (kind_of o) (size_of o) messages
+  context_is (Some (make.Sub kind cache strategy)) messages = refl
   context_is (Some make.Timer) messages = refl
   context_is (Some make.Inbox) messages = refl
   context_is None messages = refl
@@ -142,7 +146,7 @@ module _ (orders : ObjectId → ℕ → List Order) (s : SubId) (how : Option Ma
       → messages ≡ before ++ m ∷ later → AllByRecursion (Tells messages) (callbacks_of (context_of so_far before) m)
   message_tells so_far (inl none) before m later messages cut =
       subst (λ (o : Option Make). AllByRecursion (Tells messages) (callbacks_of (context_of o before) m)) (sym none)
-      (basic_calls (kind_of how) (size_of how) messages (fold Basic 0 before) m (after_all_kind before (new_context Basic 0)))
+      (basic_calls (strategy_of how) (kind_of how) (size_of how) messages (fold One Basic 0 before) m (after_all_kind before (new_context One Basic 0)))
   message_tells so_far (inr same) before m later messages cut =
       subst (λ (c : ContextData). AllByRecursion (Tells messages) (callbacks_of c m)) (sym (ap (λ (o : Option Make). context_of o before) same ∙ context_is how before))
       (own_true before m later messages cut)
@@ -208,7 +212,7 @@ module _ (orders : ObjectId → ℕ → List Order) (s : SubId) (how : Option Ma
 
 -- each gap that the callbacks of a subscription tell
 pub calls_tell : (orders : ObjectId → ℕ → List Order) (s : SubId) (journal : List (ℕ × QueueNote))
-    → AllByRecursion (λ (c : Callback × List Order). TellsOf (kind_of (first_said (λ (e : ℕ × QueueNote). make_in (Sub s) e.1) journal)) (size_of (first_said (λ (e : ℕ × QueueNote). make_in (Sub s) e.1) journal)) (messages_of s (deeds orders journal)) c.0)
+    → AllByRecursion (λ (c : Callback × List Order). TellsOf (strategy_of (first_said (λ (e : ℕ × QueueNote). make_in (Sub s) e.1) journal)) (kind_of (first_said (λ (e : ℕ × QueueNote). make_in (Sub s) e.1) journal)) (size_of (first_said (λ (e : ℕ × QueueNote). make_in (Sub s) e.1) journal)) (messages_of s (deeds orders journal)) c.0)
     (calls_of (Sub s) (deeds orders journal))
 calls_tell orders s journal =
     let how : Option Make = first_said (λ (e : ℕ × QueueNote). make_in (Sub s) e.1) journal in

@@ -13,7 +13,7 @@ use Rattle.mama_rules_queue.specs.Queue.{calls_of, deeds, messages_of, make_in}
 use Rattle.mama_rules_rounds.specs.Client.{Planned}
 use Rattle.mama_rules_rounds.specs.World.{Setting, orders_by}
 use Rattle.mama_rules_rounds.specs.Round.{setting_of, object_calls, noted}
-use Rattle.mama_laws_genuine.specs.Told.{TellsOf, kind_of, size_of}
+use Rattle.mama_laws_genuine.specs.Told.{TellsOf, strategy_of, kind_of, size_of}
 use Rattle.mama_laws_genuine.specs.Gaps.{TellTrueGaps, HasTrueGaps, ToldGapsAreTrue}
 use Rattle.mama_laws_genuine.proofs.Elements.{all_map}
 use Rattle.mama_laws_genuine.proofs.Telling.{calls_tell}
@@ -28,7 +28,7 @@ calls_true : (setting : Setting) (journal : List (ℕ × QueueNote)) (o : Object
 calls_true setting journal (Sub s) =
     let how = first_said (λ (e : ℕ × QueueNote). make_in (Sub s) e.1) journal in
     let messages = messages_of s (deeds (orders_by setting) journal) in
-    all_map (λ (c : Callback × List Order). TellsOf (kind_of how) (size_of how) messages c.0) (λ (n : CallNote). TellsOf (kind_of how) (size_of how) messages n.call) noted
+    all_map (λ (c : Callback × List Order). TellsOf (strategy_of how) (kind_of how) (size_of how) messages c.0) (λ (n : CallNote). TellsOf (strategy_of how) (kind_of how) (size_of how) messages n.call) noted
     (λ c told. told) (calls_of (Sub s) (deeds (orders_by setting) journal)) (calls_tell (orders_by setting) s journal)
 calls_true setting journal (Timer t) = tt
 calls_true setting journal (Inbox i) = tt

@@ -20,6 +20,7 @@ use Rattle.mama_event.specs.declared.to_queue.Make.{Make}
 use Rattle.mama_event.specs.declared.to_queue.Make.TheVariants as make
 use Rattle.mama_event.specs.declared.to_queue.QueueNote.{QueueNote}
 use Rattle.mama_event.specs.declared.to_queue.QueueNote.TheVariants as q
+use Rattle.mama_event.specs.declared.shape.Strategy.TheVariants.{One}
 use Rattle.mama_dq.specs.Strategy.{callbacks_of}
 use Rattle.mama_rules_queue.specs.Queue.{Deed, handled, called, calls_of, messages_in, messages_of, is_muted, is_destroy, made, make_in, context_of, served, deeds, deeds_at, QueuePut, to_bridge, to_timers, order_put, wish_put, puts_of, is_fin, bye_put, queue_puts_at}
 use Rattle.mama_laws_legal.proofs.Lives.{same_sub-is}
@@ -74,10 +75,10 @@ module _ (s : SubId) (own : ℕ) where
 
     asked : (how : Option Make) (messages : List MarketMsg) (msg : MarketMsg) → AllByRecursion Mine messages → Mine msg
         → AllByRecursion (Asks own) (callbacks_of (context_of how messages) msg)
-    asked (Some (make.Sub kind cache)) messages msg all is = all_ask own kind cache messages msg all is
-    asked (Some make.Timer) messages msg all is = all_ask own Basic 0 messages msg all is
-    asked (Some make.Inbox) messages msg all is = all_ask own Basic 0 messages msg all is
-    asked None messages msg all is = all_ask own Basic 0 messages msg all is
+    asked (Some (make.Sub kind cache strategy)) messages msg all is = all_ask own strategy kind cache messages msg all is
+    asked (Some make.Timer) messages msg all is = all_ask own One Basic 0 messages msg all is
+    asked (Some make.Inbox) messages msg all is = all_ask own One Basic 0 messages msg all is
+    asked None messages msg all is = all_ask own One Basic 0 messages msg all is
 
     module _ (before : List (ℕ × QueueNote)) (sofar : List Deed) (so : AllByRecursion InDeed sofar) where
       abbrev calls_for : SubId → MarketMsg → List Callback

@@ -1,4 +1,4 @@
--- believed: what a run promises of gaps, of quality and of recaps.
+-- believed: what a run promises of gaps, of quality, of recaps and of late updates.
 use Rattle.std.specs.Prelude.{◌≡◌, ℕ, List, [], Option, slice_index_or}
 use Rattle.std.specs.List.{AllByRecursion, AllZip}
 use Rattle.mama_journal.specs.Journal.{first_said}
@@ -15,11 +15,11 @@ use Rattle.mama_rules_rounds.specs.Client.{Planned}
 use Rattle.mama_rules_rounds.specs.World.{Setting, orders_by}
 use Rattle.mama_rules_rounds.specs.Round.{setting_of}
 use Rattle.mama_rules_legal.specs.Calls.{AreCalls}
-use Rattle.mama_laws_genuine.specs.Told.{TellsOf, kind_of, size_of}
+use Rattle.mama_laws_genuine.specs.Told.{TellsOf, strategy_of, kind_of, size_of}
 
 -- what each of some callbacks tells is true of the messages, for a subscription made in this way
 abbrev pub TellOf : Option Make → List MarketMsg → List CallNote → Type 0
-TellOf how messages calls = AllByRecursion (λ (n : CallNote). TellsOf (kind_of how) (size_of how) messages n.call) calls
+TellOf how messages calls = AllByRecursion (λ (n : CallNote). TellsOf (strategy_of how) (kind_of how) (size_of how) messages n.call) calls
 
 -- what the callbacks of a subscription tell is true of the messages it handled, by the journal of its queue
 abbrev pub TellTrueGaps : Setting → List (ℕ × QueueNote) → ObjectId → List CallNote → Type 0
@@ -34,7 +34,7 @@ pub record HasTrueGaps (setting : Setting) (queues : List (List (ℕ × QueueNot
   pub gaps : TellTrueGaps setting (slice_index_or queues p.queue []) p.object c.calls
 
 -- in a record of a script whose callbacks are those that its queues make, what a subscription's listener is told of gaps,
--- of quality and of recaps is true of the messages it handled
+-- of quality, of recaps and of late updates is true of the messages it handled
 abbrev pub ToldGapsAreTrue : Type 0
 ToldGapsAreTrue = (script : ScriptData) (run : RunData) → AreCalls script run
     → AllZip (HasTrueGaps (setting_of script) run.queues) (setting_of script).objects run.calls

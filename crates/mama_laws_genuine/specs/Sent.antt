@@ -55,6 +55,7 @@ Gives G R on.Create = Unit {0}
 Gives G R (on.Gap first to) = Unit {0}
 Gives G R (on.Quality q n) = Unit {0}
 Gives G R (on.RecapRequest s) = Unit {0}
+Gives G R (on.Late s n) = Unit {0}
 Gives G R (on.Error e) = Unit {0}
 Gives G R on.Destroy = Unit {0}
 Gives G R (on.Tick t) = Unit {0}

@@ -16,7 +16,8 @@ use Rattle.mama_laws_bridge.specs.Laws.{Alone}
 use Rattle.mama_laws_bridge.proofs.Lists.{Each, list_any-map}
 use Rattle.mama_laws_bridge.proofs.Live.{list_any-push}
 use Rattle.mama_laws_lawful.specs.Streams.{takes_least}
-use Rattle.mama_laws_lawful.proofs.Slots.{least_free-free, least_free-same}
+use Rattle.mama_slots.proofs.Least.{least_free-free}
+use Rattle.mama_laws_lawful.proofs.Slots.{least_free-same}
 use Rattle.mama_laws_lawful.proofs.Lists.{any_mid, any_filter, empty_if, alone_put, alone_around, without_one}
 
 -- the block of an object in a slot

@@ -88,7 +88,7 @@ steady_closing shape table e h =
 -- what is put where the ending does not come
 pub steady_puts : (shape : Shape) (table : Table) (e : BridgeEvent) → begins_ending table e ≡ false → Steady (table_puts shape table e)
 steady_puts shape table (joins s terms tag) h =
-    steady_unless (has_joined s table) (to_queue terms.queue (q.Create (slot_for terms.queue table) (Sub s) (make.Sub terms.kind terms.cache) tag) ∷ wants_image shape s terms.kind terms.topic)
+    steady_unless (has_joined s table) (to_queue terms.queue (q.Create (slot_for terms.queue table) (Sub s) (make.Sub terms.kind terms.cache shape.strategy) tag) ∷ wants_image shape s terms.kind terms.topic)
     (refl, steady_silent (wants_image shape s terms.kind terms.topic) (silent_image shape s terms.kind terms.topic))
 steady_puts shape table (leaves s) h = steady_sub_ends (filter (of_sub s) table.subs)
 steady_puts shape table (opens i terms tag) h = steady_unless (has_opened i table) (to_queue terms.queue (q.Create (slot_for terms.queue table) (Inbox i) make.Inbox tag) ∷ []) (refl, tt)

@@ -161,13 +161,13 @@ module _ (queue : ℕ) (shape : Shape) where
     sub_joins : (s : SubId) (terms : SubTerms) (tag : ObjectId) (had ended : Bool) → has_joined s table ≡ had → ended ≡ false
         → Going (sub_blocks (cond had table.subs (table.subs ++ kept ended (new_sub table s terms ∷ []))) ++ inbox_blocks table.inboxes)
         (known (cond had table.joined (table.joined ++ s ∷ [])) table.opened)
-        (notes ++ part (cond had [] (to_queue terms.queue (q.Create (slot_for terms.queue table) (Sub s) (make.Sub terms.kind terms.cache) tag) ∷ wants_image shape s terms.kind terms.topic)))
+        (notes ++ part (cond had [] (to_queue terms.queue (q.Create (slot_for terms.queue table) (Sub s) (make.Sub terms.kind terms.cache shape.strategy) tag) ∷ wants_image shape s terms.kind terms.topic)))
     sub_joins s terms tag true ended h yet = subst (Going (sub_blocks table.subs ++ inbox_blocks table.inboxes) (known table.joined table.opened)) (sym (append-nil notes)) g
     sub_joins s terms tag false true h yet = cc
     sub_joins s terms tag false false h yet =
         let row : SubRow = new_sub table s terms in
         let one : List Block = cond (terms.queue == queue) (sub_block row ∷ []) [] in
-        let create : List QueueNote = cond (terms.queue == queue) (q.Create row.slot (Sub s) (make.Sub terms.kind terms.cache) tag ∷ []) [] in
+        let create : List QueueNote = cond (terms.queue == queue) (q.Create row.slot (Sub s) (make.Sub terms.kind terms.cache shape.strategy) tag ∷ []) [] in
         let more : ObjectId → Bool = known (table.joined ++ s ∷ []) table.opened in
         let blocks : sub_blocks table.subs ++ (one ++ inbox_blocks table.inboxes) ≡ sub_blocks (table.subs ++ row ∷ []) ++ inbox_blocks table.inboxes =
         sym (append_assoc (sub_blocks table.subs) one (inbox_blocks table.inboxes))
@@ -177,7 +177,7 @@ module _ (queue : ℕ) (shape : Shape) where
         sym (ap (λ (ns : List QueueNote). create ++ ns) (silent_part queue (wants_image shape s terms.kind terms.topic) (silent_image shape s terms.kind terms.topic)) ∙ append-nil create) in
         subst (λ (bs : List Block). Going bs more (notes ++ (create ++ part (wants_image shape s terms.kind terms.topic)))) blocks
         (subst (λ (ns : List QueueNote). Going (sub_blocks table.subs ++ (one ++ inbox_blocks table.inboxes)) more (notes ++ ns)) put
-        (create_here (terms.queue == queue) (sub_blocks table.subs) (inbox_blocks table.inboxes) (sub_block row) (known table.joined table.opened) more notes (make.Sub terms.kind terms.cache) tag
+        (create_here (terms.queue == queue) (sub_blocks table.subs) (inbox_blocks table.inboxes) (sub_block row) (known table.joined table.opened) more notes (make.Sub terms.kind terms.cache shape.strategy) tag
         refl refl (slot_is_least terms.queue) h (joined_more table.joined table.opened s) g))
 
     inbox_opens : (i : InboxId) (terms : InboxTerms) (tag : ObjectId) (had ended : Bool) → has_opened i table ≡ had → ended ≡ false

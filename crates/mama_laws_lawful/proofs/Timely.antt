@@ -1,6 +1,6 @@
 -- Where each client put what it may, nothing is joined or opened after the ending.
 use Rattle.std.specs.List.{list_any}
-use Rattle.std.proofs.Common.{◌≡◌, ℕ, zero, suc, ◌<◌, ◌-◌, ◌==◌, Bool, true, false, not, cond, List, [], ◌∷◌, ◌++◌, map, refl, sym, ◌∙◌, ap, subst, arith, eq-eqb, ⊎_elim}
+use Rattle.std.proofs.Common.{◌≡◌, ℕ, zero, suc, ◌<◌, ◌-◌, ◌==◌, Bool, true, false, not, cond, List, [], ◌∷◌, ◌++◌, map, refl, sym, ◌∙◌, ap, subst, arith, eq-eqb, eqb-true, ⊎_elim}
 use Rattle.std.proofs.lemmas.Bool.{and_parts, or_left, or_right, or_cases, cases_Bool, cases_lt, both_ways, ltb-true, false_from_ne_true}
 use Rattle.mama_journal.specs.Journal.{all_below}
 use Rattle.mama_journal.specs.Lane.{by_port}
@@ -13,6 +13,7 @@ use Rattle.mama_event.specs.declared.to_bridge.BridgeNote.{BridgeNote}
 use Rattle.mama_event.specs.declared.to_bridge.BridgeNote.TheVariants as b
 use Rattle.mama_rules_services.specs.Ports.{Putter, ByClient, ByPublisher, ByQueue, ByBridge, ByTimers, ByNobody, bridge_putter}
 use Rattle.mama_rules_services.specs.Bridge.{BridgeEvent, joins, opens, no_event, put_by, heard, ends_client, is_settling, has_ending}
+use Rattle.mama_rules_services.proofs.CameBy.{came_by}
 use Rattle.mama_laws_lawful.specs.Streams.{is_beginning}
 use Rattle.mama_laws_lawful.specs.Laws.{LawfulClientsAreTimely}
 
@@ -108,18 +109,9 @@ port_is shape port c h =
 
 -- a client that is done put its last word by its port
 last_came : (shape : Shape) (c : ℕ) (journal : List (ℕ × BridgeNote)) → list_any (ends_client c) (heard shape journal) ≡ true → list_any bridge.is_last (by_port c journal) ≡ true
-last_came shape c [] h = h
-last_came shape c (x ∷ xs) h = ⊎_elim
-    (λ (here : ends_client c (put_by (bridge_putter shape x.0) x.1) ≡ true).
-    let parts = done_by c (bridge_putter shape x.0) x.1 here in
-    ap (λ (t : Bool). list_any bridge.is_last (cond t (x.1 ∷ by_port c xs) (by_port c xs))) (port_is shape x.0 c parts.0)
-    ∙ or_left (bridge.is_last x.1) (list_any bridge.is_last (by_port c xs)) parts.1)
-    (λ (later : list_any (ends_client c) (heard shape xs) ≡ true). more (x.0 == c) (last_came shape c xs later))
-    (or_cases (ends_client c (put_by (bridge_putter shape x.0) x.1)) (list_any (ends_client c) (heard shape xs)) h)
-  where
-    more : (t : Bool) → list_any bridge.is_last (by_port c xs) ≡ true → list_any bridge.is_last (cond t (x.1 ∷ by_port c xs) (by_port c xs)) ≡ true
-    more true h = or_right (bridge.is_last x.1) (list_any bridge.is_last (by_port c xs)) h
-    more false h = h
+last_came shape c journal h =
+    came_by (λ (port : ℕ) (note : BridgeNote). put_by (bridge_putter shape port) note) c bridge.is_last (ends_client c)
+    (λ port note is. let parts = done_by c (bridge_putter shape port) note is in (eqb-true port c (port_is shape port c parts.0), parts.1)) journal h
 
 pub by_port_middle : {V : Type 0} (port : ℕ) (xs : List (ℕ × V)) (y : ℕ × V) (ys : List (ℕ × V)) → (y.0 == port) ≡ true → by_port port (xs ++ y ∷ ys) ≡ by_port port xs ++ y.1 ∷ by_port port ys
 by_port_middle {V} port [] y ys h = ap (λ (t : Bool). cond t (y.1 ∷ by_port port ys) (by_port port ys)) h

@@ -19,6 +19,7 @@ use Rattle.mama_event.specs.declared.to_queue.QueueNote.{QueueNote}
 use Rattle.mama_event.specs.declared.to_queue.QueueNote.TheVariants as q
 use Rattle.mama_event.specs.declared.to_timers.TimersNote.TheVariants as t
 use Rattle.mama_event.specs.declared.shape.Shape.{Shape}
+use Rattle.mama_event.specs.declared.shape.Strategy.TheVariants as strategy
 use Rattle.mama_rules_services.specs.Bridge.{has_ending}
 use Rattle.mama_laws_lawful.specs.Streams.{queue_stream, publisher_stream, timers_stream, is_gone}
 
@@ -43,7 +44,7 @@ update n = record { kind = Update; sender = 1; seq = n; body = [] }
 
 -- one client, one publisher and one queue
 abbrev small : Shape
-small = record { clients = 1; publisher_topics = 0 ∷ []; bounds = record { topics = 1; queues = 1 } }
+small = record { clients = 1; publisher_topics = 0 ∷ []; bounds = record { topics = 1; queues = 1 }; strategy = strategy.One }
 
 -- A subscription is left before it joins, joined twice and left twice, and its slot is given on; an inbox is open at the
 -- ending, and the ending comes before the last Leave.
@@ -65,11 +66,11 @@ disorder =
     ∷ []
 
 stream_of_disorder : queue_stream small disorder 0 ≡
-    q.Create 0 (Sub (sub 0)) (make.Sub Market 10) (Sub (sub 0))
+    q.Create 0 (Sub (sub 0)) (make.Sub Market 10 strategy.One) (Sub (sub 0))
     ∷ q.Create 1 (Inbox (inbox 0)) make.Inbox (Inbox (inbox 0))
     ∷ q.Deliver 0 (sub 0) (update 1)
     ∷ q.Gone 0 (Sub (sub 0))
-    ∷ q.Create 0 (Sub (sub 1)) (make.Sub Market 10) (Sub (sub 1))
+    ∷ q.Create 0 (Sub (sub 1)) (make.Sub Market 10 strategy.One) (Sub (sub 1))
     ∷ q.Gone 0 (Sub (sub 1))
     ∷ q.Gone 1 (Inbox (inbox 0))
     ∷ q.Fin
@@ -87,12 +88,12 @@ gone_once = refl
 
 -- a client that joins after its last word, and with it after the ending
 abbrev alone : Shape
-alone = record { clients = 1; publisher_topics = []; bounds = record { topics = 1; queues = 1 } }
+alone = record { clients = 1; publisher_topics = []; bounds = record { topics = 1; queues = 1 }; strategy = strategy.One }
 
 abbrev late : List (ℕ × BridgeNote)
 late = (0, b.ClientDone) ∷ (0, b.Join (sub 0) terms (Sub (sub 0))) ∷ []
 
-stream_of_late : queue_stream alone late 0 ≡ q.Fin ∷ q.Create 0 (Sub (sub 0)) (make.Sub Market 10) (Sub (sub 0)) ∷ []
+stream_of_late : queue_stream alone late 0 ≡ q.Fin ∷ q.Create 0 (Sub (sub 0)) (make.Sub Market 10 strategy.One) (Sub (sub 0)) ∷ []
 stream_of_late = refl
 
 late_is_not_lawful : is_lawful (queue_stream alone late 0) ≡ false
@@ -111,7 +112,7 @@ publisher_of_late = refl
 
 -- where nobody has a last word to say the ending stands from the start, and is told to nobody
 abbrev nobody : Shape
-nobody = record { clients = 0; publisher_topics = []; bounds = record { topics = 1; queues = 1 } }
+nobody = record { clients = 0; publisher_topics = []; bounds = record { topics = 1; queues = 1 }; strategy = strategy.One }
 
 nobody_ends : has_ending nobody [] ≡ true
 nobody_ends = refl

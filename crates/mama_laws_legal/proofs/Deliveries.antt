@@ -126,7 +126,7 @@ answer_stream shape s es sofar (joins r terms tag) again = by_case (same_sub r s
     ∙ live_none (is_live shape s es) (stream s (passed shape es sofar (joins r terms tag) s)) (passed_none s shape es sofar (joins r terms tag) (no_messages shape s (joins r terms tag) (λ topic. refl) (first_said (terms_in s) es)))
   where
     put : List BridgePut
-    put = to_queue terms.queue (q.Create (free_slot shape es sofar terms.queue) (Sub r) (make.Sub terms.kind terms.cache) tag) ∷ wants_image shape r terms.kind terms.topic
+    put = to_queue terms.queue (q.Create (free_slot shape es sofar terms.queue) (Sub r) (make.Sub terms.kind terms.cache shape.strategy) tag) ∷ wants_image shape r terms.kind terms.topic
 
     known : (b : Bool) → same_sub r s ≡ b → is_some (cond (same_sub r s) (Some terms) None) ≡ b
     known true same = ap (λ (b : Bool). is_some (cond b (Some terms) None)) same
@@ -139,7 +139,7 @@ answer_stream shape s es sofar (joins r terms tag) again = by_case (same_sub r s
     by_case : (b : Bool) → same_sub r s ≡ b → stream s (cond (list_any (joins_sub r) es) [] put) ≡ []
     by_case true same = ap (λ (b : Bool). stream s (cond b [] put)) (ap (λ (u : SubId). list_any (joins_sub u) es) (same_sub-is r s same) ∙ again (known true same))
     by_case false same = either (list_any (joins_sub r) es)
-        (ap (λ (b : Bool). cond b ((terms.queue, q.Create (free_slot shape es sofar terms.queue) (Sub r) (make.Sub terms.kind terms.cache) tag) ∷ []) [] ++ stream s (wants_image shape r terms.kind terms.topic)) same
+        (ap (λ (b : Bool). cond b ((terms.queue, q.Create (free_slot shape es sofar terms.queue) (Sub r) (make.Sub terms.kind terms.cache shape.strategy) tag) ∷ []) [] ++ stream s (wants_image shape r terms.kind terms.topic)) same
         ∙ stream_wants s r shape terms.kind terms.topic)
 answer_stream shape s es sofar (leaves r) again = by_case (same_sub r s) refl
   where
@@ -191,10 +191,10 @@ answer_stream shape s es sofar no_event again =
 
 -- the first join of it
 pub join_stream : (shape : Shape) (s : SubId) (es : List BridgeEvent) (sofar : List BridgePut) (terms : SubTerms) (tag : ObjectId) → list_any (joins_sub s) es ≡ false
-    → stream s (answer shape es sofar (joins s terms tag)) ≡ (terms.queue, q.Create (free_slot shape es sofar terms.queue) (Sub s) (make.Sub terms.kind terms.cache) tag) ∷ []
+    → stream s (answer shape es sofar (joins s terms tag)) ≡ (terms.queue, q.Create (free_slot shape es sofar terms.queue) (Sub s) (make.Sub terms.kind terms.cache shape.strategy) tag) ∷ []
 join_stream shape s es sofar terms tag new =
-    let made : ℕ × QueueNote = (terms.queue, q.Create (free_slot shape es sofar terms.queue) (Sub s) (make.Sub terms.kind terms.cache) tag) in
-    ap (λ (b : Bool). stream s (cond b [] (to_queue terms.queue (q.Create (free_slot shape es sofar terms.queue) (Sub s) (make.Sub terms.kind terms.cache) tag) ∷ wants_image shape s terms.kind terms.topic))) new
+    let made : ℕ × QueueNote = (terms.queue, q.Create (free_slot shape es sofar terms.queue) (Sub s) (make.Sub terms.kind terms.cache shape.strategy) tag) in
+    ap (λ (b : Bool). stream s (cond b [] (to_queue terms.queue (q.Create (free_slot shape es sofar terms.queue) (Sub s) (make.Sub terms.kind terms.cache shape.strategy) tag) ∷ wants_image shape s terms.kind terms.topic))) new
     ∙ ap (λ (b : Bool). cond b (made ∷ []) [] ++ stream s (wants_image shape s terms.kind terms.topic)) (same_sub-itself s)
     ∙ ap (λ (ws : List (ℕ × QueueNote)). made ∷ ws) (stream_wants s s shape terms.kind terms.topic)
 

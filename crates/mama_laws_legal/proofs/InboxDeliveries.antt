@@ -153,7 +153,7 @@ answer_stream shape s es sofar (closes r) again = by_case (same_inbox r s) refl
 answer_stream shape s es sofar (joins r terms tag) again =
     either (list_any (joins_sub r) es) ∙ nothing_for shape s es sofar (joins r terms tag) refl
   where
-    either : (b : Bool) → stream s (cond b [] (to_queue terms.queue (q.Create (free_slot shape es sofar terms.queue) (Sub r) (make.Sub terms.kind terms.cache) tag) ∷ wants_image shape r terms.kind terms.topic)) ≡ []
+    either : (b : Bool) → stream s (cond b [] (to_queue terms.queue (q.Create (free_slot shape es sofar terms.queue) (Sub r) (make.Sub terms.kind terms.cache shape.strategy) tag) ∷ wants_image shape r terms.kind terms.topic)) ≡ []
     either true = refl
     either false = stream_wants s r shape terms.kind terms.topic
 answer_stream shape s es sofar (leaves r) again = none_cond (Inbox s) (is_live shape r es) (ended shape es sofar r) (sub_away s r shape es sofar) ∙ nothing_for shape s es sofar (leaves r) refl

@@ -64,7 +64,7 @@ module _ (timer : TimerId) where
 
   answer_none : (shape : Shape) (es : List BridgeEvent) (sofar : List BridgePut) (e : BridgeEvent) → stream_of (Timer timer) (answer shape es sofar e) ≡ []
   answer_none shape es sofar (joins s terms tag) =
-      none_unless o (list_any (joins_sub s) es) (to_queue terms.queue (q.Create (free_slot shape es sofar terms.queue) (Sub s) (make.Sub terms.kind terms.cache) tag) ∷ wants_image shape s terms.kind terms.topic)
+      none_unless o (list_any (joins_sub s) es) (to_queue terms.queue (q.Create (free_slot shape es sofar terms.queue) (Sub s) (make.Sub terms.kind terms.cache shape.strategy) tag) ∷ wants_image shape s terms.kind terms.topic)
       (wants_none shape s terms.kind terms.topic)
   answer_none shape es sofar (leaves s) = none_cond o (is_live shape s es) (ended shape es sofar s) (ended_none shape es sofar s)
   answer_none shape es sofar (opens i terms tag) = none_unless o (list_any (opens_inbox i) es) (to_queue terms.queue (q.Create (free_slot shape es sofar terms.queue) (Inbox i) make.Inbox tag) ∷ []) refl

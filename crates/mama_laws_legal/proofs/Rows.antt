@@ -2,6 +2,7 @@
 use Rattle.std.specs.Prelude.{◌≡◌, [], ◌∷◌, slice_index_or}
 use Rattle.std.proofs.Common.{refl}
 use Rattle.mama_journal.specs.Lane.{by_port}
+use Rattle.mama_words.specs.declared.version.Version.TheVariants as version
 use Rattle.mama_event.specs.declared.ids.SubId.{SubId}
 use Rattle.mama_event.specs.declared.ids.ObjectId.TheVariants.{Sub}
 use Rattle.mama_event.specs.declared.market.SubKind.TheVariants.{Basic}
@@ -11,6 +12,7 @@ use Rattle.mama_event.specs.declared.to_bridge.BridgeNote.TheVariants as b
 use Rattle.mama_event.specs.declared.to_timers.TimersNote.TheVariants as t
 use Rattle.mama_event.specs.declared.to_queue.Make.TheVariants as make
 use Rattle.mama_event.specs.declared.to_queue.QueueNote.TheVariants as q
+use Rattle.mama_event.specs.declared.shape.Strategy.TheVariants as strategy
 use Rattle.mama_rules_services.specs.Ports.{bridge_putter, timers_putter, queue_putter}
 use Rattle.mama_script.specs.declared.client.ClientLine.TheVariants as line
 use Rattle.mama_script.specs.declared.client.QueueWord.TheVariants.{Number}
@@ -30,7 +32,8 @@ terms = record { topic = 0; kind = Basic; queue = 0; cache = 0; recaps = 0; faul
 
 abbrev script : ScriptData
 script = record {
-  shape = record { clients = 1; publisher_topics = []; bounds = record { topics = 1; queues = 1 } };
+  version = version.One;
+  shape = record { clients = 1; publisher_topics = []; bounds = record { topics = 1; queues = 1 }; strategy = strategy.One };
   topics = [];
   publishers = [];
   clients = (line.Sub 0 Basic (Number 0) 0 0 [] [] ∷ []) ∷ [];
@@ -43,7 +46,7 @@ run = record {
   publishers = [];
   bridge = (0, b.Join s terms (Sub s)) ∷ (0, b.ClientDone) ∷ (1, b.Bye) ∷ [];
   timers = (0, t.ClientDone) ∷ (2, t.Fin) ∷ (1, t.Bye) ∷ [];
-  queues = ((0, q.Create 0 (Sub s) (make.Sub Basic 0) (Sub s)) ∷ (0, q.Gone 0 (Sub s)) ∷ (0, q.Fin) ∷ (1, q.Fin) ∷ []) ∷ [];
+  queues = ((0, q.Create 0 (Sub s) (make.Sub Basic 0 strategy.One) (Sub s)) ∷ (0, q.Gone 0 (Sub s)) ∷ (0, q.Fin) ∷ (1, q.Fin) ∷ []) ∷ [];
   calls = record { object = Sub s; calls = record { call = on.Create; orders = [] } ∷ record { call = on.Destroy; orders = [] } ∷ [] } ∷ [];
   images = [];
 }
@@ -75,5 +78,5 @@ pub from_timers : by_port 1 (slice_index_or run.queues 0 []) ≡ put_on_queue sc
 from_timers = refl
 
 -- and the subscription got its Create and its Gone
-pub got : events_of (Sub s) (slice_index_or run.queues 0 []) ≡ q.Create 0 (Sub s) (make.Sub Basic 0) (Sub s) ∷ q.Gone 0 (Sub s) ∷ []
+pub got : events_of (Sub s) (slice_index_or run.queues 0 []) ≡ q.Create 0 (Sub s) (make.Sub Basic 0 strategy.One) (Sub s) ∷ q.Gone 0 (Sub s) ∷ []
 got = refl

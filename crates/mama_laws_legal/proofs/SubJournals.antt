@@ -79,7 +79,7 @@ sub_streams script run orderly edges lines = record {
       let k : ℕ = terms.queue in
       let journal : List (ℕ × QueueNote) = slice_index_or run.queues k [] in
       let came = came_by_lines script run orderly edges lines s terms small says in
-      journal_has (Sub s) (make.Sub terms.kind terms.cache) (λ slot m. q.Deliver slot s m) (through terms.faults (window shape s es)) k (stream_of (Sub s) (bridge_puts shape run.bridge)) journal
+      journal_has (Sub s) (make.Sub terms.kind terms.cache shape.strategy) (λ slot m. q.Deliver slot s m) (through terms.faults (window shape s es)) k (stream_of (Sub s) (bridge_puts shape run.bridge)) journal
       (one_port (Sub s) 0 journal (λ port apart. other_ports (Sub s) (λ t. refl) shape run.bridge run.timers k journal port apart (edges.queues k on port))
       ∙ ap (filter (is_of (Sub s))) (edges.queues k on 0) ∙ part_stream (Sub s) k (bridge_puts shape run.bridge))
       (subs_streams shape run.bridge s terms came.was came.dead came.joined);

@@ -42,7 +42,7 @@ sub shape s = record {
   goes = λ terms w ms. passed_on terms.faults w ms;
   left = λ terms w. rest terms.faults w;
   queue = λ terms. terms.queue;
-  make = λ terms. make.Sub terms.kind terms.cache;
+  make = λ terms. make.Sub terms.kind terms.cache shape.strategy;
   item = λ slot m. q.Deliver slot s m;
   answer = answer shape;
   reaction = bridge_reaction shape;
@@ -91,7 +91,7 @@ module _ (shape : Shape) (s : SubId) where
     goes_none = λ terms w. refl;
     own_append = stream-append (Sub s);
     own_none = refl;
-    placed = λ sofar terms slot tag more is. placed (Sub s) sofar terms.queue slot (make.Sub terms.kind terms.cache) tag (map (λ m. (terms.queue, q.Deliver slot s m)) more) is;
+    placed = λ sofar terms slot tag more is. placed (Sub s) sofar terms.queue slot (make.Sub terms.kind terms.cache shape.strategy) tag (map (λ m. (terms.queue, q.Deliver slot s m)) more) is;
     answers = answer_stream shape s;
     creates = creates;
     reacts = reaction_stream shape s;

@@ -58,7 +58,7 @@ pub record IsOrderly (script : ScriptData) : Type 0 where
 -- its link lets through of its window, and its Gone, and nothing else.
 abbrev pub SubsGetTheirStreams : Type 0
 SubsGetTheirStreams = (shape : Shape) (journal : List (ℕ × BridgeNote)) (s : SubId) (terms : SubTerms) → WasAlive (is_live shape s) (heard shape journal) → is_live shape s (heard shape journal) ≡ false
-    → first_said (terms_in s) (heard shape journal) ≡ Some terms → IsSubStream s terms (window shape s (heard shape journal)) (stream_of (Sub s) (bridge_puts shape journal))
+    → first_said (terms_in s) (heard shape journal) ≡ Some terms → IsSubStream shape.strategy s terms (window shape s (heard shape journal)) (stream_of (Sub s) (bridge_puts shape journal))
 
 -- the same of inboxes, of the bridge's rules alone and of a record
 abbrev pub InboxesGetTheirStreams : Type 0

@@ -6,9 +6,9 @@ use Rattle.mama_script.specs.declared.publisher.PublisherPart.{PublisherPart}
 use Rattle.mama_script.specs.declared.client.ClientLine.{ClientLine}
 use Rattle.mama_script.specs.Before.{Before, start, after}
 use Rattle.mama_script.specs.Line.{IsLine}
-use Rattle.mama_script.specs.Reading.{FitFrom}
+use Rattle.mama_script.specs.Reading.{version_of, FitFrom}
 use Rattle.mama_script.specs.Script.{ScriptData}
-use Rattle.mama_script.specs.Tree.{topic_line, publisher_lines, step_lines, client_lines, lines_of, IsScript}
+use Rattle.mama_script.specs.Tree.{topic_line, publisher_lines, step_lines, client_lines, strategy_lines, body_lines, lines_of, IsScript}
 use Rattle.mama_laws_genuine.proofs.Elements.{all_left, all_right}
 
 -- what holds of all parts holds of each
@@ -32,7 +32,7 @@ module _ (script : ScriptData) (is : IsScript script) where
   sections : AllByRecursion IsLine (flat_map publisher_lines script.publishers ++ flat_map client_lines script.clients)
   sections =
       all_right IsLine (map topic_line script.topics) (flat_map publisher_lines script.publishers ++ flat_map client_lines script.clients)
-      (fit_lines start (lines_of script) is.accepted.fit).1
+      (all_right IsLine (strategy_lines script.version script.shape.strategy) (body_lines script) (fit_lines (start (version_of (lines_of script))) (lines_of script) is.accepted.fit)).1
 
   pub publishers_sound : AllByRecursion IsPublisherSound script.publishers
   publishers_sound =

@@ -2,7 +2,7 @@
 use Rattle.std.specs.Prelude.{◌≡◌, ℕ, ◌-◌, ◌^◌, ◌<◌, Bool, true, false, ◌&&◌, not, ◌==◌, position, List, [], ◌∷◌, ◌++◌, map, Option, None, Some, is_some, option_map, if◌then◌else◌}
 use Rattle.std.specs.List.{AllByRecursion, list_any, flat_map}
 use Rattle.std.specs.Option.{option_or}
-use Rattle.std.proofs.Common.{refl, ap, subst}
+use Rattle.std.proofs.Common.{refl, ap, subst, ◌∙◌}
 use Rattle.std.proofs.lemmas.Bool.{and_parts}
 use Rattle.mama_journal.specs.Journal.{puts, all_puts, turns, first_said, numbers_below}
 use Rattle.mama_msg.specs.Field.{FieldData}
@@ -27,10 +27,12 @@ use Rattle.mama_event.specs.declared.to_publisher.PublisherNote.{PublisherNote}
 use Rattle.mama_event.specs.declared.to_publisher.PublisherNote.TheVariants as p
 use Rattle.mama_event.specs.declared.to_queue.Make.TheVariants as make
 use Rattle.mama_event.specs.declared.to_timers.TimersNote.TheVariants as t
+use Rattle.mama_event.specs.declared.shape.Strategy.{Strategy}
 use Rattle.mama_rules_services.specs.Bridge.{BridgeEvent, joins, leaves, opens, closes, asks, publishes, images, replies, wishes, newly_joined, newly_opened, terms_in, inbox_terms_in, joins_sub, leaves_sub, opens_inbox, closes_inbox, is_live, is_open, live_subs, open_inboxes, sent_with, window, faults_of, inbox_faults_of, reply_window, replied_to, is_settling, has_ending, free_slot, may_wish, BridgePut, to_publisher, to_queue, to_timers, created_by, created_in, place_of, to_place, to_found, to_first, wants_image, delivered, replied, gone, passed_on, passed, passed_reply, ended, ended_inbox, answer, settle_begins, ending_comes, bridge_reaction}
 use Rattle.mama_log_line.specs.Names.{NamesData, terms_of, inbox_terms_of, made_by, make_of, IsSub, IsInbox}
 use Rattle.mama_log_line.specs.Entering.{IsPublisherNote, IsLinked}
 use Rattle.mama_laws_genuine.proofs.Elements.{all_append, all_if, all_flat, all_flat_map, all_filter, all_mapped, all_puts_after, all_puts_so_far}
+use Rattle.mama_laws_genuine.proofs.Reactions as reactions
 use Rattle.mama_laws_logged.proofs.Begun.{alive_says}
 use Rattle.mama_laws_logged.proofs.Fits.{Names, Places, LinkPut}
 
@@ -39,7 +41,7 @@ pub all_where : {X : Type 0} (P : X → Type 0) (b : Bool) (xs : List X) → (b 
 all_where P true xs all = all refl
 all_where P false xs all = tt
 
-module _ (names : NamesData) (shape : Shape)
+module _ (names : NamesData) (shape : Shape) (alike : names.shape.strategy ≡ shape.strategy)
     (small : (before : List BridgeEvent) (sofar : List BridgePut) (queue : ℕ) → AllByRecursion (Names names) before → free_slot shape before sofar queue < 2 ^ 32) where
   abbrev Fits : BridgePut → Type 0
   Fits = LinkPut names
@@ -138,8 +140,8 @@ module _ (names : NamesData) (shape : Shape)
   all_wanted s Market topic known = all_first topic (p.Want s Initial) (known, tt)
   all_wanted s Snapshot topic known = all_first topic (p.Want s Initial) (known, tt)
 
-  made_so : (s : SubId) (terms : SubTerms) → terms_of names s ≡ Some terms → make_of names (Sub s) ≡ Some (make.Sub terms.kind terms.cache)
-  made_so s terms is = ap (option_map made_by) is
+  made_so : (s : SubId) (terms : SubTerms) → terms_of names s ≡ Some terms → make_of names (Sub s) ≡ Some (make.Sub terms.kind terms.cache shape.strategy)
+  made_so s terms is = ap (option_map (made_by names.shape.strategy)) is ∙ ap (λ (strategy : Strategy). Some (make.Sub terms.kind terms.cache strategy)) alike
 
   opened_so : (i : InboxId) (terms : InboxTerms) → inbox_terms_of names i ≡ Some terms → make_of names (Inbox i) ≡ Some make.Inbox
   opened_so i terms is = ap (option_map (λ (t : InboxTerms). make.Inbox)) is
@@ -175,7 +177,7 @@ module _ (names : NamesData) (shape : Shape)
     all_answered : (e : BridgeEvent) → Names names e → AllByRecursion Fits (answer shape before sofar e)
     all_answered (joins s terms tag) h =
         all_if Fits (list_any (joins_sub s) before) []
-        (to_queue terms.queue (q.Create (free_slot shape before sofar terms.queue) (Sub s) (make.Sub terms.kind terms.cache) tag) ∷ wants_image shape s terms.kind terms.topic)
+        (to_queue terms.queue (q.Create (free_slot shape before sofar terms.queue) (Sub s) (make.Sub terms.kind terms.cache shape.strategy) tag) ∷ wants_image shape s terms.kind terms.topic)
         tt ((small before sofar terms.queue all, h.0, made_so s terms h.1, h.2), all_wanted s terms.kind terms.topic h.0)
     all_answered (leaves s) h = all_where Fits (is_live shape s before) (ended shape before sofar s) (λ live. all_ended s (live_known s before all live))
     all_answered (opens i terms tag) h =
@@ -199,34 +201,12 @@ module _ (names : NamesData) (shape : Shape)
         (λ may. ((live_known s before all (and_parts (is_live shape s before) (may_wish shape before sofar s sender (first_said (terms_in s) before)) may).0, tt), tt))
     all_answered _ h = tt
 
-    all_settling : (e : BridgeEvent) → AllByRecursion Fits (settle_begins shape before e)
-    all_settling e =
-        all_if Fits (turns (is_settling shape) before e) (map (λ (n : ℕ). to_publisher n p.Settle) (numbers_below (publishers_of shape))) []
-        (all_mapped Fits (λ (n : ℕ). to_publisher n p.Settle) (λ n. tt) (numbers_below (publishers_of shape))) tt
-
-    all_ending : (e : BridgeEvent) → AllByRecursion Fits (ending_comes shape before sofar e)
-    all_ending e =
-        let subs : List BridgePut = flat_map (ended shape before sofar) (live_subs shape before) in
-        let inboxes : List BridgePut = flat_map (ended_inbox shape before sofar) (open_inboxes shape before) in
-        let queues : List BridgePut = map (λ (k : ℕ). to_queue k q.Fin) (numbers_below (queues_of shape)) in
-        let publishers : List BridgePut = map (λ (n : ℕ). to_publisher n p.Fin) (numbers_below (publishers_of shape)) in
-        all_if Fits (turns (has_ending shape) before e) (subs ++ inboxes ++ to_timers t.Fin ∷ [] ++ queues ++ publishers) []
-        (all_append Fits (subs ++ inboxes ++ to_timers t.Fin ∷ [] ++ queues) publishers
-        (all_append Fits (subs ++ inboxes ++ to_timers t.Fin ∷ []) queues
-        (all_append Fits (subs ++ inboxes) (to_timers t.Fin ∷ [])
-        (all_append Fits subs inboxes
-        (all_flat_map (IsSub names) Fits (ended shape before sofar) all_ended (live_subs shape before) (live_subs_known before all))
-        (all_flat_map (IsInbox names) Fits (ended_inbox shape before sofar) all_ended_inbox (open_inboxes shape before) (open_inboxes_known before all)))
-        (tt, tt))
-        (all_mapped Fits (λ (k : ℕ). to_queue k q.Fin) (λ k. tt) (numbers_below (queues_of shape))))
-        (all_mapped Fits (λ (n : ℕ). to_publisher n p.Fin) (λ n. tt) (numbers_below (publishers_of shape))))
-        tt
-
     all_reaction : (e : BridgeEvent) → Names names e → AllByRecursion Fits (bridge_reaction shape before sofar e)
     all_reaction e h =
-        all_append Fits (answer shape before sofar e ++ settle_begins shape before e) (ending_comes shape before sofar e)
-        (all_append Fits (answer shape before sofar e) (settle_begins shape before e) (all_answered e h) (all_settling e))
-        (all_ending e)
+        reactions.all_reaction Fits (record { settle = λ n. tt; publisher = λ n. tt; queue = λ k. tt; timers = tt }) shape before sofar e
+        (all_flat_map (IsSub names) Fits (ended shape before sofar) all_ended (live_subs shape before) (live_subs_known before all))
+        (all_flat_map (IsInbox names) Fits (ended_inbox shape before sofar) all_ended_inbox (open_inboxes shape before) (open_inboxes_known before all))
+        (all_answered e h)
 
   -- all that the bridge puts
   pub bridge_fits : (es : List BridgeEvent) → AllByRecursion (Names names) es → AllByRecursion Fits (all_puts (bridge_reaction shape) es)

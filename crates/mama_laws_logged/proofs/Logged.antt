@@ -3,7 +3,7 @@
 -- sound; so is all that queues take, call back and put.
 use Rattle.std.specs.Prelude.{ℕ, zero, suc, ◌+◌, ◌^◌, ◌<◌, ◌≤◌, Bool, true, false, ◌==◌, List, [], ◌∷◌, map, length, slice_index_or, if◌then◌else◌}
 use Rattle.std.specs.List.{All, AllByRecursion, flat_map}
-use Rattle.std.proofs.Common.{sym, subst, arith, get_or, ⊎_elim}
+use Rattle.std.proofs.Common.{refl, sym, subst, arith, get_or, ⊎_elim}
 use Rattle.std.proofs.lemmas.Bool.{cases_lt}
 use Rattle.std.proofs.lemmas.List.{get_or_past}
 use Rattle.std.proofs.lemmas.List.Elements.{recursion_from_All, All-from_recursion, All-from_get_or}
@@ -313,7 +313,7 @@ module _ (script : ScriptData) (is : IsScript script) (within : IsWithin script)
 
   linked : AllByRecursion (LinkPut names) (bridge_puts shape run.bridge)
   linked =
-      bridge_fits names shape (λ before sofar queue all. free_slot_small names few shape before sofar queue all) (heard shape run.bridge)
+      bridge_fits names shape refl (λ before sofar queue all. free_slot_small names few shape before sofar queue all) (heard shape run.bridge)
       (all_map (λ (e : ℕ × BridgeNote). Noted names (bridge_putter shape e.0) e.1) (Names names) (λ (e : ℕ × BridgeNote). put_by (bridge_putter shape e.0) e.1)
       (λ e h. heard_names names (bridge_putter shape e.0) e.1 h) run.bridge noted_bridge)
 

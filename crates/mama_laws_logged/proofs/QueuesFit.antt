@@ -22,6 +22,7 @@ use Rattle.mama_event.specs.declared.to_queue.Make.{Make}
 use Rattle.mama_event.specs.declared.to_queue.Make.TheVariants as make
 use Rattle.mama_event.specs.declared.to_queue.QueueNote.{QueueNote}
 use Rattle.mama_event.specs.declared.to_queue.QueueNote.TheVariants as q
+use Rattle.mama_event.specs.declared.shape.Strategy.TheVariants.{One}
 use Rattle.mama_dq.specs.Strategy.{callbacks_of}
 use Rattle.mama_rules_queue.specs.Queue.{Deed, handled, called, to_bridge, to_timers, calls_in, calls_of, messages_in, messages_of, is_muted, is_destroy, made, make_in, context_of, served, deeds, deeds_at, order_put, wish_put, puts_of, is_fin, bye_put, queue_puts_at}
 use Rattle.mama_rules_rounds.specs.Client.{Planned}
@@ -109,17 +110,17 @@ call_fits names o (called object call given) h =
 -- what a context calls, however it was made
 context_calls : (how : Option Make) (messages : List MarketMsg) (msg : MarketMsg) → AllByRecursion IsSound messages → IsSound msg
     → AllByRecursion SubHears (callbacks_of (context_of how messages) msg)
-context_calls (Some (make.Sub kind cache)) messages msg all h = calls_sound kind cache messages msg all h
-context_calls (Some make.Timer) messages msg all h = calls_sound Basic 0 messages msg all h
-context_calls (Some make.Inbox) messages msg all h = calls_sound Basic 0 messages msg all h
-context_calls None messages msg all h = calls_sound Basic 0 messages msg all h
+context_calls (Some (make.Sub kind cache strategy)) messages msg all h = calls_sound strategy kind cache messages msg all h
+context_calls (Some make.Timer) messages msg all h = calls_sound One Basic 0 messages msg all h
+context_calls (Some make.Inbox) messages msg all h = calls_sound One Basic 0 messages msg all h
+context_calls None messages msg all h = calls_sound One Basic 0 messages msg all h
 
 context_image : (names : NamesData) (s : SubId) → IsSub names s → (how : Option Make) (messages : List MarketMsg) → AllByRecursion IsSound messages
     → AllByRecursion (IsLastImage names) (image_in s (context_of how messages))
-context_image names s is (Some (make.Sub kind cache)) messages all = image_sound names s is kind cache messages all
-context_image names s is (Some make.Timer) messages all = image_sound names s is Basic 0 messages all
-context_image names s is (Some make.Inbox) messages all = image_sound names s is Basic 0 messages all
-context_image names s is None messages all = image_sound names s is Basic 0 messages all
+context_image names s is (Some (make.Sub kind cache strategy)) messages all = image_sound names s is strategy kind cache messages all
+context_image names s is (Some make.Timer) messages all = image_sound names s is One Basic 0 messages all
+context_image names s is (Some make.Inbox) messages all = image_sound names s is One Basic 0 messages all
+context_image names s is None messages all = image_sound names s is One Basic 0 messages all
 
 module _ (names : NamesData) (orders : ObjectId → ℕ → List Order)
     (fit : (o : ObjectId) (call : ℕ) → AllByRecursion (MayOrder names) (orders o call) × (length (orders o call) ≤ 8)) where

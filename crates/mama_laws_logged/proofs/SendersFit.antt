@@ -19,9 +19,9 @@ use Rattle.mama_script.specs.declared.publisher.PublisherLine.{PublisherLine}
 use Rattle.mama_script.specs.declared.publisher.PublisherLine.TheVariants as sends
 use Rattle.mama_script.specs.declared.publisher.PublisherPart.{PublisherPart}
 use Rattle.mama_script.specs.Line.{IsLine, line_text, ended}
-use Rattle.mama_script.specs.Reading.{first_line}
+use Rattle.mama_script.specs.Reading.{first_line, version_of}
 use Rattle.mama_script.specs.Script.{ScriptData}
-use Rattle.mama_script.specs.Tree.{topic_line, publisher_line, publisher_lines, client_lines, script_text, IsScript}
+use Rattle.mama_script.specs.Tree.{topic_line, publisher_line, publisher_lines, client_lines, strategy_lines, lines_of, script_text, IsScript}
 use Rattle.mama_script.specs.Within.{AreSendsWithin, IsPublisherWithin, IsWithin}
 use Rattle.mama_rules_rounds.specs.Round.{sends_in, publishers_from}
 use Rattle.mama_rules_legal.specs.Edges.{taken_in, taken_by}
@@ -77,12 +77,13 @@ lines_few (l ∷ ls) =
     omega (arith, length-append (ended l) (flat_map ended ls), length-append (line_text l) (10 ∷ []))
 
 -- the lines in the midst are no more than the bytes of all lines and of what stands before them
-part_few : (front : List ℕ) (l : Line) (one two three : List Line) → length two ≤ length (front ++ flat_map ended (l ∷ (one ++ (two ++ three))))
-part_few front l one two three =
-    let all : length (l ∷ (one ++ (two ++ three))) ≤ length (flat_map ended (l ∷ (one ++ (two ++ three)))) = lines_few (l ∷ (one ++ (two ++ three))) in
+part_few : (front : List ℕ) (head : List Line) (l : Line) (one two three : List Line) → length two ≤ length (front ++ flat_map ended (head ++ l ∷ (one ++ (two ++ three))))
+part_few front head l one two three =
+    let all : length (head ++ l ∷ (one ++ (two ++ three))) ≤ length (flat_map ended (head ++ l ∷ (one ++ (two ++ three)))) = lines_few (head ++ l ∷ (one ++ (two ++ three))) in
     omega (
       arith,
-      length-append front (flat_map ended (l ∷ (one ++ (two ++ three)))),
+      length-append front (flat_map ended (head ++ l ∷ (one ++ (two ++ three)))),
+      length-append head (l ∷ (one ++ (two ++ three))),
       length-append one (two ++ three),
       length-append two three,
     )
@@ -114,7 +115,7 @@ pub senders_fit : (script : ScriptData) → IsScript script → IsWithin script 
     → AllByRecursion IsSender (publishers_from 0 script.publishers)
 senders_fit script is within short =
     let part : length (flat_map publisher_lines script.publishers) ≤ length (script_text script) =
-    part_few (first_line ++ 10 ∷ []) (lines.Queues script.shape.bounds.queues) (map topic_line script.topics)
+    part_few (first_line (version_of (lines_of script)) ++ 10 ∷ []) (strategy_lines script.version script.shape.strategy) (lines.Queues script.shape.bounds.queues) (map topic_line script.topics)
     (flat_map publisher_lines script.publishers) (flat_map client_lines script.clients) in
     senders_from (length script.topics) 0 script.publishers (omega (arith, within.publishers_few)) (omega arith)
     (publishers_sound script is) within.publishers

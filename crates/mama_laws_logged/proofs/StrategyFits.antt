@@ -12,17 +12,19 @@ use Rattle.mama_event.specs.declared.market.SubKind.TheVariants.{Market, Snapsho
 use Rattle.mama_event.specs.declared.market.Quality.TheVariants as quality
 use Rattle.mama_event.specs.declared.callback.Callback.{Callback}
 use Rattle.mama_event.specs.declared.callback.Callback.TheVariants as on
+use Rattle.mama_event.specs.declared.shape.Strategy.{Strategy}
+use Rattle.mama_words.specs.declared.nums.Nums.TheVariants.{Unknown}
 use Rattle.mama_words.specs.Field.{IsMessage}
 use Rattle.mama_dq.specs.declared.table.Phase.{Phase}
-use Rattle.mama_dq.specs.declared.table.Phase.TheVariants.{Await, LiveOk, LiveStale}
+use Rattle.mama_dq.specs.declared.table.Phase.TheVariants.{Await, LiveOk, LiveStale, LiveKept}
 use Rattle.mama_dq.specs.declared.table.Action.{Action}
-use Rattle.mama_dq.specs.declared.table.Action.TheVariants.{Keep, Start, Apply, ApplyKeep, KeepOnly, Ignore, Gap, Switch, Replace, Heal, Adopt}
+use Rattle.mama_dq.specs.declared.table.Action.TheVariants.{Keep, Start, Apply, ApplyKeep, KeepOnly, Ignore, Gap, Switch, Replace, Heal, Adopt, StartKeep, Catch, Late, KeepLate}
 use Rattle.mama_dq.specs.Table.{is_update, decided, relation_of}
-use Rattle.mama_dq.specs.Cache.{CacheData, above, Reached, reached}
+use Rattle.mama_dq.specs.Cache.{CacheData, above, put, emptied, Reached, reached}
 use Rattle.mama_dq.specs.Context.{ContextData, new_context}
-use Rattle.mama_dq.specs.Strategy.{Step, unchanged, if_ok, if_stale, with_update, with_cached, turned_to, waiting_for, with_image_of, stale_calls, gap_calls, switch_calls, adopt_calls, update_acted, updated, as_message, handled, cached_above, started, reached_last, stopped_short, healed, acted, action_of, snapshot_acted, step_by, after, callbacks_of, after_all, fold}
+use Rattle.mama_dq.specs.Strategy.{Step, settled, unchanged, if_ok, if_stale, with_update, with_cached, turned_to, waiting_for, with_image_of, stale_calls, gap_calls, switch_calls, adopt_calls, update_acted, updated, as_message, handled, cached_above, started, reached_last, stopped_short, healed, acted, action_of, snapshot_acted, step_by, after, callbacks_of, after_all, fold}
 use Rattle.mama_dq.proofs.Comparisons.{eq_true}
-use Rattle.mama_dq.proofs.ImageLaw.{all_added, all_above}
+use Rattle.mama_dq.proofs.ImageLaw.{all_added, all_put, all_above}
 use Rattle.mama_rules_rounds.specs.Round.{image_in}
 use Rattle.mama_log_line.specs.Names.{NamesData, IsSub}
 use Rattle.mama_log_line.specs.Entering.{IsBody, SubHears, IsLastImage}
@@ -48,13 +50,13 @@ record IsCached (e : ℕ × List FieldData) : Type 0 where
 record IsGood (c : ContextData) : Type 0 where
   pub sender : c.sender < 2 ^ 32
   pub next : suc c.last < 2 ^ 32
-  pub image : IsMessage c.image
+  pub image : IsMessage Unknown c.image
   pub cache : AllByRecursion IsCached c.cache.updates
 
 -- a record that cached updates reach
 record IsReached (r : Reached) : Type 0 where
   pub next : suc r.number < 2 ^ 32
-  pub body : IsMessage r.body
+  pub body : IsMessage Unknown r.body
 
 abbrev AllHear : List Callback → Type 0
 AllHear calls = AllByRecursion SubHears calls
@@ -63,8 +65,8 @@ record Fine (step : Step) : Type 0 where
   pub context : IsGood step.context
   pub calls : AllHear step.calls
 
-new_good : (kind : SubKind) (size : ℕ) → IsGood (new_context kind size)
-new_good kind size = record { sender = omega arith; next = omega arith; image = record { fields = tt; distinct = refl }; cache = tt }
+new_good : (strategy : Strategy) (kind : SubKind) (size : ℕ) → IsGood (new_context strategy kind size)
+new_good strategy kind size = record { sender = omega arith; next = omega arith; image = record { fields = tt; distinct = refl }; cache = tt }
 
 last_fits : (c : ContextData) → IsGood c → c.last < 2 ^ 32
 last_fits c good = fits_below c.last good.next
@@ -102,11 +104,13 @@ heard_if_ok : (phase : Phase) (calls : List Callback) → AllHear calls → AllH
 heard_if_ok Await calls all = tt
 heard_if_ok LiveOk calls all = all
 heard_if_ok LiveStale calls all = tt
+heard_if_ok LiveKept calls all = all
 
 heard_if_stale : (phase : Phase) (calls : List Callback) → AllHear calls → AllHear (if_stale phase calls)
 heard_if_stale Await calls all = tt
 heard_if_stale LiveOk calls all = tt
 heard_if_stale LiveStale calls all = all
+heard_if_stale LiveKept calls all = tt
 
 stale_heard : (phase : Phase) (sender last : ℕ) (m : MarketMsg) → sender < 2 ^ 32 → last < 2 ^ 32 → IsSound m → AllHear (stale_calls phase sender last m)
 stale_heard phase sender last m from to sound =
@@ -138,11 +142,15 @@ applied_good phase c m good sound = record {
 kept_good : (c : ContextData) (m : MarketMsg) → IsGood c → IsSound m → IsGood (with_cached (with_update LiveStale c m) m)
 kept_good c m good sound = cached_good (with_update LiveStale c m) m (applied_good LiveStale c m good sound) sound
 
+-- the context whose cache keeps what is above the last number
+settled_good : (c : ContextData) → IsGood c → IsGood (settled c)
+settled_good c good = record { sender = good.sender; next = good.next; image = good.image; cache = all_above IsCached c.last c.cache.updates good.cache }
+
 unchanged_fine : (c : ContextData) → IsGood c → Fine (unchanged c)
 unchanged_fine c good = record { context = good; calls = tt }
 
 update_fine : (a : Action) (c : ContextData) (m : MarketMsg) → IsGood c → IsSound m → Fine (update_acted a c m)
-update_fine Apply c m good sound = record { context = applied_good LiveOk c m good sound; calls = (sound.msg, tt) }
+update_fine Apply c m good sound = record { context = settled_good (with_update LiveOk c m) (applied_good LiveOk c m good sound); calls = (sound.msg, tt) }
 update_fine ApplyKeep c m good sound = record { context = kept_good c m good sound; calls = (sound.msg, tt) }
 update_fine KeepOnly c m good sound = record { context = cached_good c m good sound; calls = tt }
 update_fine Gap c m good sound = record { context = kept_good c m good sound; calls = gap_heard c m good sound }
@@ -156,12 +164,16 @@ update_fine Start c m good sound = unchanged_fine c good
 update_fine Replace c m good sound = unchanged_fine c good
 update_fine Heal c m good sound = unchanged_fine c good
 update_fine Adopt c m good sound = unchanged_fine c good
+update_fine StartKeep c m good sound = unchanged_fine c good
+update_fine Catch c m good sound = unchanged_fine c good
+update_fine Late c m good sound = record { context = good; calls = ((sound.msg.sender, sound.msg.seq), tt) }
+update_fine KeepLate c m good sound = record { context = cached_good c m good sound; calls = ((sound.msg.sender, sound.msg.seq), tt) }
 
 handled_fine : (es : List (ℕ × List FieldData)) (c : ContextData) → IsGood c → AllByRecursion IsCached es → Fine (handled c es)
 handled_fine [] c good all = unchanged_fine c good
 handled_fine (e ∷ es) c good all =
     let m : MarketMsg = as_message c.sender e in
-    let first : Fine (updated c m) = update_fine (decided c.phase (relation_of c.sender c.last m) true) c m good (cached_sound c.sender e good.sender all.0) in
+    let first : Fine (updated c m) = update_fine (decided c.strategy c.phase (relation_of c.sender c.last m) true) c m good (cached_sound c.sender e good.sender all.0) in
     let rest : Fine (handled (updated c m).context es) = handled_fine es (updated c m).context first.context all.1 in
     record { context = rest.context; calls = all_append SubHears (updated c m).calls (handled (updated c m).context es).calls first.calls rest.calls }
 
@@ -172,7 +184,7 @@ started_fine c m good sound =
     handled_fine (cached_above c m) begun (image_good (turned_to m.sender c) m (turned_good c m good sound) sound) (above_cached c m good) in
     record { context = rest.context; calls = (sound.msg, rest.calls) }
 
-all_reached : (es : List (ℕ × List FieldData)) (n : ℕ) (body : List FieldData) → AllByRecursion IsCached es → suc n < 2 ^ 32 → IsMessage body
+all_reached : (es : List (ℕ × List FieldData)) (n : ℕ) (body : List FieldData) → AllByRecursion IsCached es → suc n < 2 ^ 32 → IsMessage Unknown body
     → IsReached (reached es n body)
 all_reached [] n body all next is = record { next = next; body = is }
 all_reached (e ∷ es) n body all next is =
@@ -195,7 +207,7 @@ healed_fine r c m is good sound = elim (nat_le c.last r.number) as (λ b. Fine (
 acted_fine : (a : Action) (c : ContextData) (m : MarketMsg) → IsGood c → IsSound m → Fine (acted a c m)
 acted_fine Keep c m good sound = record { context = cached_good (waiting_for m.sender c) m (waiting_good c m good sound) sound; calls = tt }
 acted_fine Start c m good sound = started_fine c m good sound
-acted_fine Replace c m good sound = record { context = image_good c m good sound; calls = (sound.msg, tt) }
+acted_fine Replace c m good sound = record { context = settled_good (with_image_of m c) (image_good c m good sound); calls = (sound.msg, tt) }
 acted_fine Heal c m good sound =
     healed_fine (reached c.cache.updates m.seq m.body) c m (all_reached c.cache.updates m.seq m.body good.cache sound.next sound.msg.body.message) good sound
 acted_fine Adopt c m good sound = record {
@@ -208,6 +220,16 @@ acted_fine KeepOnly c m good sound = update_fine KeepOnly c m good sound
 acted_fine Ignore c m good sound = unchanged_fine c good
 acted_fine Gap c m good sound = update_fine Gap c m good sound
 acted_fine Switch c m good sound = update_fine Switch c m good sound
+acted_fine StartKeep c m good sound = record {
+  context = settled_good (with_image_of m (waiting_for m.sender c)) (image_good (waiting_for m.sender c) m (waiting_good c m good sound) sound);
+  calls = (sound.msg, tt);
+}
+acted_fine Catch c m good sound =
+    handled_fine (put c.cache.updates m.seq m.body) (record c { phase = LiveOk; cache = emptied c.cache })
+    (record { sender = good.sender; next = good.next; image = good.image; cache = tt })
+    (all_put IsCached c.cache.updates m.seq m.body good.cache (record { next = sound.next; body = sound.msg.body }))
+acted_fine Late c m good sound = update_fine Late c m good sound
+acted_fine KeepLate c m good sound = update_fine KeepLate c m good sound
 
 snapshot_fine : (phase : Phase) (update : Bool) (c : ContextData) (m : MarketMsg) → IsGood c → IsSound m → Fine (snapshot_acted phase update c m)
 snapshot_fine Await false c m good sound = record {
@@ -217,6 +239,7 @@ snapshot_fine Await false c m good sound = record {
 snapshot_fine Await true c m good sound = unchanged_fine c good
 snapshot_fine LiveOk update c m good sound = unchanged_fine c good
 snapshot_fine LiveStale update c m good sound = unchanged_fine c good
+snapshot_fine LiveKept update c m good sound = unchanged_fine c good
 
 step_fine : (kind : SubKind) (c : ContextData) (m : MarketMsg) → IsGood c → IsSound m → Fine (step_by kind c m)
 step_fine Market c m good sound = acted_fine (action_of c m) c m good sound
@@ -227,31 +250,33 @@ after_all_good : (messages : List MarketMsg) (c : ContextData) → IsGood c → 
 after_all_good [] c good all = good
 after_all_good (m ∷ messages) c good all = after_all_good messages (after c m) (step_fine c.kind c m good all.0).context all.1
 
-folded : (kind : SubKind) (size : ℕ) (messages : List MarketMsg) → AllByRecursion IsSound messages → IsGood (fold kind size messages)
-folded kind size messages all = after_all_good messages (new_context kind size) (new_good kind size) all
+folded : (strategy : Strategy) (kind : SubKind) (size : ℕ) (messages : List MarketMsg) → AllByRecursion IsSound messages → IsGood (fold strategy kind size messages)
+folded strategy kind size messages all = after_all_good messages (new_context strategy kind size) (new_good strategy kind size) all
 
 -- what a message makes a context call, after others
-pub calls_sound : (kind : SubKind) (size : ℕ) (messages : List MarketMsg) (m : MarketMsg) → AllByRecursion IsSound messages → IsSound m
-    → AllByRecursion SubHears (callbacks_of (fold kind size messages) m)
-calls_sound kind size messages m all sound =
-    (step_fine (fold kind size messages).kind (fold kind size messages) m (folded kind size messages all) sound).calls
+pub calls_sound : (strategy : Strategy) (kind : SubKind) (size : ℕ) (messages : List MarketMsg) (m : MarketMsg) → AllByRecursion IsSound messages → IsSound m
+    → AllByRecursion SubHears (callbacks_of (fold strategy kind size messages) m)
+calls_sound strategy kind size messages m all sound =
+    (step_fine (fold strategy kind size messages).kind (fold strategy kind size messages) m (folded strategy kind size messages all) sound).calls
 
 -- ---- images
 
-image_fits : (names : NamesData) (s : SubId) → IsSub names s → (kind : SubKind) (phase : Phase) (sender last : ℕ) (image : List FieldData) (cache : CacheData)
-    → IsGood (record { kind = kind; phase = phase; sender = sender; last = last; image = image; cache = cache })
-    → AllByRecursion (IsLastImage names) (image_in s (record { kind = kind; phase = phase; sender = sender; last = last; image = image; cache = cache }))
-image_fits names s is Basic phase sender last image cache good = tt
-image_fits names s is Market Await sender last image cache good = tt
-image_fits names s is Market LiveOk sender last image cache good = (record { sub = is; sender = good.sender; last = fits_below last good.next; body = good.image }, tt)
-image_fits names s is Market LiveStale sender last image cache good = (record { sub = is; sender = good.sender; last = fits_below last good.next; body = good.image }, tt)
-image_fits names s is Snapshot Await sender last image cache good = tt
-image_fits names s is Snapshot LiveOk sender last image cache good = (record { sub = is; sender = good.sender; last = fits_below last good.next; body = good.image }, tt)
-image_fits names s is Snapshot LiveStale sender last image cache good = (record { sub = is; sender = good.sender; last = fits_below last good.next; body = good.image }, tt)
+image_fits : (names : NamesData) (s : SubId) → IsSub names s → (strategy : Strategy) (kind : SubKind) (phase : Phase) (sender last : ℕ) (image : List FieldData) (cache : CacheData)
+    → IsGood (record { strategy = strategy; kind = kind; phase = phase; sender = sender; last = last; image = image; cache = cache })
+    → AllByRecursion (IsLastImage names) (image_in s (record { strategy = strategy; kind = kind; phase = phase; sender = sender; last = last; image = image; cache = cache }))
+image_fits names s is strategy Basic phase sender last image cache good = tt
+image_fits names s is strategy Market Await sender last image cache good = tt
+image_fits names s is strategy Market LiveOk sender last image cache good = (record { sub = is; sender = good.sender; last = fits_below last good.next; body = good.image }, tt)
+image_fits names s is strategy Market LiveStale sender last image cache good = (record { sub = is; sender = good.sender; last = fits_below last good.next; body = good.image }, tt)
+image_fits names s is strategy Market LiveKept sender last image cache good = (record { sub = is; sender = good.sender; last = fits_below last good.next; body = good.image }, tt)
+image_fits names s is strategy Snapshot Await sender last image cache good = tt
+image_fits names s is strategy Snapshot LiveOk sender last image cache good = (record { sub = is; sender = good.sender; last = fits_below last good.next; body = good.image }, tt)
+image_fits names s is strategy Snapshot LiveStale sender last image cache good = (record { sub = is; sender = good.sender; last = fits_below last good.next; body = good.image }, tt)
+image_fits names s is strategy Snapshot LiveKept sender last image cache good = (record { sub = is; sender = good.sender; last = fits_below last good.next; body = good.image }, tt)
 
 -- the image of a context after some messages
-pub image_sound : (names : NamesData) (s : SubId) → IsSub names s → (kind : SubKind) (size : ℕ) (messages : List MarketMsg) → AllByRecursion IsSound messages
-    → AllByRecursion (IsLastImage names) (image_in s (fold kind size messages))
-image_sound names s is kind size messages all =
-    let c : ContextData = fold kind size messages in
-    image_fits names s is c.kind c.phase c.sender c.last c.image c.cache (folded kind size messages all)
+pub image_sound : (names : NamesData) (s : SubId) → IsSub names s → (strategy : Strategy) (kind : SubKind) (size : ℕ) (messages : List MarketMsg) → AllByRecursion IsSound messages
+    → AllByRecursion (IsLastImage names) (image_in s (fold strategy kind size messages))
+image_sound names s is strategy kind size messages all =
+    let c : ContextData = fold strategy kind size messages in
+    image_fits names s is c.strategy c.kind c.phase c.sender c.last c.image c.cache (folded strategy kind size messages all)

@@ -1,6 +1,6 @@
 -- Where each client put what it may, no timer is armed after the ending.
 use Rattle.std.specs.List.{list_any}
-use Rattle.std.proofs.Common.{◌≡◌, ℕ, ◌<◌, ◌-◌, ◌==◌, Bool, true, false, not, cond, List, [], ◌∷◌, ◌++◌, refl, sym, ◌∙◌, ap, subst, eq-eqb, ⊎_elim}
+use Rattle.std.proofs.Common.{◌≡◌, ℕ, ◌<◌, ◌-◌, ◌==◌, Bool, true, false, not, cond, List, [], ◌∷◌, ◌++◌, refl, sym, ◌∙◌, ap, subst, eq-eqb, eqb-true, ⊎_elim}
 use Rattle.std.proofs.lemmas.Bool.{and_parts, or_left, or_right, or_cases, cases_Bool, both_ways, ltb-true, false_from_ne_true}
 use Rattle.mama_journal.specs.Journal.{all_below}
 use Rattle.mama_journal.specs.Lane.{by_port}
@@ -13,6 +13,7 @@ use Rattle.mama_event.specs.declared.to_timers.TimersNote.{TimersNote}
 use Rattle.mama_event.specs.declared.to_timers.TimersNote.TheVariants as t
 use Rattle.mama_rules_services.specs.Ports.{Putter, ByClient, ByPublisher, ByQueue, ByBridge, ByTimers, ByNobody, timers_putter}
 use Rattle.mama_rules_services.specs.Timers.{TimersEvent, arms, no_event, put_by, heard, ends_client, is_fin, has_ending}
+use Rattle.mama_rules_services.proofs.CameBy.{came_by}
 use Rattle.mama_laws_lawful.proofs.Timely.{is_by, is_by_client, is_by_some, by_port_middle, cut, all_below_at}
 use Rattle.mama_laws_timers.specs.Streams.{is_arming}
 use Rattle.mama_laws_timers.specs.Laws.{LawfulClientsAreTimely}
@@ -76,18 +77,9 @@ port_is shape port c h =
 
 -- a client that is done put its last word by its port
 last_came : (shape : Shape) (c : ℕ) (journal : List (ℕ × TimersNote)) → list_any (ends_client c) (heard shape journal) ≡ true → list_any timers.is_last (by_port c journal) ≡ true
-last_came shape c [] h = h
-last_came shape c (x ∷ xs) h = ⊎_elim
-    (λ (here : ends_client c (put_by (timers_putter shape x.0) x.1) ≡ true).
-    let parts = done_by c (timers_putter shape x.0) x.1 here in
-    ap (λ (b : Bool). list_any timers.is_last (cond b (x.1 ∷ by_port c xs) (by_port c xs))) (port_is shape x.0 c parts.0)
-    ∙ or_left (timers.is_last x.1) (list_any timers.is_last (by_port c xs)) parts.1)
-    (λ (later : list_any (ends_client c) (heard shape xs) ≡ true). more (x.0 == c) (last_came shape c xs later))
-    (or_cases (ends_client c (put_by (timers_putter shape x.0) x.1)) (list_any (ends_client c) (heard shape xs)) h)
-  where
-    more : (b : Bool) → list_any timers.is_last (by_port c xs) ≡ true → list_any timers.is_last (cond b (x.1 ∷ by_port c xs) (by_port c xs)) ≡ true
-    more true h = or_right (timers.is_last x.1) (list_any timers.is_last (by_port c xs)) h
-    more false h = h
+last_came shape c journal h =
+    came_by (λ (port : ℕ) (note : TimersNote). put_by (timers_putter shape port) note) c timers.is_last (ends_client c)
+    (λ port note is. let parts = done_by c (timers_putter shape port) note is in (eqb-true port c (port_is shape port c parts.0), parts.1)) journal h
 
 -- once the ending has come, each client is done
 all_done : (shape : Shape) (es : List TimersEvent) → has_ending shape es ≡ true → (c : ℕ) → c < clients_of shape → list_any (ends_client c) es ≡ true

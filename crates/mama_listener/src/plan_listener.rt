@@ -171,6 +171,10 @@ impl Listener for PlanListener {
         self.hear(Ok(Callback::RecapRequest { sender }), orders);
     }
 
+    fn on_late(&mut self, sender: u32, seq: u32, orders: &mut Orders) {
+        self.hear(Ok(Callback::Late { sender, seq }), orders);
+    }
+
     fn on_error(&mut self, code: u8, orders: &mut Orders) {
         self.hear(Ok(Callback::Error { code }), orders);
     }

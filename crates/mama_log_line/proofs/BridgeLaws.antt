@@ -21,6 +21,7 @@ use Rattle.mama_words.specs.Order.{spaced_number}
 use Rattle.mama_words.specs.Sentence.{sentence}
 use Rattle.mama_words.specs.WordForm.{IsWord, AreWords}
 use Rattle.mama_words.proofs.Choices.{ok_is, chosen, bind_ok, step_ok}
+use Rattle.mama_words.specs.declared.nums.Nums.TheVariants.{Unknown}
 use Rattle.mama_words.proofs.Spellings.{id_word, decimal_word, msg_kind_word, field_words, fields_row}
 use Rattle.mama_rules_services.specs.Ports.{Putter, ByClient, ByPublisher, ByQueue, ByNobody, bridge_putter}
 use Rattle.mama_record.specs.LogText.{putter_text, bridge_note_text, bridge_entry_line}
@@ -104,7 +105,7 @@ client_words names _ h = absurd h
 publisher_words : (names : NamesData) (note : BridgeNote) → BridgeFromPublisher names note → AreWords (words_of note)
 publisher_words names (b.Publish msg) h = (head_word heads.Publish, market_are_words msg h)
 publisher_words names (b.Image sub msg) h = (head_word heads.Image, (sub_is_word names sub h.0, market_are_words msg h.1))
-publisher_words names (b.Reply inbox body) h = (head_word heads.Reply, (inbox_is_word names inbox h.0, field_words body h.1.message.fields))
+publisher_words names (b.Reply inbox body) h = (head_word heads.Reply, (inbox_is_word names inbox h.0, field_words Unknown body h.1.message.fields))
 publisher_words names b.SendsDone h = (head_word heads.Done, tt)
 publisher_words names b.Settled h = (head_word heads.Settled, tt)
 publisher_words names _ h = absurd h

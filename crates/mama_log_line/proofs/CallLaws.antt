@@ -20,6 +20,7 @@ use Rattle.mama_words.specs.WordForm.{AreWords}
 use Rattle.mama_words.proofs.Choices.{ok_is, bind_ok, step_ok}
 use Rattle.mama_words.proofs.Numbers.{number_in_again, number_in_found, below_in_again, below_in_found}
 use Rattle.mama_words.proofs.KindLaws.{msg_kind_again, msg_kind_found, quality_again, quality_found}
+use Rattle.mama_words.specs.declared.nums.Nums.TheVariants.{Unknown}
 use Rattle.mama_words.proofs.Spellings.{decimal_word, msg_kind_word, quality_word, field_words, fields_row}
 use Rattle.mama_record.specs.LogText.{line, callback_text}
 use Rattle.mama_log_line.specs.declared.head.Head.{Head}
@@ -28,7 +29,7 @@ use Rattle.mama_log_line.specs.Head.{head_text, head_in}
 use Rattle.mama_log_line.specs.Word.{small_in, body_in}
 use Rattle.mama_log_line.specs.Entering.{SubHears, TimerHears, InboxHears, MayHear}
 use Rattle.mama_log_line.specs.Journal.{alone_in}
-use Rattle.mama_log_line.specs.Calls.{msg_in, gap_in, quality_call_in, request_in, error_in, ticked_in, replied_in, sub_call_in, timer_call_in, inbox_call_in, call_by, call_words_in, call_line_in}
+use Rattle.mama_log_line.specs.Calls.{msg_in, gap_in, quality_call_in, request_in, late_in, error_in, ticked_in, replied_in, sub_call_in, timer_call_in, inbox_call_in, call_by, call_words_in, call_line_in}
 use Rattle.mama_log_line.proofs.Heads.{head_again, head_found}
 use Rattle.mama_log_line.proofs.WordLaws.{small_again, small_found, body_again, body_found}
 use Rattle.mama_log_line.proofs.LineLaws.{head_word, five, last_word, small_word, alone_found, alone_again, line_found, line_again}
@@ -39,6 +40,7 @@ head_of (on.Msg msg quality) = heads.Msg
 head_of (on.Gap first to) = heads.Gap
 head_of (on.Quality quality number) = heads.Quality
 head_of (on.RecapRequest sender) = heads.Request
+head_of (on.Late sender seq) = heads.Late
 head_of (on.Error code) = heads.Error
 head_of on.Destroy = heads.Destroy
 head_of (on.Tick moment) = heads.Tick
@@ -51,6 +53,7 @@ rest_of (on.Msg m quality) = msg_kind_text m.kind ∷ decimal m.sender ∷ decim
 rest_of (on.Gap first to) = decimal first ∷ decimal to ∷ []
 rest_of (on.Quality quality number) = quality_text quality ∷ decimal number ∷ []
 rest_of (on.RecapRequest sender) = decimal sender ∷ []
+rest_of (on.Late sender seq) = decimal sender ∷ decimal seq ∷ []
 rest_of (on.Error code) = decimal code ∷ []
 rest_of on.Destroy = []
 rest_of (on.Tick moment) = decimal moment ∷ []
@@ -67,6 +70,7 @@ row (on.Msg m quality) =
 row (on.Gap first to) = ap (λ (t : List ℕ). codes "gap " ++ (decimal first ++ 32 ∷ t)) (last_word (decimal to))
 row (on.Quality quality number) = ap (λ (t : List ℕ). codes "quality " ++ (quality_text quality ++ 32 ∷ t)) (last_word (decimal number))
 row (on.RecapRequest sender) = ap (λ (t : List ℕ). codes "request " ++ t) (last_word (decimal sender))
+row (on.Late sender seq) = ap (λ (t : List ℕ). codes "late " ++ (decimal sender ++ 32 ∷ t)) (last_word (decimal seq))
 row (on.Error code) = ap (λ (t : List ℕ). codes "error " ++ t) (last_word (decimal code))
 row on.Destroy = refl
 row (on.Tick moment) = ap (λ (t : List ℕ). codes "tick " ++ t) (last_word (decimal moment))
@@ -76,10 +80,11 @@ row (on.Reply body) = ap (λ (t : List ℕ). codes "reply" ++ t) (fields_row bod
 
 sub_words : (call : Callback) → SubHears call → AreWords (words_of call)
 sub_words on.Create h = (head_word heads.Create, tt)
-sub_words (on.Msg m quality) h = (head_word heads.Msg, (msg_kind_word m.kind, (small_word m.sender h.sender, (small_word m.seq h.seq, (quality_word quality, field_words m.body h.body.message.fields)))))
+sub_words (on.Msg m quality) h = (head_word heads.Msg, (msg_kind_word m.kind, (small_word m.sender h.sender, (small_word m.seq h.seq, (quality_word quality, field_words Unknown m.body h.body.message.fields)))))
 sub_words (on.Gap first to) h = (head_word heads.Gap, (small_word first h.0, (small_word to h.1, tt)))
 sub_words (on.Quality quality number) h = (head_word heads.Quality, (quality_word quality, (small_word number h, tt)))
 sub_words (on.RecapRequest sender) h = (head_word heads.Request, (small_word sender h, tt))
+sub_words (on.Late sender seq) h = (head_word heads.Late, (small_word sender h.0, (small_word seq h.1, tt)))
 sub_words (on.Error code) h = (head_word heads.Error, (decimal_word code (omega (arith, h)), tt))
 sub_words on.Destroy h = (head_word heads.Destroy, tt)
 sub_words _ h = absurd h
@@ -92,7 +97,7 @@ timer_words _ h = absurd h
 
 inbox_words : (call : Callback) → InboxHears call → AreWords (words_of call)
 inbox_words on.Create h = (head_word heads.Create, tt)
-inbox_words (on.Reply body) h = (head_word heads.Reply, field_words body h.message.fields)
+inbox_words (on.Reply body) h = (head_word heads.Reply, field_words Unknown body h.message.fields)
 inbox_words on.Destroy h = (head_word heads.Destroy, tt)
 inbox_words _ h = absurd h
 
@@ -110,6 +115,7 @@ sub_again (on.Msg m quality) h = unfold msg_in in rw (msg_kind_again m.kind, sma
 sub_again (on.Gap first to) h = unfold gap_in in rw (small_again first h.0, small_again to h.1) refl
 sub_again (on.Quality quality number) h = unfold quality_call_in in rw (quality_again quality, small_again number h) refl
 sub_again (on.RecapRequest sender) h = unfold request_in in rw (small_again sender h) refl
+sub_again (on.Late sender seq) h = unfold late_in in rw (small_again sender h.0, small_again seq h.1) refl
 sub_again (on.Error code) h = unfold error_in in rw (code_again code h) refl
 sub_again on.Destroy h = alone_again on.Destroy
 sub_again _ h = absurd h
@@ -218,6 +224,19 @@ request_found (w ∷ []) call h =
     one_word SubHears (on.RecapRequest a.0) call w a.0 is.0 refl is.1 (ok_is (on.RecapRequest a.0) call a.2)
 request_found (a ∷ b ∷ ws) call h = absurd cc
 
+late_found : (ws : List (List ℕ)) (call : Callback) → late_in ws ≡ Ok call → Spelled SubHears heads.Late ws call
+unfolding late_in
+late_found [] call h = absurd cc
+late_found (a ∷ []) call h = absurd cc
+late_found (sender ∷ seq ∷ []) call h =
+    let a = bind_ok (small_in sender) _ call h in
+    let b = bind_ok (small_in seq) _ call a.2 in
+    let sender_is = small_found sender a.0 a.1 in
+    let seq_is = small_found seq b.0 b.1 in
+    subst (λ (y : Callback). Spelled SubHears heads.Late (sender ∷ seq ∷ []) y) (ok_is (on.Late a.0 b.0) call b.2)
+    ((sender_is.0, seq_is.0), same_pair (codes "late") sender (decimal a.0) seq (decimal b.0) sender_is.1 seq_is.1)
+late_found (a ∷ b ∷ c ∷ ws) call h = absurd cc
+
 error_found : (ws : List (List ℕ)) (call : Callback) → error_in ws ≡ Ok call → Spelled SubHears heads.Error ws call
 unfolding error_in
 error_found [] call h = absurd cc
@@ -249,6 +268,7 @@ sub_found heads.Msg ws call h = msg_found ws call h
 sub_found heads.Gap ws call h = gap_found ws call h
 sub_found heads.Quality ws call h = quality_call_found ws call h
 sub_found heads.Request ws call h = request_found ws call h
+sub_found heads.Late ws call h = late_found ws call h
 sub_found heads.Error ws call h = error_found ws call h
 sub_found heads.Destroy ws call h = alone_is SubHears on.Destroy call ws tt refl h
 sub_found _ ws call h = absurd cc

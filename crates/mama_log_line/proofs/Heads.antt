@@ -34,6 +34,7 @@ head_again heads.Msg = refl
 head_again heads.Gap = refl
 head_again heads.Quality = refl
 head_again heads.Request = refl
+head_again heads.Late = refl
 head_again heads.Error = refl
 head_again heads.Destroy = refl
 head_again heads.Order = refl

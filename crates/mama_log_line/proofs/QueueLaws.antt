@@ -16,6 +16,7 @@ use Rattle.mama_words.specs.Sentence.{sentence}
 use Rattle.mama_words.specs.WordForm.{IsWord, AreWords}
 use Rattle.mama_words.proofs.Choices.{ok_is, chosen, bind_ok, step_ok}
 use Rattle.mama_words.proofs.Numbers.{number_in_again, number_in_found}
+use Rattle.mama_words.specs.declared.nums.Nums.TheVariants.{Unknown}
 use Rattle.mama_words.proofs.Spellings.{decimal_word, field_words, fields_row}
 use Rattle.mama_rules_services.specs.Ports.{Putter, ByBridge, ByTimers, queue_putter}
 use Rattle.mama_record.specs.LogText.{putter_text, msg_text, queue_note_text, queue_entry_line}
@@ -75,7 +76,7 @@ linked_word names (Inbox id) h = inbox_is_word names id h
 bridge_words : (names : NamesData) (note : QueueNote) → QueueFromBridge names note → AreWords (words_of note)
 bridge_words names (q.Create slot object make tag) h = (head_word heads.Create, (small_word slot h.0, (linked_word names object h.1, tt)))
 bridge_words names (q.Deliver slot sub msg) h = (head_word heads.Data, (small_word slot h.0, (sub_is_word names sub h.1, market_are_words msg h.2)))
-bridge_words names (q.Reply slot inbox body) h = (head_word heads.Reply, (small_word slot h.0, (inbox_is_word names inbox h.1, field_words body h.2.message.fields)))
+bridge_words names (q.Reply slot inbox body) h = (head_word heads.Reply, (small_word slot h.0, (inbox_is_word names inbox h.1, field_words Unknown body h.2.message.fields)))
 bridge_words names (q.Tick slot timer moment) h = absurd h
 bridge_words names (q.Gone slot object) h = (head_word heads.Gone, (small_word slot h.0, (linked_word names object h.1, tt)))
 bridge_words names q.Fin h = (head_word heads.Fin, tt)

@@ -20,6 +20,7 @@ use Rattle.mama_words.specs.Number.{number_in, below_in, between_in, if_between}
 use Rattle.mama_words.specs.Id.{id_text, id_in, sub_word, timer_word, inbox_word, sub_text, timer_text, inbox_text, object_text}
 use Rattle.mama_words.specs.Kind.{msg_kind_text}
 use Rattle.mama_words.specs.KindIn.{msg_kind_in}
+use Rattle.mama_words.specs.declared.nums.Nums.TheVariants.{Unknown}
 use Rattle.mama_words.specs.Field.{field_text, message_in, IsMessage}
 use Rattle.mama_words.specs.Order.{IsId, are_small, cons_fid, fids_in, asked_or_fault, asked_in}
 use Rattle.mama_words.proofs.Choices.{some_is, ok_is, chosen, chosen_some, guard_ok, guard_step, bind_ok, or_fault_ok, step_ok, and_then_some}
@@ -252,13 +253,13 @@ pub body_again : (body : List FieldData) → IsBody body → body_in (map field_
 unfolding body_in
 body_again body h =
     let few : length (map field_text body) ≤ 64 = rw length-map h.few in
-    rw (le-leb (length (map field_text body)) 64 few) (message_again body h.message)
+    rw (le-leb (length (map field_text body)) 64 few) (message_again Unknown body h.message)
 
 pub body_found : (ws : List (List ℕ)) (body : List FieldData) → body_in ws ≡ Ok body → IsBody body × (ws ≡ map field_text body)
 unfolding body_in
 body_found ws body e =
-    let p = guard_step (leb (length ws) 64) 4 (message_in ws) body e in
-    let m = message_found ws body p.1 in
+    let p = guard_step (leb (length ws) 64) 4 (message_in Unknown ws) body e in
+    let m = message_found Unknown ws body p.1 in
     let few = leb-true (length ws) 64 p.0 in
     let long : length ws ≡ length body = ap (λ (x : List (List ℕ)). length x) m.1 ∙ length-map body field_text in
     (record { message = m.0; few = omega (arith, few, long) }, m.1)

@@ -12,6 +12,7 @@ use Rattle.mama_words.specs.Reading.{◌>>=◌, or_fault}
 use Rattle.mama_words.specs.Parting.{parted_in}
 use Rattle.mama_words.specs.Number.{number_in, below_in}
 use Rattle.mama_words.specs.KindIn.{msg_kind_in, quality_in}
+use Rattle.mama_words.specs.declared.nums.Nums.TheVariants.{Unknown}
 use Rattle.mama_words.specs.Field.{message_in}
 use Rattle.mama_words.specs.Order.{order_in}
 use Rattle.mama_record.specs.RunData.{LastImage}
@@ -52,6 +53,13 @@ unfoldable pub request_in : List (List ℕ) → Result Callback ℕ
 request_in (sender ∷ []) = small_in sender >>= λ sender. Ok (on.RecapRequest sender)
 request_in words = Err 4
 
+unfoldable pub late_in : List (List ℕ) → Result Callback ℕ
+late_in (sender ∷ seq ∷ []) = do
+  sender ← small_in sender
+  seq ← small_in seq
+  Ok (on.Late sender seq)
+late_in words = Err 4
+
 unfoldable pub error_in : List (List ℕ) → Result Callback ℕ
 error_in (code ∷ []) = or_fault 5 (below_in (2 ^ 8) code) >>= λ code. Ok (on.Error code)
 error_in words = Err 4
@@ -69,6 +77,7 @@ sub_call_in heads.Msg words = msg_in words
 sub_call_in heads.Gap words = gap_in words
 sub_call_in heads.Quality words = quality_call_in words
 sub_call_in heads.Request words = request_in words
+sub_call_in heads.Late words = late_in words
 sub_call_in heads.Error words = error_in words
 sub_call_in heads.Destroy words = alone_in on.Destroy words
 sub_call_in _ words = Err 3
@@ -151,7 +160,7 @@ image_words_in names (sub ∷ quality ∷ sender ∷ last ∷ fields) = do
   quality ← or_fault 4 (quality_in quality)
   sender ← small_in sender
   last ← small_in last
-  body ← message_in fields
+  body ← message_in Unknown fields
   Ok (record { sub = sub; head = record { sender = sender; last = last; quality = quality }; body = body })
 image_words_in names words = Err 4
 

@@ -21,6 +21,7 @@ use Rattle.mama_event.specs.declared.to_queue.QueueNote.{QueueNote}
 use Rattle.mama_event.specs.declared.to_queue.QueueNote.TheVariants as q
 use Rattle.mama_event.specs.declared.publisher_entry.PublisherEntry.{PublisherEntry}
 use Rattle.mama_event.specs.declared.publisher_entry.PublisherEntry.TheVariants.{Took}
+use Rattle.mama_words.specs.declared.nums.Nums.TheVariants.{Unknown}
 use Rattle.mama_words.specs.Field.{IsMessage}
 use Rattle.mama_words.specs.Order.{are_small}
 use Rattle.mama_rules_services.specs.Ports.{Putter, ByClient, ByPublisher, ByQueue, ByBridge, ByTimers, bridge_putter, timers_putter, queue_putter}
@@ -34,7 +35,7 @@ pub record AreFids (fids : List ℕ) : Type 0 where
 
 -- fields of a message, of which there are at most 64
 pub record IsBody (body : List FieldData) : Type 0 where
-  pub message : IsMessage body
+  pub message : IsMessage Unknown body
   pub few : length body ≤ 64
 
 -- a message of the market, as its type has it
@@ -174,6 +175,7 @@ SubHears (on.Msg msg quality) = IsMarketMsg msg
 SubHears (on.Gap first to) = (first < 2 ^ 32) × (to < 2 ^ 32)
 SubHears (on.Quality quality number) = number < 2 ^ 32
 SubHears (on.RecapRequest sender) = sender < 2 ^ 32
+SubHears (on.Late sender seq) = (sender < 2 ^ 32) × (seq < 2 ^ 32)
 SubHears (on.Error code) = code < 2 ^ 8
 SubHears on.Destroy = Unit {0}
 SubHears _ = ⊥
@@ -208,4 +210,4 @@ pub record IsLastImage (names : NamesData) (i : LastImage) : Type 0 where
   pub sub : IsSub names i.sub
   pub sender : i.head.sender < 2 ^ 32
   pub last : i.head.last < 2 ^ 32
-  pub body : IsMessage i.body
+  pub body : IsMessage Unknown i.body

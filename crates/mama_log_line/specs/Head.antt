@@ -32,6 +32,7 @@ head_text heads.Msg = codes "msg"
 head_text heads.Gap = codes "gap"
 head_text heads.Quality = codes "quality"
 head_text heads.Request = codes "request"
+head_text heads.Late = codes "late"
 head_text heads.Error = codes "error"
 head_text heads.Destroy = codes "destroy"
 head_text heads.Order = codes "order"
@@ -42,7 +43,7 @@ all_heads =
     heads.Send ∷ heads.Done ∷ heads.Want ∷ heads.Ask ∷ heads.Settle ∷ heads.Fin ∷ heads.Join ∷ heads.Leave ∷
     heads.Open ∷ heads.Close ∷ heads.Publish ∷ heads.Image ∷ heads.Reply ∷ heads.Recap ∷ heads.Settled ∷ heads.Bye ∷
     heads.Arm ∷ heads.Disarm ∷ heads.Now ∷ heads.Create ∷ heads.Data ∷ heads.Tick ∷ heads.Gone ∷ heads.Msg ∷
-    heads.Gap ∷ heads.Quality ∷ heads.Request ∷ heads.Error ∷ heads.Destroy ∷ heads.Order ∷ heads.Clock ∷ []
+    heads.Gap ∷ heads.Quality ∷ heads.Request ∷ heads.Late ∷ heads.Error ∷ heads.Destroy ∷ heads.Order ∷ heads.Clock ∷ []
 
 -- what a word begins: the first head that has the word
 unfoldable pub head_in : List ℕ → Option Head

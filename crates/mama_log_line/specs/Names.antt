@@ -9,6 +9,7 @@ use Rattle.mama_event.specs.declared.shape.Shape.{Shape}
 use Rattle.mama_event.specs.declared.to_bridge.SubTerms.{SubTerms}
 use Rattle.mama_event.specs.declared.to_bridge.InboxTerms.{InboxTerms}
 use Rattle.mama_event.specs.declared.to_queue.Make.{Make}
+use Rattle.mama_event.specs.declared.shape.Strategy.{Strategy}
 use Rattle.mama_event.specs.declared.to_queue.Make.TheVariants as makes
 use Rattle.mama_script.specs.Script.{ScriptData}
 use Rattle.mama_script.specs.declared.client.QueueWord.{QueueWord}
@@ -80,12 +81,12 @@ abbrev pub inbox_terms_of : NamesData → InboxId → Option InboxTerms
 inbox_terms_of names id = option_and_then (λ c. slice_get c.inboxes id.number) (slice_get names.clients id.client)
 
 -- what a subscription with these terms is made as
-abbrev pub made_by : SubTerms → Make
-made_by terms = makes.Sub terms.kind terms.cache
+abbrev pub made_by : Strategy → SubTerms → Make
+made_by strategy terms = makes.Sub terms.kind terms.cache strategy
 
 -- what the script's object with an id is made as
 abbrev pub make_of : NamesData → ObjectId → Option Make
-make_of names (Sub id) = option_map made_by (terms_of names id)
+make_of names (Sub id) = option_map (made_by names.shape.strategy) (terms_of names id)
 make_of names (Timer id) = option_map (λ t. makes.Timer) (timer_terms_of names id)
 make_of names (Inbox id) = option_map (λ t. makes.Inbox) (inbox_terms_of names id)
 

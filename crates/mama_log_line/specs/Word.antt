@@ -14,6 +14,7 @@ use Rattle.mama_words.specs.Reading.{◌>>=◌, or_fault}
 use Rattle.mama_words.specs.Number.{number_in, below_in}
 use Rattle.mama_words.specs.Id.{id_in}
 use Rattle.mama_words.specs.KindIn.{msg_kind_in}
+use Rattle.mama_words.specs.declared.nums.Nums.TheVariants.{Unknown}
 use Rattle.mama_words.specs.Field.{message_in}
 use Rattle.mama_words.specs.Order.{asked_in}
 use Rattle.mama_log_line.specs.Names.{NamesData, terms_of, timer_terms_of, inbox_terms_of}
@@ -75,7 +76,7 @@ few_fids_in words = if nat_le (length words) 8 then asked_in words else Err 4
 
 -- at most 64 fields
 unfoldable pub body_in : List (List ℕ) → Result (List FieldData) ℕ
-body_in words = if nat_le (length words) 64 then message_in words else Err 4
+body_in words = if nat_le (length words) 64 then message_in Unknown words else Err 4
 
 -- a message of the market
 unfoldable pub market_in : List (List ℕ) → Result MarketMsg ℕ

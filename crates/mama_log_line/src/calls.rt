@@ -85,6 +85,20 @@ fn read_request(words: &[&[u8]]) -> Result<Callback, ReadError>
     }
 }
 
+#[tactic(auto, unfolding(crate::specs::Calls::late_in))]
+fn read_late(words: &[&[u8]]) -> Result<Callback, ReadError>
+    ensures { Gives (λ x. x) result (calls.late_in (map (λ w. w.now) words.now)) }
+{
+    match words {
+        [sender, seq] => {
+            let sender = read_small(sender)?;
+            let seq = read_small(seq)?;
+            Ok(Callback::Late { sender, seq })
+        }
+        _ => Err(ReadError::Fault(4)),
+    }
+}
+
 fn read_code(word: &[u8]) -> Result<u8, ReadError>
     ensures { Gives (λ x. x) result (or_fault 5 (below_in (2 ^ 8) word.now)) }
 {
@@ -136,6 +150,7 @@ fn sub_call(alloc: Global, head: Head, words: &[&[u8]]) -> Result<Callback, Read
         Head::Gap => read_gap(words),
         Head::Quality => read_quality_call(words),
         Head::Request => read_request(words),
+        Head::Late => read_late(words),
         Head::Error => read_error(words),
         Head::Destroy => alone(Callback::Destroy, words),
         _ => Err(ReadError::Fault(3)),

@@ -32,6 +32,7 @@ pub enum Head {
     Gap,
     Quality,
     Request,
+    Late,
     Error,
     Destroy,
     Order,
@@ -39,7 +40,7 @@ pub enum Head {
 }
 
 impl Head {
-    const ALL: [Head; 31] = [
+    const ALL: [Head; 32] = [
         Head::Send,
         Head::Done,
         Head::Want,
@@ -67,6 +68,7 @@ impl Head {
         Head::Gap,
         Head::Quality,
         Head::Request,
+        Head::Late,
         Head::Error,
         Head::Destroy,
         Head::Order,
@@ -105,6 +107,7 @@ impl Head {
             Head::Gap => b"gap",
             Head::Quality => b"quality",
             Head::Request => b"request",
+            Head::Late => b"late",
             Head::Error => b"error",
             Head::Destroy => b"destroy",
             Head::Order => b"order",

@@ -201,6 +201,7 @@ fn same_shape(alloc: Global, shape: &Shape) -> Result<Shape, OutOfMemory>
         clients: shape.clients,
         publisher_topics: Topics::new(topics),
         bounds: shape.bounds,
+        strategy: shape.strategy,
     })
 }
 
@@ -273,12 +274,13 @@ impl Names {
     }
 
     fn sub_make(&self, id: SubId) -> Option<Make>
-        ensures { result ≡ option_map names.made_by (names.terms_of self.now id) }
+        ensures { result ≡ option_map (names.made_by self.now.shape.strategy) (names.terms_of self.now id) }
     {
         let terms = self.terms(id)?;
         Some(Make::Sub {
             kind: terms.kind,
             cache: terms.cache,
+            strategy: self.shape.strategy,
         })
     }
 

@@ -14,7 +14,7 @@ use mama_event::{Fids, InboxId, MarketMsg, MsgKind, ObjectId, SubId, TimerId};
 use mama_memory::OutOfMemory;
 use mama_msg::Msg;
 use mama_words::{
-    IdWord, ReadError, read_below, read_between, read_inbox_id, read_message, read_msg_kind,
+    IdWord, Nums, ReadError, read_below, read_between, read_inbox_id, read_message, read_msg_kind,
     read_number, read_sub_id, read_timer_id,
 };
 use std::alloc::Global;
@@ -250,7 +250,7 @@ pub fn read_body(alloc: Global, words: &[&[u8]]) -> Result<Msg, ReadError>
     ensures { Gives (λ x. x) result (texts.body_in (map (λ w. w.now) words.now)) }
 {
     if words.len() <= 64 {
-        read_message(alloc, words)
+        read_message(alloc, Nums::Unknown, words)
     } else {
         Err(ReadError::Fault(4))
     }

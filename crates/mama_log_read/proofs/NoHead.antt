@@ -71,6 +71,7 @@ call_no_head (on.Msg msg quality) = refl
 call_no_head (on.Gap first to) = refl
 call_no_head (on.Quality quality number) = refl
 call_no_head (on.RecapRequest sender) = refl
+call_no_head (on.Late sender seq) = refl
 call_no_head (on.Error code) = refl
 call_no_head on.Destroy = refl
 call_no_head (on.Tick moment) = refl
@@ -92,6 +93,7 @@ call_no_order c o e = let k : false ≡ true = sym (not_o c) ∙ ap (λ (l : Lis
     not_o (on.Gap first to) = refl
     not_o (on.Quality quality number) = refl
     not_o (on.RecapRequest sender) = refl
+    not_o (on.Late sender seq) = refl
     not_o (on.Error code) = refl
     not_o on.Destroy = refl
     not_o (on.Tick moment) = refl

@@ -55,8 +55,8 @@ pub record IsRecord (script : ScriptData) (fs : List Filled) : Type 0 where
   pub logged : IsLogged script run
   pub is : fs ≡ parts_of run
 
-pub whole : (script : ScriptData) (fs : List Filled) → named fs ≡ sections script → AllFit (names_of script) (objects_of script) fs → IsRecord script fs
-whole script fs e h =
+pub sections_make_record : (script : ScriptData) (fs : List Filled) → named fs ≡ sections script → AllFit (names_of script) (objects_of script) fs → IsRecord script fs
+sections_make_record script fs e h =
     let names = names_of script in
     let objects = objects_of script in
     let at_end : List Section = s.Images ∷ s.End ∷ [] in

@@ -115,9 +115,9 @@ pub record SoFar {A : Type 0} (May : A → Type 0) (body : A → List ℕ) (text
   pub each : All May xs
   pub taken : text ≡ lines_text (map body xs) ++ rest
 
-pub one_more : {A : Type 0} (May : A → Type 0) (body : A → List ℕ) (text : List ℕ) (xs ys : List A) (x : A) (rest after : List ℕ) → SoFar May body text xs rest → May x × (rest ≡ body x ++ 10 ∷ after) → ys ≡ xs ++ x ∷ []
+pub so_far_with_line : {A : Type 0} (May : A → Type 0) (body : A → List ℕ) (text : List ℕ) (xs ys : List A) (x : A) (rest after : List ℕ) → SoFar May body text xs rest → May x × (rest ≡ body x ++ 10 ∷ after) → ys ≡ xs ++ x ∷ []
     → SoFar May body text ys after
-one_more {A} May body text xs ys x rest after so_far next grown =
+so_far_with_line {A} May body text xs ys x rest after so_far next grown =
     let P : List A → Type 0 = λ zs. SoFar May body text zs after in
     subst P (sym grown) (record {
       each = All-push May xs x so_far.each next.0;

@@ -29,7 +29,7 @@ use Rattle.mama_log_read.specs.declared.section.Section.{Section}
 use Rattle.mama_log_read.specs.declared.section.Section.TheVariants as s
 use Rattle.mama_log_read.proofs.Lines.{IsPlain, ArePlain, lines_begin, lines_text-append, pieces_lines, first_line}
 use Rattle.mama_log_read.proofs.Whole.{AllFit, named, parts_of, parts_spell, parts_make}
-use Rattle.mama_log_read.proofs.Record.{whole, parts_named, parts_fit}
+use Rattle.mama_log_read.proofs.Record.{sections_make_record, parts_named, parts_fit}
 use Rattle.mama_log_read.proofs.Following.{BeginsFirst, Follows, follows, same_parts, parts_plain}
 
 abbrev pub ArePlainHeads : ScriptData → Type 0
@@ -44,7 +44,7 @@ fit_of script fs h = recursion_from_All (FitsIn (names_of script) (objects_of sc
 -- all sections were read, and nothing is left
 pub found_whole : (script : ScriptData) (text : List ℕ) (run : RunData) → IsReadOf script (sections script) text run [] → IsLogged script run × (text ≡ log_text script.shape run)
 found_whole script text run r =
-    let w = whole script r.parts r.named (fit_of script r.parts r.fits) in
+    let w = sections_make_record script r.parts r.named (fit_of script r.parts r.fits) in
     let same : run ≡ w.run = r.made ∙ ap (run_after nothing) w.is ∙ parts_make w.run in
     let spelled : text ≡ log_text script.shape w.run =
     r.taken ∙ append-nil (lines_text (all_lines script.shape r.parts)) ∙ ap (λ (fs : List Filled). lines_text (all_lines script.shape fs)) w.is ∙ parts_spell script.shape w.run in
@@ -130,7 +130,7 @@ begins_log script done left text run rest r all =
     let objects = objects_of script in
     let fs = r.parts ++ blanks left in
     let fs_named : named fs ≡ sections script = map-append name_of r.parts (blanks left) ∙ ap (λ (x : List Section). x ++ named (blanks left)) r.named ∙ ap (λ (x : List Section). done ++ x) (blanks_named left) ∙ all in
-    let w = whole script fs fs_named (fit-append names objects r.parts (blanks left) (fit_of script r.parts r.fits) (blanks_fit names objects left)) in
+    let w = sections_make_record script fs fs_named (fit-append names objects r.parts (blanks left) (fit_of script r.parts r.fits) (blanks_fit names objects left)) in
     record {
       run = w.run;
       logged = w.logged;

@@ -1,5 +1,5 @@
 -- believed: values, fields and messages are compared exactly: the tests hold where both sides are one, and nowhere else.
-use Rattle.std.specs.Prelude.{Bool, false, ◌==◌, ◌&&◌, List}
+use Rattle.std.specs.Prelude.{ℤ, Bool, false, ◌==◌, ◌&&◌, List}
 use Rattle.std.specs.Bool.{beq}
 use Rattle.std.specs.Cmp.Lexicographic.{pointwise}
 use Rattle.std.specs.Ordering.{int_eq}
@@ -7,11 +7,15 @@ use Rattle.std.specs.Str.{bytes_eq}
 use Rattle.mama_msg.specs.Price.{PriceData}
 use Rattle.mama_msg.specs.Field.{FieldData}
 use Rattle.mama_msg.specs.declared.value.Value.{Value}
-use Rattle.mama_msg.specs.declared.value.Value.TheVariants.{Bool as Truth, Char, I8, I16, I32, I64, U8, U16, U32, U64, Text, Bytes, Price, Moment}
+use Rattle.mama_msg.specs.declared.value.Value.TheVariants.{Bool as Truth, Char, I8, I16, I32, I64, U8, U16, U32, U64, Text, Bytes, Price, Moment, Numbers}
 
 -- two prices have the same parts
 abbrev pub same_price : PriceData → PriceData → Bool
 same_price a b = int_eq a.mantissa b.mantissa && a.decimals == b.decimals
+
+-- two lists have the same numbers in the same order
+abbrev pub same_numbers : List ℤ → List ℤ → Bool
+same_numbers a b = pointwise int_eq a b
 
 -- two values are of one type and hold the same
 abbrev pub same_value : Value → Value → Bool
@@ -29,6 +33,7 @@ same_value (Text a) (Text b) = bytes_eq a b
 same_value (Bytes a) (Bytes b) = bytes_eq a b
 same_value (Price a) (Price b) = same_price a b
 same_value (Moment a) (Moment b) = a == b
+same_value (Numbers a) (Numbers b) = same_numbers a b
 same_value _ _ = false
 
 -- two fields have the same fid, name and value

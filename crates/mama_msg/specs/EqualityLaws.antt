@@ -1,5 +1,5 @@
 -- inner: the tests of values, fields and messages hold exactly where both sides are one, so they are equivalences.
-use Rattle.std.specs.Prelude.{◌≡◌, ◌==◌, ◌&&◌, List}
+use Rattle.std.specs.Prelude.{◌≡◌, ℤ, ◌==◌, ◌&&◌, List}
 use Rattle.std.specs.Bool.{Decides}
 use Rattle.std.specs.Cmp.{IsEquivalence, booleans_Decides, decided}
 use Rattle.std.specs.Cmp.Lexicographic.{pointwise_decides}
@@ -12,8 +12,8 @@ use Rattle.std.proofs.lemmas.Slice.Eq.{bytes_eq-Decides}
 use Rattle.mama_msg.specs.Price.{PriceData}
 use Rattle.mama_msg.specs.Field.{FieldData}
 use Rattle.mama_msg.specs.declared.value.Value.{Value}
-use Rattle.mama_msg.specs.declared.value.Value.TheVariants.{Bool as Truth, Char, I8, I16, I32, I64, U8, U16, U32, U64, Text, Bytes, Price, Moment}
-use Rattle.mama_msg.specs.Equality.{same_price, same_value, same_field, same_message}
+use Rattle.mama_msg.specs.declared.value.Value.TheVariants.{Bool as Truth, Char, I8, I16, I32, I64, U8, U16, U32, U64, Text, Bytes, Price, Moment, Numbers}
+use Rattle.mama_msg.specs.Equality.{same_price, same_numbers, same_value, same_field, same_message}
 
 pub same_price-Decides : (a b : PriceData) → Decides (same_price a b) (a ≡ b)
 same_price-Decides a b = (
@@ -26,6 +26,9 @@ same_price-Decides a b = (
       ((Decides-int_eq a.mantissa b.mantissa).1 (ap (λ (p : PriceData). p.mantissa) e))
       ((Decides-eqb a.decimals b.decimals).1 (ap (λ (p : PriceData). p.decimals) e)),
 )
+
+pub same_numbers-Decides : (a b : List ℤ) → Decides (same_numbers a b) (a ≡ b)
+same_numbers-Decides a b = pointwise_decides Decides-int_eq a b
 
 pub same_value-Decides : (a b : Value) → Decides (same_value a b) (a ≡ b)
 same_value-Decides (Truth a) (Truth b) = (λ h. ap Truth ((booleans_Decides a b).0 h), λ e. (booleans_Decides a b).1 (cc))
@@ -42,6 +45,7 @@ same_value-Decides (Text a) (Text b) = (λ h. ap Text ((bytes_eq-Decides a b).0 
 same_value-Decides (Bytes a) (Bytes b) = (λ h. ap Bytes ((bytes_eq-Decides a b).0 h), λ e. (bytes_eq-Decides a b).1 (cc))
 same_value-Decides (Price a) (Price b) = (λ h. ap Price ((same_price-Decides a b).0 h), λ e. (same_price-Decides a b).1 (cc))
 same_value-Decides (Moment a) (Moment b) = (λ h. ap Moment ((Decides-eqb a b).0 h), λ e. (Decides-eqb a b).1 (cc))
+same_value-Decides (Numbers a) (Numbers b) = (λ h. ap Numbers ((same_numbers-Decides a b).0 h), λ e. (same_numbers-Decides a b).1 (cc))
 same_value-Decides _ _ = (λ h. absurd (true≢false (sym h)), λ e. cc)
 
 pub same_field-Decides : (a b : FieldData) → Decides (same_field a b) (a ≡ b)
@@ -66,6 +70,9 @@ same_message-Decides m n = pointwise_decides same_field-Decides m n
 -- so they are equivalences
 pub same_price_equivalence : IsEquivalence same_price
 same_price_equivalence = decided same_price same_price-Decides
+
+pub same_numbers_equivalence : IsEquivalence same_numbers
+same_numbers_equivalence = decided same_numbers same_numbers-Decides
 
 pub same_value_equivalence : IsEquivalence same_value
 same_value_equivalence = decided same_value same_value-Decides

@@ -4,7 +4,7 @@ use Rattle.std.specs.Option.{ok_or}
 use Rattle.mama_msg.specs.Price.{PriceData}
 use Rattle.mama_msg.specs.Field.{FieldData}
 use Rattle.mama_msg.specs.declared.value.Value.{Value}
-use Rattle.mama_msg.specs.declared.value.Value.TheVariants.{Bool as Truth, I8, I16, I32, I64, U8, U16, U32, U64, Text, Price}
+use Rattle.mama_msg.specs.declared.value.Value.TheVariants.{Bool as Truth, I8, I16, I32, I64, U8, U16, U32, U64, Text, Price, Numbers}
 use Rattle.mama_msg.specs.declared.get.GetFault.{GetFault}
 use Rattle.mama_msg.specs.declared.get.GetFault.TheVariants.{NotFound, WrongType, OutOfRange}
 
@@ -34,6 +34,11 @@ text_of _ = None
 abbrev pub price_of : Value → Option PriceData
 price_of (Price price) = Some price
 price_of _ = None
+
+-- the numbers that a value of that type holds
+abbrev pub numbers_of : Value → Option (List ℤ)
+numbers_of (Numbers zs) = Some zs
+numbers_of _ = None
 
 -- what is read from the field that was asked for: there has to be one, and of the right type
 abbrev pub answer_of : {X : Type 0} → (Value → Option X) → Option FieldData → Result X GetFault

@@ -54,7 +54,8 @@ fn number_of(value: &Value) -> Option<i128>
         | Value::Text(_)
         | Value::Bytes(_)
         | Value::Price(_)
-        | Value::Moment(_) => None,
+        | Value::Moment(_)
+        | Value::Numbers(_) => None,
     }
 }
 
@@ -113,10 +114,20 @@ fn price_of(value: &Value) -> Option<Price>
     }
 }
 
+// The numbers of a value of that type.
+fn numbers_of(value: &Value) -> Option<&[i64]>
+    ensures { option_copied result ≡ get.numbers_of value.now }
+{
+    match value {
+        Value::Numbers(numbers) => Some(numbers.numbers()),
+        _ => None,
+    }
+}
+
 /// A getter reads the field that [`Msg::find`] gives for a name and a fid. It answers `NotFound` where there is none,
 /// and `WrongType` where the field is of a type that the getter does not accept. A getter of an integer type accepts
 /// each of the eight integer types, and answers `OutOfRange` where the number is outside its own. The getters of truth,
-/// text and price accept their own type alone. None takes memory.
+/// text, price and a list of numbers accept their own type alone. None takes memory.
 impl Msg {
     /// The number of a field of any integer type, as an `i8`.
     pub fn get_i8(&self, name: &Name, fid: u16) -> Result<i8, GetFault>
@@ -201,6 +212,17 @@ impl Msg {
     {
         match self.find(name, fid) {
             Some(field) => price_of(field.value()).ok_or(GetFault::WrongType),
+            None => Err(GetFault::NotFound),
+        }
+    }
+
+    /// The numbers of a field of type Numbers.
+    pub fn get_numbers(&self, name: &Name, fid: u16) -> Result<&[i64], GetFault>
+        ensures ok { IfOk result (λ numbers. answer_of get.numbers_of (asked_for name.now fid self.now) ≡ Ok numbers.now) }
+        ensures err { IfErr result (λ fault. answer_of get.numbers_of (asked_for name.now fid self.now) ≡ Err fault) }
+    {
+        match self.find(name, fid) {
+            Some(field) => numbers_of(field.value()).ok_or(GetFault::WrongType),
             None => Err(GetFault::NotFound),
         }
     }

@@ -1,6 +1,6 @@
 //! Messages: lists of typed fields with distinct keys.
 //!
-//! A [`Field`] has a fid, a [`Name`] and a [`Value`] of one of fourteen types. Its key is its fid, or its name where the
+//! A [`Field`] has a fid, a [`Name`] and a [`Value`] of one of fifteen types. Its key is its fid, or its name where the
 //! fid is 0, and no two fields of a [`Msg`] have one key. Every part is made by a constructor that refuses what is out
 //! of form, and keeps that form from then on.
 //!
@@ -11,7 +11,7 @@
 //!
 //! A message is 16 bytes beside a block with its fields, and a copy is one owner more of the block: it takes no memory, and
 //! no time by the fields. A message whose block has one owner is written in place; else its first change copies the
-//! fields, and those of text or bytes take memory of their own then. Nothing is indexed: what asks for a key goes through
+//! fields, and those of text, bytes or numbers take memory of their own then. Nothing is indexed: what asks for a key goes through
 //! the fields.
 #![tactic(auto)]
 
@@ -22,6 +22,7 @@ mod get;
 pub mod laws;
 mod msg;
 mod name;
+mod numbers;
 mod price;
 mod raw;
 mod rows;
@@ -34,6 +35,7 @@ pub use get::GetFault;
 pub use mama_memory::{Duplicate, OutOfMemory};
 pub use msg::{AddFault, Msg};
 pub use name::{Name, is_name_byte};
+pub use numbers::NumbersValue;
 pub use price::Price;
 pub use raw::BytesValue;
 pub use text::{TextValue, is_printable};

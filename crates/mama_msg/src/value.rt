@@ -2,12 +2,13 @@
 ghost use Rattle.std.specs.Prelude.{◌≡◌, ◌↔◌, IsTrue, IfOk};
 ghost use Rattle.std.specs.Cmp.{partial_equiv_from_equiv};
 
+use crate::numbers::NumbersValue;
 use crate::price::Price;
 use crate::raw::BytesValue;
 use crate::text::TextValue;
 use mama_memory::OutOfMemory;
 
-/// The value of a field, of one of fourteen types.
+/// The value of a field, of one of fifteen types.
 #[derive(Debug, Drop)]
 pub enum Value {
     /// True or false.
@@ -38,10 +39,12 @@ pub enum Value {
     Price(Price),
     /// A moment in milliseconds; where time begins is left open.
     Moment(u64),
+    /// A list of numbers.
+    Numbers(NumbersValue),
 }
 
 impl Value {
-    /// An equal value. Only a text and bytes take memory.
+    /// An equal value. Only a text, bytes and numbers take memory.
     pub fn try_clone(&self) -> Result<Value, OutOfMemory>
         ensures equal { IfOk result (λ copy. copy ≡ self.now) }
     {
@@ -60,6 +63,7 @@ impl Value {
             Value::Bytes(bytes) => Ok(Value::Bytes(bytes.try_clone()?)),
             Value::Price(price) => Ok(Value::Price(*price)),
             Value::Moment(at) => Ok(Value::Moment(*at)),
+            Value::Numbers(numbers) => Ok(Value::Numbers(numbers.try_clone()?)),
         }
     }
 }
@@ -91,6 +95,7 @@ impl PartialEq for Value {
             (Value::Bytes(a), Value::Bytes(b)) => a == b,
             (Value::Price(a), Value::Price(b)) => a == b,
             (Value::Moment(a), Value::Moment(b)) => a == b,
+            (Value::Numbers(a), Value::Numbers(b)) => a == b,
             _ => false,
         }
     }

@@ -1,7 +1,8 @@
 -- Values, fields and messages: each is read as it is spelled, and spelled as it is read.
 use Rattle.std.proofs.Common.{◌≡◌, ℕ, ℤ, suc, ◌^◌, ◌<◌, ◌≤◌, Bool, true, false, cond, eqb, ◌&&◌, List, [], ◌∷◌, ◌++◌, length, Option, Some, None, Ok, Err, refl, sym, ap, subst, ◌∙◌, arith, inl, inr}
-use Rattle.std.specs.List.{list_all}
+use Rattle.std.specs.List.{list_all, flat_map, AllByRecursion}
 use Rattle.std.specs.Int.{w8, w16, w32, w64, to_be_bytes}
+use Rattle.std.specs.Int.RustNames.{FitsSigned}
 use Rattle.std.proofs.lemmas.Bool.{eqb-true, cond-true, cond-false, cases_Bool, ne_eqb, and_left, both_ways}
 use Rattle.mama_msg.specs.declared.value.Value.{Value}
 use Rattle.mama_msg.specs.declared.value.Value.TheVariants as values
@@ -11,13 +12,14 @@ use Rattle.mama_msg.specs.Field.{FieldData, key_from, key_of, IsKeyed}
 use Rattle.mama_msg.specs.Message.{has_key}
 use Rattle.mama_payload.specs.declared.kind.Kind.{Kind}
 use Rattle.mama_payload.specs.declared.kind.Kind.TheVariants as kinds
+use Rattle.mama_payload.specs.declared.version.Version.{Version}
 use Rattle.mama_payload.specs.declared.fault.Rule.TheVariants as rules
 use Rattle.mama_msg.specs.Name.{is_name_byte, IsNameText}
-use Rattle.mama_payload.specs.Spelling.{kind_of, tag_of, signed, counted, value_bytes, field_bytes, IsInRange, IsField}
+use Rattle.mama_payload.specs.Spelling.{kind_of, tag_of, signed, counted, listed, AreNumbers, value_bytes, field_bytes, IsInRange, IsField}
 use Rattle.mama_payload.specs.Stop.{fault_at}
-use Rattle.mama_payload.specs.Reading.{◌>>=◌, seen_as, byte_at, limited_at, number_at, signed_at, bytes_at, letters_at, flag_at, text_at, block_at, price_at, value_at, kind_with_tag, known, kind_at, name_at, field_at}
+use Rattle.mama_payload.specs.Reading.{◌>>=◌, seen_as, byte_at, limited_at, number_at, signed_at, bytes_at, letters_at, flag_at, text_at, block_at, price_at, list_at, numbers_at, value_at, kind_with_tag, is_kind_of, if_kind_of, kind_in, known, kind_at, name_at, field_at}
 use Rattle.mama_payload.proofs.Steps.{IsBytes, bind_ok, ok_is, Reads, Reads-then, Reads-seen, Reads-guard, Spells, Spells-then, Spells-seen, Spells-guard}
-use Rattle.mama_payload.proofs.Parts.{one, front_of_one, byte_reads, byte_spells, limited_reads, limited_spells, wide8, wide16, wide32, wide64, number_reads, number_spells, signed_reads, signed_spells, bytes_reads, bytes_spells, letters_reads, letters_spells, flag_reads, flag_spells}
+use Rattle.mama_payload.proofs.Parts.{one, front_of_one, byte_reads, byte_spells, limited_reads, limited_spells, wide8, wide16, wide32, wide64, number_reads, number_spells, signed_reads, signed_spells, bytes_reads, bytes_spells, letters_reads, letters_spells, flag_reads, flag_spells, numbers_reads, numbers_spells}
 
 -- ---- values
 
@@ -71,6 +73,19 @@ price_spells =
     (λ price. (price.mantissa ≡ mantissa) × (price.decimals ≤ 18)) (limited_spells 18) (λ n le. (refl, (refl, le))))
     (λ mantissa price fits made. (ap (λ (z : ℤ). signed w64 z ++ one price.decimals) (sym made.0), (subst (λ (z : ℤ). IsInRange (values.I64 z)) (sym made.0) fits, made.1)))
 
+list_reads : (zs : List ℤ) → AreNumbers zs → Reads list_at (listed zs) zs
+unfolding list_at
+list_reads zs fits =
+    Reads-then (limited_at 24) (λ _ n rest. numbers_at n rest) (one (length zs)) (flat_map (signed w64) zs) (length zs) zs
+    (limited_reads 24 (length zs) fits.0) (λ _. numbers_reads zs fits.1)
+
+list_spells : Spells list_at listed AreNumbers
+unfolding list_at
+list_spells =
+    Spells-then (limited_at 24) (λ _ n rest. numbers_at n rest) one (λ n zs. flat_map (signed w64) zs) listed (λ n. n ≤ 24) (λ n zs. (length zs ≡ n) × AllByRecursion (FitsSigned w64) zs) AreNumbers
+    (limited_spells 24) (λ _ n le. numbers_spells n)
+    (λ n zs le made. (ap (λ (k : ℕ). k ∷ flat_map (signed w64) zs) (sym made.0), (subst (λ (k : ℕ). k ≤ 24) (sym made.0) le, made.1)))
+
 pub value_reads : (v : Value) → IsInRange v → Reads (value_at (kind_of v)) (value_bytes v) v
 unfolding value_at
 value_reads (values.Bool b) fits = Reads-seen flag_at values.Bool (value_bytes (values.Bool b)) b (flag_reads b)
@@ -87,6 +102,7 @@ value_reads (values.Text text) fits = Reads-seen text_at values.Text (counted te
 value_reads (values.Bytes bytes) fits = Reads-seen block_at values.Bytes (counted bytes) bytes (block_reads bytes)
 value_reads (values.Price price) fits = Reads-seen price_at values.Price (price_bytes price) price (price_reads price fits)
 value_reads (values.Moment n) fits = Reads-seen (number_at w64) values.Moment (to_be_bytes w64 n) n (number_reads w64 (2 ^ 64) wide64 n fits)
+value_reads (values.Numbers zs) fits = Reads-seen list_at values.Numbers (listed zs) zs (list_reads zs fits)
 
 -- a value of a kind
 pub record IsValueOf (kind : Kind) (v : Value) : Type 0 where
@@ -109,6 +125,7 @@ value_spells kinds.Text = Spells-seen text_at values.Text counted value_bytes Is
 value_spells kinds.Bytes = Spells-seen block_at values.Bytes counted value_bytes (λ bytes. length bytes ≤ 255) (IsValueOf kinds.Bytes) block_spells (λ bytes fits. (refl, record { kind_is = refl; in_range = fits }))
 value_spells kinds.Price = Spells-seen price_at values.Price price_bytes value_bytes HasPrice (IsValueOf kinds.Price) price_spells (λ price fits. (refl, record { kind_is = refl; in_range = fits }))
 value_spells kinds.Moment = Spells-seen (number_at w64) values.Moment (to_be_bytes w64) value_bytes (λ n. n < 2 ^ 64) (IsValueOf kinds.Moment) (number_spells w64 (2 ^ 64) wide64) (λ n fits. (refl, record { kind_is = refl; in_range = fits }))
+value_spells kinds.Numbers = Spells-seen list_at values.Numbers listed value_bytes AreNumbers (IsValueOf kinds.Numbers) list_spells (λ zs fits. (refl, record { kind_is = refl; in_range = fits }))
 
 -- ---- kinds
 
@@ -127,56 +144,78 @@ tag_known kinds.Text = refl
 tag_known kinds.Bytes = refl
 tag_known kinds.Price = refl
 tag_known kinds.Moment = refl
+tag_known kinds.Numbers = refl
 
-abbrev some : Kind → Option Kind
-some kind = Some kind
+abbrev some : {X : Type 0} → X → Option X
+some x = Some x
 
-abbrev none : Option Kind
+abbrev none : {X : Type 0} → Option X
 none = None
 
-some_is : (a b : Kind) → some a ≡ some b → a ≡ b
+some_is : {X : Type 0} (a b : X) → some a ≡ some b → a ≡ b
 some_is a b e = cc
 
-none_is_some : (kind : Kind) → none ≡ some kind → ⊥
-none_is_some kind e = cc
+pub none_is_some : {X : Type 0} (x : X) → none ≡ some x → ⊥
+none_is_some x e = cc
 
--- a chain of tests, of which the first took the tag or the others did
-tag_step : (n : ℕ) (first kind : Kind) (others : Option Kind) → cond (eqb n (tag_of first)) (Some first) others ≡ Some kind → (others ≡ Some kind → n ≡ tag_of kind) → n ≡ tag_of kind
-tag_step n first kind others e later =
-    elim (cases_Bool (eqb n (tag_of first))) [
-      | inl same ↦ let k : first ≡ kind = some_is first kind (sym (cond-true (eqb n (tag_of first)) (Some first) others same) ∙ e) in eqb-true _ _ same ∙ ap tag_of k
-      | inr other ↦ later (sym (cond-false (eqb n (tag_of first)) (Some first) others other) ∙ e)
+-- a chain of tests, of which the first took the byte or the others did
+pub byte_step : {X : Type 0} (byte_of : X → ℕ) (n : ℕ) (first x : X) (others : Option X) → cond (eqb n (byte_of first)) (Some first) others ≡ Some x → (others ≡ Some x → n ≡ byte_of x) → n ≡ byte_of x
+byte_step byte_of n first x others e later =
+    elim (cases_Bool (eqb n (byte_of first))) [
+      | inl same ↦ let k : first ≡ x = some_is first x (sym (cond-true (eqb n (byte_of first)) (Some first) others same) ∙ e) in eqb-true _ _ same ∙ ap byte_of k
+      | inr other ↦ later (sym (cond-false (eqb n (byte_of first)) (Some first) others other) ∙ e)
     ]
+
+tag_step : (n : ℕ) (first kind : Kind) (others : Option Kind) → cond (eqb n (tag_of first)) (Some first) others ≡ Some kind → (others ≡ Some kind → n ≡ tag_of kind) → n ≡ tag_of kind
+tag_step n first kind others = byte_step tag_of n first kind others
 
 tag_of_known : (n : ℕ) (kind : Kind) → kind_with_tag n ≡ Some kind → n ≡ tag_of kind
 tag_of_known n kind e =
     tag_step n kinds.Bool kind _ e (λ e. tag_step n kinds.Char kind _ e (λ e. tag_step n kinds.I8 kind _ e (λ e. tag_step n kinds.I16 kind _ e (
     λ e. tag_step n kinds.I32 kind _ e (λ e. tag_step n kinds.I64 kind _ e (λ e. tag_step n kinds.U8 kind _ e (λ e. tag_step n kinds.U16 kind _ e (
     λ e. tag_step n kinds.U32 kind _ e (λ e. tag_step n kinds.U64 kind _ e (λ e. tag_step n kinds.Text kind _ e (λ e. tag_step n kinds.Bytes kind _ e (
-    λ e. tag_step n kinds.Price kind _ e (λ e. tag_step n kinds.Moment kind _ e (λ e. absurd (none_is_some kind e)))))))))))))))
+    λ e. tag_step n kinds.Price kind _ e (λ e. tag_step n kinds.Moment kind _ e (λ e. tag_step n kinds.Numbers kind _ e (λ e. absurd (none_is_some kind e))))))))))))))))
 
-kind_reads : (kind : Kind) → Reads kind_at (one (tag_of kind)) kind
+-- the kind of a field is one of this version
+abbrev pub Carries : Version → FieldData → Type 0
+Carries version f = is_kind_of version (kind_of f.value) ≡ true
+
+kind_in_again : (version : Version) (kind : Kind) → is_kind_of version kind ≡ true → kind_in version (tag_of kind) ≡ Some kind
+kind_in_again version kind own = ap (if_kind_of version) (tag_known kind) ∙ cond-true (is_kind_of version kind) (Some kind) None own
+
+if_kind_is : (version : Version) (found : Option Kind) (kind : Kind) → if_kind_of version found ≡ Some kind → (found ≡ Some kind) × (is_kind_of version kind ≡ true)
+if_kind_is version None kind e = absurd (none_is_some kind e)
+if_kind_is version (Some k) kind e =
+    elim (cases_Bool (is_kind_of version k)) [
+      | inl own ↦
+          let same : k ≡ kind = some_is k kind (sym (cond-true (is_kind_of version k) (Some k) None own) ∙ e) in
+          (ap some same, ap (is_kind_of version) (sym same) ∙ own)
+      | inr other ↦ absurd (none_is_some kind (sym (cond-false (is_kind_of version k) (Some k) None other) ∙ e))
+    ]
+
+kind_reads : (version : Version) (kind : Kind) → is_kind_of version kind ≡ true → Reads (kind_at version) (one (tag_of kind)) kind
 unfolding kind_at
-kind_reads kind = record {
-  again = λ rest. ap (λ (k : Option Kind). known k (tag_of kind ∷ rest) rest) (tag_known kind);
-  cut = λ front c rest e. ap (λ (bytes : List ℕ). byte_at bytes >>= λ tag. known (kind_with_tag tag.0) bytes tag.1) (front_of_one (tag_of kind) front c rest e);
+kind_reads version kind own = record {
+  again = λ rest. ap (λ (k : Option Kind). known k (tag_of kind ∷ rest) rest) (kind_in_again version kind own);
+  cut = λ front c rest e. ap (λ (bytes : List ℕ). byte_at bytes >>= λ tag. known (kind_in version tag.0) bytes tag.1) (front_of_one (tag_of kind) front c rest e);
 }
 
-known_is : (found : Option Kind) (bytes rest : List ℕ) (kind : Kind) (after : List ℕ) → known found bytes rest ≡ Ok (kind, after) → (found ≡ Some kind) × (rest ≡ after)
-known_is None bytes rest kind after e = absurd cc
-known_is (Some k) bytes rest kind after e = let made : Kind × List ℕ = (k, rest) in let same = ok_is made (kind, after) e in (ap (λ (x : Kind × List ℕ). Some x.0) same, ap (λ (x : Kind × List ℕ). x.1) same)
+pub known_is : {X : Type 0} (found : Option X) (bytes rest : List ℕ) (x : X) (after : List ℕ) → known found bytes rest ≡ Ok (x, after) → (found ≡ Some x) × (rest ≡ after)
+known_is None bytes rest x after e = absurd cc
+known_is {X} (Some k) bytes rest x after e = let made : X × List ℕ = (k, rest) in let same = ok_is made (x, after) e in (ap (λ (y : X × List ℕ). Some y.0) same, ap (λ (y : X × List ℕ). y.1) same)
 
-kind_taken : (bytes : List ℕ) (kind : Kind) (rest : List ℕ) → IsBytes bytes → kind_at bytes ≡ Ok (kind, rest) → (bytes ≡ one (tag_of kind) ++ rest) × IsBytes rest × Unit {0}
+kind_taken : (version : Version) (bytes : List ℕ) (kind : Kind) (rest : List ℕ) → IsBytes bytes → kind_at version bytes ≡ Ok (kind, rest) → (bytes ≡ one (tag_of kind) ++ rest) × IsBytes rest × (is_kind_of version kind ≡ true)
 unfolding kind_at
-kind_taken bytes kind rest fits e =
-    let a = bind_ok (byte_at bytes) (λ tag. known (kind_with_tag tag.0) bytes tag.1) (kind, rest) e in
+kind_taken version bytes kind rest fits e =
+    let a = bind_ok (byte_at bytes) (λ tag. known (kind_in version tag.0) bytes tag.1) (kind, rest) e in
     let p = byte_spells.takes bytes a.0.0 a.0.1 fits a.1 in
-    let k = known_is (kind_with_tag a.0.0) bytes a.0.1 kind rest a.2 in
-    let tag : a.0.0 ≡ tag_of kind = tag_of_known a.0.0 kind k.0 in
-    (p.0 ∙ ap (λ (n : ℕ). one n ++ a.0.1) tag ∙ ap (λ (r : List ℕ). one (tag_of kind) ++ r) k.1, subst IsBytes k.1 p.1, tt)
+    let k = known_is (kind_in version a.0.0) bytes a.0.1 kind rest a.2 in
+    let found = if_kind_is version (kind_with_tag a.0.0) kind k.0 in
+    let tag : a.0.0 ≡ tag_of kind = tag_of_known a.0.0 kind found.0 in
+    (p.0 ∙ ap (λ (n : ℕ). one n ++ a.0.1) tag ∙ ap (λ (r : List ℕ). one (tag_of kind) ++ r) k.1, subst IsBytes k.1 p.1, found.1)
 
-kind_spells : Spells kind_at (λ kind. one (tag_of kind)) (λ kind. Unit {0})
-kind_spells = record { takes = kind_taken }
+kind_spells : (version : Version) → Spells (kind_at version) (λ kind. one (tag_of kind)) (λ kind. is_kind_of version kind ≡ true)
+kind_spells version = record { takes = kind_taken version }
 
 -- ---- names
 
@@ -220,13 +259,13 @@ name_spells fid =
 
 -- ---- fields
 
-pub field_reads : (before : List FieldData) (f : FieldData) → IsField f → has_key (key_of f) before ≡ false → Reads (field_at before) (field_bytes f) f
+pub field_reads : (version : Version) (before : List FieldData) (f : FieldData) → Carries version f → IsField f → has_key (key_of f) before ≡ false → Reads (field_at version before) (field_bytes f) f
 unfolding field_at
-field_reads before f fits new =
-    Reads-then kind_at (λ bytes kind rest. number_at w16 rest >>= λ fid. name_at fid.0 fid.1 >>= λ name.
+field_reads version before f own fits new =
+    Reads-then (kind_at version) (λ bytes kind rest. number_at w16 rest >>= λ fid. name_at fid.0 fid.1 >>= λ name.
     seen_as (λ value. record { fid = fid.0; name = name.0; value = value }) (cond (has_key (key_from fid.0 name.0) before) (Err (fault_at rules.Repeated bytes)) (value_at kind name.1)))
     (one (tag_of (kind_of f.value))) (to_be_bytes w16 f.fid ++ (counted f.name ++ value_bytes f.value)) (kind_of f.value) f
-    (kind_reads (kind_of f.value))
+    (kind_reads version (kind_of f.value) own)
     (λ bytes. Reads-then (number_at w16) (λ _ fid rest. name_at fid rest >>= λ name.
     seen_as (λ value. record { fid = fid; name = name.0; value = value }) (cond (has_key (key_from fid name.0) before) (Err (fault_at rules.Repeated bytes)) (value_at (kind_of f.value) name.1)))
     (to_be_bytes w16 f.fid) (counted f.name ++ value_bytes f.value) f.fid f
@@ -239,9 +278,10 @@ field_reads before f fits new =
     (value_bytes f.value) f.value
     (Reads-guard (has_key (key_of f) before) (fault_at rules.Repeated bytes) (value_at (kind_of f.value)) (value_bytes f.value) f.value new (value_reads f.value fits.value)))))
 
--- a field that may stand behind these
-pub record IsNext (before : List FieldData) (f : FieldData) : Type 0 where
+-- a field of a version that may stand behind these
+pub record IsNext (version : Version) (before : List FieldData) (f : FieldData) : Type 0 where
   pub field : IsField f
+  pub own : Carries version f
   pub new : has_key (key_of f) before ≡ false
 
 -- what is known of a field after its kind, its fid and its name were read, and the value behind them
@@ -259,22 +299,22 @@ record IsNumbered (before : List FieldData) (kind : Kind) (fid : ℕ) (f : Field
   value : IsValueOf kind f.value
 
 -- the same after its kind
-record IsTagged (before : List FieldData) (kind : Kind) (f : FieldData) : Type 0 where
-  next : IsNext before f
+record IsTagged (version : Version) (before : List FieldData) (kind : Kind) (f : FieldData) : Type 0 where
+  next : IsNext version before f
   kind_is : kind_of f.value ≡ kind
 
-pub field_spells : (before : List FieldData) → Spells (field_at before) field_bytes (IsNext before)
+pub field_spells : (version : Version) (before : List FieldData) → Spells (field_at version before) field_bytes (IsNext version before)
 unfolding field_at
-field_spells before =
-    Spells-then kind_at (λ bytes kind rest. number_at w16 rest >>= λ fid. name_at fid.0 fid.1 >>= λ name.
+field_spells version before =
+    Spells-then (kind_at version) (λ bytes kind rest. number_at w16 rest >>= λ fid. name_at fid.0 fid.1 >>= λ name.
     seen_as (λ value. record { fid = fid.0; name = name.0; value = value }) (cond (has_key (key_from fid.0 name.0) before) (Err (fault_at rules.Repeated bytes)) (value_at kind name.1)))
     (λ kind. one (tag_of kind)) (λ kind f. to_be_bytes w16 f.fid ++ (counted f.name ++ value_bytes f.value)) field_bytes
-    (λ kind. Unit {0}) (IsTagged before) (IsNext before)
-    kind_spells
-    (λ bytes kind _. Spells-then (number_at w16) (λ _ fid rest. name_at fid rest >>= λ name.
+    (λ kind. is_kind_of version kind ≡ true) (IsTagged version before) (IsNext version before)
+    (kind_spells version)
+    (λ bytes kind own. Spells-then (number_at w16) (λ _ fid rest. name_at fid rest >>= λ name.
     seen_as (λ value. record { fid = fid; name = name.0; value = value }) (cond (has_key (key_from fid name.0) before) (Err (fault_at rules.Repeated bytes)) (value_at kind name.1)))
     (to_be_bytes w16) (λ fid f. counted f.name ++ value_bytes f.value) (λ f. to_be_bytes w16 f.fid ++ (counted f.name ++ value_bytes f.value))
-    (λ fid. fid < 2 ^ 16) (IsNumbered before kind) (IsTagged before kind)
+    (λ fid. fid < 2 ^ 16) (IsNumbered before kind) (IsTagged version before kind)
     (number_spells w16 (2 ^ 16) wide16)
     (λ _ fid lt. Spells-then (name_at fid) (λ _ name rest.
     seen_as (λ value. record { fid = fid; name = name; value = value }) (cond (has_key (key_from fid name) before) (Err (fault_at rules.Repeated bytes)) (value_at kind rest)))
@@ -299,6 +339,7 @@ field_spells before =
             keyed = subst (λ (n : ℕ). IsKeyed n f.name) (sym made.fid_is) made.name.keyed;
             value = made.value.in_range;
           };
+          own = ap (is_kind_of version) made.value.kind_is ∙ own;
           new = made.new;
         };
         kind_is = made.value.kind_is;

@@ -10,10 +10,11 @@ use Rattle.mama_msg.specs.Field.{FieldData, key_from}
 use Rattle.mama_msg.specs.Message.{has_key}
 use Rattle.mama_payload.specs.declared.kind.Kind.{Kind}
 use Rattle.mama_payload.specs.declared.kind.Kind.TheVariants as kinds
+use Rattle.mama_payload.specs.declared.version.Version.{Version}
 use Rattle.mama_payload.specs.declared.fault.Rule.TheVariants as rules
 use Rattle.mama_payload.specs.declared.fault.Fault.{Fault}
 use Rattle.mama_payload.specs.Stop.{fault_at}
-use Rattle.mama_payload.specs.Reading.{◌>>=◌, seen_as, byte_at, limited_at, number_at, signed_at, bytes_at, letters_at, flag_at, text_at, block_at, price_at, value_at, kind_with_tag, known, kind_at, name_at, field_at, fields_at, version_at, message_at}
+use Rattle.mama_payload.specs.Reading.{◌>>=◌, seen_as, byte_at, limited_at, number_at, signed_at, bytes_at, letters_at, flag_at, text_at, block_at, price_at, numbers_at, list_at, value_at, kind_in, known, kind_at, name_at, field_at, fields_at, version_with_byte, version_at, has_old_form, message_at}
 use Rattle.mama_payload.proofs.Steps.{Reader, truncated, guard_ok, ok_is}
 use Rattle.mama_payload.proofs.Going.{Within, Goes, Goes-then, Goes-closed, Goes-ok, Goes-fails, Goes-cond, Goes-seen, Goes-like, read_as, failed_is}
 
@@ -82,6 +83,9 @@ bad_text e = cc
 
 repeated : rules.Repeated ≢ rules.Truncated
 repeated e = cc
+
+old_form : rules.OldForm ≢ rules.Truncated
+old_form e = cc
 
 limited_goes : (limit : ℕ) → Goes (λ _. limited_at limit)
 limited_goes limit =
@@ -158,6 +162,16 @@ price_goes =
     Goes-then (λ _. signed_at w64) (λ _ mantissa rest. seen_as (λ decimals. record { mantissa = mantissa; decimals = decimals }) (limited_at 18 rest)) (signed_goes w64)
     (λ mantissa. Goes-seen (λ _. limited_at 18) (λ decimals. record { mantissa = mantissa; decimals = decimals }) (limited_goes 18))
 
+numbers_goes : (n : ℕ) → Goes (λ _. numbers_at n)
+unfolding numbers_at
+numbers_goes zero = Goes-ok []
+numbers_goes (suc n) =
+    Goes-then (λ _. signed_at w64) (λ _ z rest. seen_as (λ zs. z ∷ zs) (numbers_at n rest)) (signed_goes w64) (λ z. Goes-seen (λ _. numbers_at n) (λ zs. z ∷ zs) (numbers_goes n))
+
+list_goes : Goes (λ _. list_at)
+unfolding list_at
+list_goes = Goes-then (λ _. limited_at 24) (λ _ n rest. numbers_at n rest) (limited_goes 24) (λ n. numbers_goes n)
+
 value_goes : (kind : Kind) → Goes (λ _. value_at kind)
 unfolding value_at
 value_goes kinds.Bool = Goes-seen (λ _. flag_at) values.Bool flag_goes
@@ -174,16 +188,17 @@ value_goes kinds.Text = Goes-seen (λ _. text_at) values.Text text_goes
 value_goes kinds.Bytes = Goes-seen (λ _. block_at) values.Bytes block_goes
 value_goes kinds.Price = Goes-seen (λ _. price_at) values.Price price_goes
 value_goes kinds.Moment = Goes-seen (λ _. number_at w64) values.Moment (number_goes w64)
+value_goes kinds.Numbers = Goes-seen (λ _. list_at) values.Numbers list_goes
 
-known_goes : (found : Option Kind) → Goes (λ whole rest. known found whole rest)
+known_goes : {X : Type 0} (found : Option X) → Goes (λ whole rest. known found whole rest)
 known_goes None = Goes-fails rules.BadTag bad_tag
-known_goes (Some kind) = Goes-ok kind
+known_goes (Some x) = Goes-ok x
 
-kind_goes : Goes (λ _. kind_at)
+kind_goes : (version : Version) → Goes (λ _. kind_at version)
 unfolding kind_at
-kind_goes =
-    Goes-closed (λ whole bytes. byte_at bytes >>= λ tag. known (kind_with_tag tag.0) whole tag.1)
-    (Goes-then (λ _. byte_at) (λ whole tag rest. known (kind_with_tag tag) whole rest) byte_goes (λ tag. known_goes (kind_with_tag tag)))
+kind_goes version =
+    Goes-closed (λ whole bytes. byte_at bytes >>= λ tag. known (kind_in version tag.0) whole tag.1)
+    (Goes-then (λ _. byte_at) (λ whole tag rest. known (kind_in version tag) whole rest) byte_goes (λ tag. known_goes (kind_in version tag)))
 
 name_goes : (fid : ℕ) → Goes (λ _. name_at fid)
 unfolding name_at
@@ -193,18 +208,18 @@ name_goes fid =
     (λ n. Goes-cond (eqb n 0 && eqb fid 0) (λ whole _. Err (fault_at rules.BadText whole)) (λ _. letters_at is_name_byte n) (Goes-fails rules.BadText bad_text) (letters_goes is_name_byte n)))
 
 -- a field, of which the bytes are the end of all that may be faulty
-abbrev field_within : List FieldData → Within FieldData
-field_within before whole bytes =
-    kind_at bytes >>= λ kind. number_at w16 kind.1 >>= λ fid. name_at fid.0 fid.1 >>= λ name.
+abbrev field_within : Version → List FieldData → Within FieldData
+field_within version before whole bytes =
+    kind_at version bytes >>= λ kind. number_at w16 kind.1 >>= λ fid. name_at fid.0 fid.1 >>= λ name.
     seen_as (λ value. record { fid = fid.0; name = name.0; value = value }) (cond (has_key (key_from fid.0 name.0) before) (Err (fault_at rules.Repeated whole)) (value_at kind.0 name.1))
 
-field_goes : (before : List FieldData) → Goes (λ _. field_at before)
+field_goes : (version : Version) (before : List FieldData) → Goes (λ _. field_at version before)
 unfolding field_at
-field_goes before =
-    Goes-closed (field_within before)
-    (Goes-then (λ _. kind_at) (λ whole kind rest. number_at w16 rest >>= λ fid. name_at fid.0 fid.1 >>= λ name.
+field_goes version before =
+    Goes-closed (field_within version before)
+    (Goes-then (λ _. kind_at version) (λ whole kind rest. number_at w16 rest >>= λ fid. name_at fid.0 fid.1 >>= λ name.
     seen_as (λ value. record { fid = fid.0; name = name.0; value = value }) (cond (has_key (key_from fid.0 name.0) before) (Err (fault_at rules.Repeated whole)) (value_at kind name.1)))
-    kind_goes
+    (kind_goes version)
     (λ kind. Goes-then (λ _. number_at w16) (λ whole fid rest. name_at fid rest >>= λ name.
     seen_as (λ value. record { fid = fid; name = name.0; value = value }) (cond (has_key (key_from fid name.0) before) (Err (fault_at rules.Repeated whole)) (value_at kind name.1)))
     (number_goes w16)
@@ -214,20 +229,32 @@ field_goes before =
     (λ name. Goes-seen (λ whole rest. cond (has_key (key_from fid name) before) (Err (fault_at rules.Repeated whole)) (value_at kind rest)) (λ value. record { fid = fid; name = name; value = value })
     (Goes-cond (has_key (key_from fid name) before) (λ whole _. Err (fault_at rules.Repeated whole)) (λ _. value_at kind) (Goes-fails rules.Repeated repeated) (value_goes kind))))))
 
-fields_goes : (n : ℕ) (before : List FieldData) → Goes (λ _. fields_at n before)
+fields_goes : (version : Version) (n : ℕ) (before : List FieldData) → Goes (λ _. fields_at version n before)
 unfolding fields_at
-fields_goes zero before = Goes-ok before
-fields_goes (suc n) before = Goes-then (λ _. field_at before) (λ _ f rest. fields_at n (before ++ f ∷ []) rest) (field_goes before) (λ f. fields_goes n (before ++ f ∷ []))
+fields_goes version zero before = Goes-ok before
+fields_goes version (suc n) before =
+    Goes-then (λ _. field_at version before) (λ _ f rest. fields_at version n (before ++ f ∷ []) rest) (field_goes version before) (λ f. fields_goes version n (before ++ f ∷ []))
 
 version_goes : Goes (λ _. version_at)
 unfolding version_at
 version_goes =
-    Goes-closed (λ whole bytes. byte_at bytes >>= λ version. cond (eqb version.0 1) (Ok version) (Err (fault_at rules.BadTag whole)))
-    (Goes-then (λ _. byte_at) (λ whole version rest. cond (eqb version 1) (Ok (version, rest)) (Err (fault_at rules.BadTag whole))) byte_goes
-    (λ version. Goes-cond (eqb version 1) (λ _ rest. Ok (version, rest)) (λ whole _. Err (fault_at rules.BadTag whole)) (Goes-ok version) (Goes-fails rules.BadTag bad_tag)))
+    Goes-closed (λ whole bytes. byte_at bytes >>= λ byte. known (version_with_byte byte.0) whole byte.1)
+    (Goes-then (λ _. byte_at) (λ whole byte rest. known (version_with_byte byte) whole rest) byte_goes (λ byte. known_goes (version_with_byte byte)))
+
+-- a message, of which the bytes are the end of all that may be faulty
+abbrev message_within : Within (List FieldData)
+message_within whole bytes =
+    version_at bytes >>= λ version. limited_at 64 version.1 >>= λ count. fields_at version.0 count.0 [] count.1 >>= λ fields.
+    cond (has_old_form version.0 fields.0) (Err (fault_at rules.OldForm whole)) (Ok fields)
 
 pub message_goes : Goes (λ _. message_at)
 unfolding message_at
 message_goes =
-    Goes-then (λ _. version_at) (λ _ version rest. limited_at 64 rest >>= λ count. fields_at count.0 [] count.1) version_goes
-    (λ _. Goes-then (λ _. limited_at 64) (λ _ count rest. fields_at count [] rest) (limited_goes 64) (λ count. fields_goes count []))
+    Goes-closed message_within
+    (Goes-then (λ _. version_at) (λ whole version rest. limited_at 64 rest >>= λ count. fields_at version count.0 [] count.1 >>= λ fields. cond (has_old_form version fields.0) (Err (fault_at rules.OldForm whole)) (Ok fields))
+    version_goes
+    (λ version. Goes-then (λ _. limited_at 64) (λ whole count rest. fields_at version count [] rest >>= λ fields. cond (has_old_form version fields.0) (Err (fault_at rules.OldForm whole)) (Ok fields))
+    (limited_goes 64)
+    (λ count. Goes-then (λ _. fields_at version count []) (λ whole fields rest. cond (has_old_form version fields) (Err (fault_at rules.OldForm whole)) (Ok (fields, rest)))
+    (fields_goes version count [])
+    (λ fields. Goes-cond (has_old_form version fields) (λ whole _. Err (fault_at rules.OldForm whole)) (λ _ rest. Ok (fields, rest)) (Goes-fails rules.OldForm old_form) (Goes-ok fields)))))

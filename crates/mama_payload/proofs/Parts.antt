@@ -1,11 +1,12 @@
 -- The parts of a field: each is read as it is spelled, and spelled as it is read.
-use Rattle.std.proofs.Common.{◌≡◌, ℕ, ℤ, zero, suc, ◌%◌, ◌^◌, ◌<◌, ◌≤◌, Bool, true, false, cond, ltb, ◌&&◌, List, [], ◌∷◌, ◌++◌, length, take, drop, Result, Ok, Err, refl, sym, ap, subst, ◌∙◌, arith}
-use Rattle.std.specs.List.{list_all}
+use Rattle.std.proofs.Common.{◌≡◌, ℕ, ℤ, zero, suc, ◌%◌, ◌^◌, ◌<◌, ◌≤◌, Bool, true, false, cond, ltb, ◌&&◌, List, [], ◌∷◌, ◌++◌, length, take, drop, Result, Ok, Err, refl, sym, ap, subst, ◌∙◌, append_assoc, arith}
+use Rattle.std.specs.List.{list_all, flat_map, AllByRecursion}
 use Rattle.std.specs.Int.{Width, w8, w16, w32, w64, byte_len, from_be_bytes, to_be_bytes, cast_signed, cast_unsigned}
 use Rattle.std.specs.Int.RustNames.{FitsSigned}
 use mir.Val.{bits}
 use Rattle.std.proofs.lemmas.Bool.{ltb-false, le-ltb, and_from}
 use Rattle.std.proofs.lemmas.List.{take_at, drop_at, take-append-drop, length-append, length-take}
+use Rattle.std.proofs.lemmas.List.Concat.{flat_map-cons}
 use Rattle.std.proofs.lemmas.Nat.{be_bytes_2, be_bytes_4, be_bytes_8, from_be_bytes-to_be_bytes_2, from_be_bytes-to_be_bytes_4, from_be_bytes-to_be_bytes_8}
 use Rattle.std.proofs.lemmas.Int.{to_z-of_z, of_z-to_z}
 use Rattle.std.proofs.Math.Facts.{Fits-of_z, sfits_to_z}
@@ -14,8 +15,8 @@ use Rattle.mama_payload.specs.declared.fault.Rule.TheVariants as rules
 use Rattle.mama_msg.specs.declared.value.Value.TheVariants as values
 use Rattle.mama_payload.specs.Spelling.{signed, value_bytes}
 use Rattle.mama_payload.specs.Stop.{fault_at}
-use Rattle.mama_payload.specs.Reading.{seen_as, byte_at, limited_at, number_at, signed_at, bytes_at, letters_at, flag_at}
-use Rattle.mama_payload.proofs.Steps.{IsBytes, IsBytes-take, IsBytes-drop, IsBytes-rest, truncated, bind_ok, guard_ok, ok_is, Reads, Reads-seen, Spells, Spells-seen}
+use Rattle.mama_payload.specs.Reading.{seen_as, byte_at, limited_at, number_at, signed_at, bytes_at, letters_at, flag_at, numbers_at}
+use Rattle.mama_payload.proofs.Steps.{IsBytes, IsBytes-take, IsBytes-drop, IsBytes-rest, truncated, bind_ok, guard_ok, ok_is, Reads, Reads-then, Reads-seen, Spells, Spells-seen}
 
 abbrev pub one : ℕ → List ℕ
 one n = n ∷ []
@@ -25,6 +26,17 @@ pub front_of_one : (n : ℕ) (front : List ℕ) (c : ℕ) (rest : List ℕ) → 
 front_of_one n [] c rest e = refl
 front_of_one n (x ∷ []) c rest e = absurd cc
 front_of_one n (x ∷ y ∷ front) c rest e = absurd cc
+
+abbrev nothing : List ℕ
+nothing = []
+
+pub nothing_before : (front : List ℕ) (c : ℕ) (rest : List ℕ) → nothing ≡ front ++ c ∷ rest → ⊥
+nothing_before [] c rest e = cc
+nothing_before (x ∷ front) c rest e = cc
+
+-- nothing stands for what is known without reading
+pub nothing_reads : {X : Type 0} (x : X) → Reads (λ bytes. Ok (x, bytes)) nothing x
+nothing_reads x = record { again = λ rest. refl; cut = λ front c rest e. absurd (nothing_before front c rest e) }
 
 pub and_parts : (a b : Bool) → (a && b) ≡ true → (a ≡ true) × (b ≡ true)
 and_parts true b e = (refl, e)
@@ -238,3 +250,34 @@ flag_taken (suc (suc n) ∷ bytes) b rest fits e = absurd cc
 
 pub flag_spells : Spells flag_at (λ b. value_bytes (values.Bool b)) (λ b. Unit {0})
 flag_spells = record { takes = flag_taken }
+
+-- ---- lists of numbers
+
+pub numbers_reads : (zs : List ℤ) → AllByRecursion (FitsSigned w64) zs → Reads (numbers_at (length zs)) (flat_map (signed w64) zs) zs
+unfolding numbers_at
+numbers_reads [] fits = nothing_reads []
+numbers_reads (z ∷ zs) fits =
+    let text : signed w64 z ++ flat_map (signed w64) zs ≡ flat_map (signed w64) (z ∷ zs) = sym (flat_map-cons (signed w64) z zs) in
+    subst (λ (t : List ℕ). Reads (numbers_at (suc (length zs))) t (z ∷ zs)) text
+    (Reads-then (signed_at w64) (λ _ z rest. seen_as (λ others. z ∷ others) (numbers_at (length zs) rest)) (signed w64 z) (flat_map (signed w64) zs) z (z ∷ zs) (signed_reads w64 wide64 z fits.0)
+    (λ _. Reads-seen (numbers_at (length zs)) (λ others. z ∷ others) (flat_map (signed w64) zs) zs (numbers_reads zs fits.1)))
+
+numbers_taken : (n : ℕ) (bytes : List ℕ) (zs : List ℤ) (rest : List ℕ) → IsBytes bytes → numbers_at n bytes ≡ Ok (zs, rest)
+    → (bytes ≡ flat_map (signed w64) zs ++ rest) × IsBytes rest × ((length zs ≡ n) × AllByRecursion (FitsSigned w64) zs)
+unfolding numbers_at
+numbers_taken zero bytes zs rest fits e =
+    let made : List ℤ × List ℕ = ([], bytes) in
+    subst (λ (x : List ℤ × List ℕ). (bytes ≡ flat_map (signed w64) x.0 ++ x.1) × IsBytes x.1 × ((length x.0 ≡ 0) × AllByRecursion (FitsSigned w64) x.0)) (ok_is made (zs, rest) e) (refl, fits, (refl, tt))
+numbers_taken (suc n) bytes zs rest fits e =
+    let a = bind_ok (signed_at w64 bytes) (λ z. seen_as (λ others. z.0 ∷ others) (numbers_at n z.1)) (zs, rest) e in
+    let p = (signed_spells w64 wide64).takes bytes a.0.0 a.0.1 fits a.1 in
+    let b = bind_ok (numbers_at n a.0.1) (λ x. Ok (a.0.0 ∷ x.0, x.1)) (zs, rest) a.2 in
+    let q = numbers_taken n a.0.1 b.0.0 b.0.1 p.1 b.1 in
+    let made : List ℤ × List ℕ = (a.0.0 ∷ b.0.0, b.0.1) in
+    let text : bytes ≡ flat_map (signed w64) (a.0.0 ∷ b.0.0) ++ b.0.1 =
+    p.0 ∙ ap (λ (r : List ℕ). signed w64 a.0.0 ++ r) q.0 ∙ sym (append_assoc (signed w64 a.0.0) (flat_map (signed w64) b.0.0) b.0.1) ∙ ap (λ (t : List ℕ). t ++ b.0.1) (sym (flat_map-cons (signed w64) a.0.0 b.0.0)) in
+    subst (λ (x : List ℤ × List ℕ). (bytes ≡ flat_map (signed w64) x.0 ++ x.1) × IsBytes x.1 × ((length x.0 ≡ suc n) × AllByRecursion (FitsSigned w64) x.0)) (ok_is made (zs, rest) b.2)
+    (text, q.1, (ap suc q.2.0, (p.2, q.2.1)))
+
+pub numbers_spells : (n : ℕ) → Spells (numbers_at n) (flat_map (signed w64)) (λ zs. (length zs ≡ n) × AllByRecursion (FitsSigned w64) zs)
+numbers_spells n = record { takes = numbers_taken n }

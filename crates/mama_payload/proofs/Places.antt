@@ -95,6 +95,7 @@ broken-truncated rules.BadTag at place e = absurd cc
 broken-truncated rules.BadText at place e = absurd cc
 broken-truncated rules.Repeated at place e = absurd cc
 broken-truncated rules.TooMany at place e = absurd cc
+broken-truncated rules.OldForm at place e = absurd cc
 broken-truncated rules.Trailing at place e = absurd cc
 
 -- the end of the bytes is at their end

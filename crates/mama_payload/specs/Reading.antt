@@ -1,5 +1,5 @@
 -- believed: reading from the front, with the first fault that is met. A reader answers a value and the bytes after it.
-use Rattle.std.specs.Prelude.{ℕ, ℤ, zero, suc, ◌-◌, Bool, true, false, ◌&&◌, List, [], ◌∷◌, ◌++◌, length, take, drop, Option, Some, None, Result, Ok, Err, nat_lt, ◌==◌, if◌then◌else◌}
+use Rattle.std.specs.Prelude.{ℕ, ℤ, zero, suc, ◌-◌, Bool, true, false, ◌&&◌, not, List, [], ◌∷◌, ◌++◌, length, take, drop, Option, Some, None, Result, Ok, Err, nat_lt, ◌==◌, if◌then◌else◌}
 use Rattle.std.specs.Int.{Width, w8, w16, w32, w64, byte_len, from_be_bytes, cast_signed}
 use Rattle.mama_msg.specs.declared.value.Value.{Value}
 use Rattle.mama_msg.specs.declared.value.Value.TheVariants as values
@@ -12,6 +12,9 @@ use Rattle.mama_payload.specs.declared.letters.Alphabet.{Alphabet}
 use Rattle.mama_payload.specs.declared.letters.Alphabet.TheVariants as alphabets
 use Rattle.mama_payload.specs.declared.kind.Kind.{Kind}
 use Rattle.mama_payload.specs.declared.kind.Kind.TheVariants as kinds
+use Rattle.mama_payload.specs.declared.version.Version.{Version}
+use Rattle.mama_payload.specs.declared.version.Version.TheVariants as versions
+use Rattle.mama_payload.specs.Spelling.{is_numbers, has_numbers}
 use Rattle.mama_payload.specs.declared.fault.Rule.{Rule}
 use Rattle.mama_payload.specs.declared.fault.Rule.TheVariants as rules
 use Rattle.mama_payload.specs.declared.fault.Fault.{Fault}
@@ -89,6 +92,15 @@ price_at bytes = do
   decimals ← limited_at 18 mantissa.1
   Ok (record { mantissa = mantissa.0; decimals = decimals.0 }, decimals.1)
 
+-- n signed numbers of 64 bits
+unfoldable pub numbers_at : ℕ → List ℕ → Result (List ℤ × List ℕ) Fault
+numbers_at zero bytes = Ok ([], bytes)
+numbers_at (suc n) bytes = signed_at w64 bytes >>= λ z. seen_as (λ zs. z.0 ∷ zs) (numbers_at n z.1)
+
+-- a list of numbers behind its count, at most 24
+unfoldable pub list_at : List ℕ → Result (List ℤ × List ℕ) Fault
+list_at bytes = limited_at 24 bytes >>= λ n. numbers_at n.0 n.1
+
 -- a value of this kind
 unfoldable pub value_at : Kind → List ℕ → Result (Value × List ℕ) Fault
 value_at kinds.Bool bytes = seen_as values.Bool (flag_at bytes)
@@ -105,10 +117,11 @@ value_at kinds.Text bytes = seen_as values.Text (text_at bytes)
 value_at kinds.Bytes bytes = seen_as values.Bytes (block_at bytes)
 value_at kinds.Price bytes = seen_as values.Price (price_at bytes)
 value_at kinds.Moment bytes = seen_as values.Moment (number_at w64 bytes)
+value_at kinds.Numbers bytes = seen_as values.Numbers (list_at bytes)
 
 -- ---- fields
 
--- the kind with this tag
+-- the kind with this tag in any version
 abbrev pub kind_with_tag : ℕ → Option Kind
 kind_with_tag tag =
     if tag == 0x01 then Some kinds.Bool else if tag == 0x02 then Some kinds.Char
@@ -118,16 +131,29 @@ kind_with_tag tag =
     else if tag == 0x09 then Some kinds.U32 else if tag == 0x0a then Some kinds.U64
     else if tag == 0x0b then Some kinds.Text else if tag == 0x0c then Some kinds.Bytes
     else if tag == 0x0d then Some kinds.Price else if tag == 0x0e then Some kinds.Moment
-    else None
+    else if tag == 0x0f then Some kinds.Numbers else None
 
--- a tag, or a fault at it
-abbrev pub known : Option Kind → List ℕ → List ℕ → Result (Kind × List ℕ) Fault
+-- the kinds of a version: lists of numbers are of version 2 alone
+abbrev pub is_kind_of : Version → Kind → Bool
+is_kind_of versions.One kind = not (is_numbers kind)
+is_kind_of versions.Two kind = true
+
+abbrev pub if_kind_of : Version → Option Kind → Option Kind
+if_kind_of version None = None
+if_kind_of version (Some kind) = if is_kind_of version kind then Some kind else None
+
+-- the kind with this tag in a version
+abbrev pub kind_in : Version → ℕ → Option Kind
+kind_in version tag = if_kind_of version (kind_with_tag tag)
+
+-- what a byte stands for, or a fault at it
+abbrev pub known : {X : Type 0} → Option X → List ℕ → List ℕ → Result (X × List ℕ) Fault
 known None bytes rest = Err (fault_at rules.BadTag bytes)
-known (Some kind) bytes rest = Ok (kind, rest)
+known (Some x) bytes rest = Ok (x, rest)
 
--- the kind whose tag comes
-unfoldable pub kind_at : List ℕ → Result (Kind × List ℕ) Fault
-kind_at bytes = byte_at bytes >>= λ tag. known (kind_with_tag tag.0) bytes tag.1
+-- the kind of a version whose tag comes
+unfoldable pub kind_at : Version → List ℕ → Result (Kind × List ℕ) Fault
+kind_at version bytes = byte_at bytes >>= λ tag. known (kind_in version tag.0) bytes tag.1
 
 -- the name of a field with this fid; where the fid is 0 it is not empty
 unfoldable pub name_at : ℕ → List ℕ → Result (List ℕ × List ℕ) Fault
@@ -135,34 +161,44 @@ name_at fid bytes = do
   n ← limited_at 32 bytes
   if n.0 == 0 && fid == 0 then Err (fault_at rules.BadText bytes) else letters_at (allowed alphabets.Name) n.0 n.1
 
--- A field, behind these. Its key is looked up when the name was read, and the fault then stands at the tag.
-unfoldable pub field_at : List FieldData → List ℕ → Result (FieldData × List ℕ) Fault
-field_at before bytes = do
-  kind ← kind_at bytes
+-- A field of a version, behind these. Its key is looked up when the name was read, and the fault then stands at the tag.
+unfoldable pub field_at : Version → List FieldData → List ℕ → Result (FieldData × List ℕ) Fault
+field_at version before bytes = do
+  kind ← kind_at version bytes
   fid ← number_at w16 kind.1
   name ← name_at fid.0 fid.1
   value ← if has_key (key_from fid.0 name.0) before then Err (fault_at rules.Repeated bytes) else value_at kind.0 name.1
   Ok (record { fid = fid.0; name = name.0; value = value.0 }, value.1)
 
 -- these fields and n more
-unfoldable pub fields_at : ℕ → List FieldData → List ℕ → Result (List FieldData × List ℕ) Fault
-fields_at zero before bytes = Ok (before, bytes)
-fields_at (suc n) before bytes = do
-  field ← field_at before bytes
-  fields_at n (before ++ field.0 ∷ []) field.1
+unfoldable pub fields_at : Version → ℕ → List FieldData → List ℕ → Result (List FieldData × List ℕ) Fault
+fields_at version zero before bytes = Ok (before, bytes)
+fields_at version (suc n) before bytes = do
+  field ← field_at version before bytes
+  fields_at version n (before ++ field.0 ∷ []) field.1
 
 -- ---- messages
 
--- the version, of which there is one
-unfoldable pub version_at : List ℕ → Result (ℕ × List ℕ) Fault
-version_at bytes = byte_at bytes >>= λ version. if version.0 == 1 then Ok version else Err (fault_at rules.BadTag bytes)
+-- the version with this first byte
+abbrev pub version_with_byte : ℕ → Option Version
+version_with_byte byte = if byte == 1 then Some versions.One else if byte == 2 then Some versions.Two else None
 
--- a message
+-- the version
+unfoldable pub version_at : List ℕ → Result (Version × List ℕ) Fault
+version_at bytes = byte_at bytes >>= λ byte. known (version_with_byte byte.0) bytes byte.1
+
+-- version 2 is for lists of numbers alone: other messages have an older form
+abbrev pub has_old_form : Version → List FieldData → Bool
+has_old_form versions.One fields = false
+has_old_form versions.Two fields = not (has_numbers fields)
+
+-- A message. That it has an older form is seen when all its fields were read, and the fault stands at the version.
 unfoldable pub message_at : List ℕ → Result (List FieldData × List ℕ) Fault
 message_at bytes = do
   version ← version_at bytes
   count ← limited_at 64 version.1
-  fields_at count.0 [] count.1
+  fields ← fields_at version.0 count.0 [] count.1
+  if has_old_form version.0 fields.0 then Err (fault_at rules.OldForm bytes) else Ok fields
 
 -- nothing is left
 abbrev pub ended : List FieldData × List ℕ → Result (List FieldData) Fault
@@ -180,6 +216,7 @@ broken rules.BadTag place = faults.BadTag place
 broken rules.BadText place = faults.BadText place
 broken rules.Repeated place = faults.Repeated place
 broken rules.TooMany place = faults.TooMany place
+broken rules.OldForm place = faults.OldForm place
 broken rules.Trailing place = faults.Trailing place
 
 -- the place of a fault, counted from 0 in all of the bytes

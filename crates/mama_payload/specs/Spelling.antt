@@ -1,7 +1,7 @@
--- believed: the one spelling of a message, payload version 1. All numbers have the most significant byte first; signed ones are
--- two's complement.
-use Rattle.std.specs.Prelude.{ℕ, ℤ, ◌<◌, ◌≤◌, ◌^◌, true, false, List, [], ◌∷◌, ◌++◌, length}
-use Rattle.std.specs.List.{flat_map, AllByRecursion}
+-- believed: the one spelling of a message, in the version that it needs. All numbers have the most significant byte first; signed
+-- ones are two's complement.
+use Rattle.std.specs.Prelude.{ℕ, ℤ, ◌<◌, ◌≤◌, ◌^◌, Bool, true, false, List, [], ◌∷◌, ◌++◌, length, if◌then◌else◌}
+use Rattle.std.specs.List.{flat_map, list_any, AllByRecursion}
 use Rattle.std.specs.Int.{Width, w8, w16, w32, w64, to_be_bytes, cast_unsigned}
 use Rattle.std.specs.Int.RustNames.{FitsSigned}
 use Rattle.mama_msg.specs.declared.value.Value.{Value}
@@ -11,6 +11,8 @@ use Rattle.mama_msg.specs.Field.{FieldData, IsKeyed}
 use Rattle.mama_msg.specs.Message.{AreDistinct}
 use Rattle.mama_payload.specs.declared.kind.Kind.{Kind}
 use Rattle.mama_payload.specs.declared.kind.Kind.TheVariants as kinds
+use Rattle.mama_payload.specs.declared.version.Version.{Version}
+use Rattle.mama_payload.specs.declared.version.Version.TheVariants as versions
 use Rattle.mama_msg.specs.Name.{IsNameText}
 
 -- the kind of a value
@@ -29,6 +31,7 @@ kind_of (values.Text text) = kinds.Text
 kind_of (values.Bytes bytes) = kinds.Bytes
 kind_of (values.Price price) = kinds.Price
 kind_of (values.Moment n) = kinds.Moment
+kind_of (values.Numbers zs) = kinds.Numbers
 
 -- the tag byte of a kind
 abbrev pub tag_of : Kind → ℕ
@@ -46,6 +49,7 @@ tag_of kinds.Text = 0x0b
 tag_of kinds.Bytes = 0x0c
 tag_of kinds.Price = 0x0d
 tag_of kinds.Moment = 0x0e
+tag_of kinds.Numbers = 0x0f
 
 -- a signed number in two's complement
 abbrev pub signed : Width → ℤ → List ℕ
@@ -54,6 +58,10 @@ signed w z = to_be_bytes w (cast_unsigned w z)
 -- one byte with the length, and then the bytes
 abbrev pub counted : List ℕ → List ℕ
 counted bytes = length bytes ∷ bytes
+
+-- one byte with the count, and then the numbers
+abbrev pub listed : List ℤ → List ℕ
+listed zs = length zs ∷ flat_map (signed w64) zs
 
 -- the bytes of a value
 abbrev pub value_bytes : Value → List ℕ
@@ -72,16 +80,39 @@ value_bytes (values.Text text) = counted text
 value_bytes (values.Bytes bytes) = counted bytes
 value_bytes (values.Price price) = signed w64 price.mantissa ++ price.decimals ∷ []
 value_bytes (values.Moment n) = to_be_bytes w64 n
+value_bytes (values.Numbers zs) = listed zs
 
 -- the bytes of a field: the tag, the fid, the name behind its length, and the value
 abbrev pub field_bytes : FieldData → List ℕ
 field_bytes f = tag_of (kind_of f.value) ∷ to_be_bytes w16 f.fid ++ (counted f.name ++ value_bytes f.value)
 
--- the bytes of a message: the version 1, the number of fields, and the fields in order
+-- the kind of lists of numbers
+abbrev pub is_numbers : Kind → Bool
+is_numbers kinds.Numbers = true
+is_numbers kind = false
+
+-- some field is a list of numbers
+abbrev pub has_numbers : List FieldData → Bool
+has_numbers fields = list_any (λ f. is_numbers (kind_of f.value)) fields
+
+-- the version of a message: 2 exactly where some field is a list of numbers
+abbrev pub version_of : List FieldData → Version
+version_of fields = if has_numbers fields then versions.Two else versions.One
+
+-- the first byte of a payload
+abbrev pub first_byte : Version → ℕ
+first_byte versions.One = 1
+first_byte versions.Two = 2
+
+-- the bytes of a message: the version, the number of fields, and the fields in order
 abbrev pub spelling : List FieldData → List ℕ
-spelling fields = 1 ∷ length fields ∷ flat_map field_bytes fields
+spelling fields = first_byte (version_of fields) ∷ length fields ∷ flat_map field_bytes fields
 
 -- ---- what has a spelling
+
+-- at most 24 numbers of 64 bits
+abbrev pub AreNumbers : List ℤ → Type 0
+AreNumbers zs = (length zs ≤ 24) × AllByRecursion (FitsSigned w64) zs
 
 -- a value is in the range of its type
 abbrev pub IsInRange : Value → Type 0
@@ -99,6 +130,7 @@ IsInRange (values.Text text) = IsText text
 IsInRange (values.Bytes bytes) = length bytes ≤ 255
 IsInRange (values.Price price) = FitsSigned w64 price.mantissa × (price.decimals ≤ 18)
 IsInRange (values.Moment n) = n < 2 ^ 64
+IsInRange (values.Numbers zs) = AreNumbers zs
 
 -- a field that the program's types can hold
 pub record IsField (f : FieldData) : Type 0 where

@@ -6,20 +6,26 @@ ghost use Rattle.mama_payload.specs.Giving.{Gives, IsWithin};
 ghost use Rattle.mama_payload.specs.Spelling.{spelling, HasSpelling};
 ghost use Rattle.mama_payload.specs.Reading.{field_at, fields_at, version_at, message_at, whole, broken, stopped, decoded};
 
-use crate::encoding::{MAX_FIELDS, VERSION};
+use crate::encoding::MAX_FIELDS;
 use crate::fault::{DecodeFault, Fault, Rule, Stop};
 use crate::reading::{byte_of, kind_of, limited_of, name_of, u16_of, value_of};
+use crate::version::Version;
 use mama_memory::OutOfMemory;
 use mama_msg::{AddFault, Field, Msg, Name};
 use std::alloc::Global;
 
 /// A field behind those of a message. Whether they have its key is asked before its value is read.
 #[tactic(auto, unfolding(crate::specs::Reading::field_at))]
-fn field_of<'a>(alloc: Global, before: &Msg, bytes: &'a [u8]) -> Result<(Field, &'a [u8]), Stop>
-    ensures gives { Gives (λ x. (x.0, x.1.now)) result (field_at before.now bytes.now) }
+fn field_of<'a>(
+    alloc: Global,
+    version: Version,
+    before: &Msg,
+    bytes: &'a [u8],
+) -> Result<(Field, &'a [u8]), Stop>
+    ensures gives { Gives (λ x. (x.0, x.1.now)) result (field_at version before.now bytes.now) }
     ensures new { IfOk result (λ x. has_key (key_of x.0) before.now ≡ false) }
 {
-    let (kind, rest) = kind_of(bytes)?;
+    let (kind, rest) = kind_of(version, bytes)?;
     let (fid, rest) = u16_of(rest)?;
     let (name, rest) = name_of(fid, rest)?;
     let Some(name) = Name::new(name) else {
@@ -50,13 +56,13 @@ fn push(msg: &mut Msg, field: Field) -> Result<(), OutOfMemory>
 }
 
 /// As many fields as `count` says.
-fn fields_of(alloc: Global, count: u8, bytes: &[u8]) -> Result<(Msg, &[u8]), Stop>
-    ensures { Gives (λ x. (x.0, x.1.now)) result (fields_at count [] bytes.now) }
+fn fields_of(alloc: Global, version: Version, count: u8, bytes: &[u8]) -> Result<(Msg, &[u8]), Stop>
+    ensures { Gives (λ x. (x.0, x.1.now)) result (fields_at version count [] bytes.now) }
 {
     let mut msg = Msg::new(alloc);
     let mut rest = bytes;
     for _ in 0..count {
-        match field_of(alloc, &msg, rest) {
+        match field_of(alloc, version, &msg, rest) {
             Ok((field, after)) => {
                 push(&mut msg, field)?;
                 rest = after;
@@ -67,16 +73,16 @@ fn fields_of(alloc: Global, count: u8, bytes: &[u8]) -> Result<(Msg, &[u8]), Sto
     Ok((msg, rest))
 }
 
-/// The version, which is 1.
+/// The version.
 #[tactic(auto, unfolding(crate::specs::Reading::version_at))]
-fn version_of(bytes: &[u8]) -> Result<(u8, &[u8]), Stop>
+fn version_of(bytes: &[u8]) -> Result<(Version, &[u8]), Stop>
     ensures { Gives (λ x. (x.0, x.1.now)) result (version_at bytes.now) }
 {
-    let (version, rest) = byte_of(bytes)?;
-    if version != VERSION {
-        return Err(Stop::at(Rule::BadTag, bytes));
+    let (byte, rest) = byte_of(bytes)?;
+    match Version::with_byte(byte) {
+        Some(version) => Ok((version, rest)),
+        None => Err(Stop::at(Rule::BadTag, bytes)),
     }
-    Ok((version, rest))
 }
 
 /// A message, and the bytes after it.
@@ -84,9 +90,17 @@ fn version_of(bytes: &[u8]) -> Result<(u8, &[u8]), Stop>
 fn message_of(alloc: Global, bytes: &[u8]) -> Result<(Msg, &[u8]), Stop>
     ensures { Gives (λ x. (x.0, x.1.now)) result (message_at bytes.now) }
 {
-    let (_, rest) = version_of(bytes)?;
+    let (version, rest) = version_of(bytes)?;
     let (count, rest) = limited_of(MAX_FIELDS, rest)?;
-    fields_of(alloc, count, rest)
+    match fields_of(alloc, version, count, rest) {
+        Ok((msg, rest)) => {
+            if version.is_new_for(&msg) {
+                return Err(Stop::at(Rule::OldForm, bytes));
+            }
+            Ok((msg, rest))
+        }
+        Err(stop) => Err(stop),
+    }
 }
 
 /// A message, and nothing after it.
@@ -120,6 +134,7 @@ fn answer(size: usize, stop: Stop) -> DecodeFault
         Rule::BadText => DecodeFault::BadText { at },
         Rule::Repeated => DecodeFault::Repeated { at },
         Rule::TooMany => DecodeFault::TooMany { at },
+        Rule::OldForm => DecodeFault::OldForm { at },
         Rule::Trailing => DecodeFault::Trailing { at },
     }
 }

@@ -1,15 +1,13 @@
 //! Messages as bytes.
 ghost use Rattle.std.specs.Prelude.{◌≡◌, ◌↔◌, ◌<◌, ◌≤◌, ◌∷◌, [], ◌++◌, length, IfOk, OnOk, Err};
-ghost use Rattle.mama_payload.specs.Spelling.{counted, value_bytes, field_bytes, spelling, IsInRange, IsField, HasSpelling};
+ghost use Rattle.mama_payload.specs.Spelling.{counted, listed, AreNumbers, value_bytes, field_bytes, spelling, IsInRange, IsField, HasSpelling};
 
 use crate::fault::EncodeFault;
 use crate::kind::Kind;
+use crate::version::Version;
 use mama_memory::OutOfMemory;
 use mama_msg::{Field, Msg, Value};
 use std::alloc::Global;
-
-/// The first byte of a payload.
-pub const VERSION: u8 = 1;
 
 /// The most fields that a payload has.
 pub const MAX_FIELDS: u8 = 64;
@@ -21,6 +19,19 @@ fn put_counted(out: &mut Vec<u8>, bytes: &[u8]) -> Result<(), OutOfMemory>
 {
     out.push(bytes.len() as u8)?;
     out.extend_from_slice(bytes)?;
+    Ok(())
+}
+
+/// Puts numbers behind their number.
+fn put_numbers(out: &mut Vec<u8>, numbers: &[i64]) -> Result<(), OutOfMemory>
+    requires { length numbers.now ≤ 24 }
+    ensures bytes { OnOk result (out.new.items ≡ out.old.items ++ listed numbers.now) }
+    ensures in_range { OnOk result (AreNumbers numbers.now) }
+{
+    out.push(numbers.len() as u8)?;
+    for number in numbers {
+        out.extend_from_slice(&number.cast_unsigned().to_be_bytes())?;
+    }
     Ok(())
 }
 
@@ -46,6 +57,7 @@ fn put_value(out: &mut Vec<u8>, value: &Value) -> Result<(), OutOfMemory>
             out.push(price.decimals())?;
         }
         Value::Moment(n) => out.extend_from_slice(&n.to_be_bytes())?,
+        Value::Numbers(numbers) => put_numbers(out, numbers.numbers())?,
     }
     Ok(())
 }
@@ -67,7 +79,7 @@ fn spelled(alloc: Global, msg: &Msg) -> Result<Vec<u8>, OutOfMemory>
 {
     let count = msg.len();
     let mut out = Vec::new(alloc);
-    out.push(VERSION)?;
+    out.push(Version::of(msg).byte())?;
     out.push(count as u8)?;
     for i in 0..count {
         put_field(&mut out, msg.at(i))?;

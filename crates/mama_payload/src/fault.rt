@@ -13,6 +13,7 @@ pub enum Rule {
     BadText,
     Repeated,
     TooMany,
+    OldForm,
     Trailing,
 }
 
@@ -85,14 +86,17 @@ impl Error for EncodeFault {}
 pub enum DecodeFault {
     /// A byte is needed where the bytes end: `at` is their number.
     Truncated { at: usize },
-    /// The first byte is not 1, a tag is unknown, or the byte of a Bool is neither 0 nor 1.
+    /// The first byte is neither 1 nor 2, a tag is unknown in that version, or the byte of a Bool is neither 0 nor 1.
     BadTag { at: usize },
     /// A byte that may not stand in a name or in a text, or the length byte of a name that is empty where the fid is 0.
     BadText { at: usize },
     /// The tag of a field whose key an earlier field has.
     Repeated { at: usize },
-    /// The number of fields is above 64, the length of a name above 32, or the decimals of a price above 18.
+    /// The number of fields is above 64, the length of a name above 32, the decimals of a price above 18, or the count of
+    /// a list of numbers above 24.
     TooMany { at: usize },
+    /// The version is 2, and no field is a list of numbers: `at` is 0. It is found after the last field.
+    OldForm { at: usize },
     /// The first byte after the last field.
     Trailing { at: usize },
     /// There was no memory for the message.
@@ -107,6 +111,7 @@ impl fmt::Display for DecodeFault {
             DecodeFault::BadText { at } => write!(f, "a bad letter at byte {at}"),
             DecodeFault::Repeated { at } => write!(f, "a repeated key at byte {at}"),
             DecodeFault::TooMany { at } => write!(f, "a number above its limit at byte {at}"),
+            DecodeFault::OldForm { at } => write!(f, "version 2 without numbers at byte {at}"),
             DecodeFault::Trailing { at } => write!(f, "a byte after the payload at byte {at}"),
             DecodeFault::OutOfMemory => write!(f, "out of memory"),
         }

@@ -1,6 +1,7 @@
 //! The kinds of values, and their tags.
 ghost use Rattle.std.specs.Prelude.{◌≡◌};
 
+use crate::version::Version;
 use mama_msg::Value;
 
 /// The kind of a value. Its number is its tag.
@@ -20,11 +21,12 @@ pub enum Kind {
     Bytes = 0x0c,
     Price = 0x0d,
     Moment = 0x0e,
+    Numbers = 0x0f,
 }
 
 impl Kind {
-    ghost use Rattle.mama_payload.specs.Spelling.{kind_of, tag_of};
-    ghost use Rattle.mama_payload.specs.Reading.{kind_with_tag};
+    ghost use Rattle.mama_payload.specs.Spelling.{kind_of, tag_of, is_numbers};
+    ghost use Rattle.mama_payload.specs.Reading.{kind_with_tag, is_kind_of, kind_in};
 
     /// The kind of a value.
     pub fn of(value: &Value) -> Kind
@@ -45,6 +47,7 @@ impl Kind {
             Value::Bytes(_) => Kind::Bytes,
             Value::Price(_) => Kind::Price,
             Value::Moment(_) => Kind::Moment,
+            Value::Numbers(_) => Kind::Numbers,
         }
     }
 
@@ -55,8 +58,37 @@ impl Kind {
         self as u8
     }
 
+    /// Whether it is the kind of lists of numbers.
+    pub fn is_numbers(self) -> bool
+        ensures { result ≡ is_numbers self }
+    {
+        matches!(self, Kind::Numbers)
+    }
+
+    /// Whether a version has it.
+    fn is_of(self, version: Version) -> bool
+        ensures { result ≡ is_kind_of version self }
+    {
+        match version {
+            Version::One => !self.is_numbers(),
+            Version::Two => true,
+        }
+    }
+
+    /// The kind with this tag in a version, if there is one.
+    pub fn in_version(version: Version, tag: u8) -> Option<Kind>
+        ensures { result ≡ kind_in version tag }
+    {
+        let kind = Kind::with_tag(tag)?;
+        if kind.is_of(version) {
+            Some(kind)
+        } else {
+            None
+        }
+    }
+
     /// The kind with this tag, if there is one.
-    pub fn with_tag(tag: u8) -> Option<Kind>
+    fn with_tag(tag: u8) -> Option<Kind>
         ensures { result ≡ kind_with_tag tag }
     {
         match tag {
@@ -74,6 +106,7 @@ impl Kind {
             0x0c => Some(Kind::Bytes),
             0x0d => Some(Kind::Price),
             0x0e => Some(Kind::Moment),
+            0x0f => Some(Kind::Numbers),
             _ => None,
         }
     }

@@ -1,7 +1,8 @@
-//! Messages as bytes: the payload, version 1.
+//! Messages as bytes: the payload, in two versions.
 //!
-//! A message of at most 64 fields has one spelling: the byte 1, the number of its fields, and each field with its tag,
-//! fid, name and value. `specs/Spelling.antt` is the whole format, with what has a spelling (`HasSpelling`).
+//! A message of at most 64 fields has one spelling: the version, the number of its fields, and each field with its tag,
+//! fid, name and value. The version is 2 exactly where some field is a list of numbers (`version_of`).
+//! `specs/Spelling.antt` is the whole format, with what has a spelling (`HasSpelling`).
 //! [`encode`] gives the spelling of each message that is not too long.
 //!
 //! [`decode`] answers every list of bytes. `specs/Reading.antt` says what bytes are read as (`decoded`): the message
@@ -19,9 +20,11 @@ mod kind;
 mod laws;
 mod letters;
 mod reading;
+mod version;
 
 pub use decoding::decode;
-pub use encoding::{MAX_FIELDS, VERSION, encode};
+pub use encoding::{MAX_FIELDS, encode};
 pub use fault::{DecodeFault, EncodeFault};
 pub use laws::{faults_stand, spellings_are_apart, spellings_are_read};
 pub use mama_memory::OutOfMemory;
+pub use version::Version;

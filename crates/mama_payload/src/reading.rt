@@ -1,19 +1,23 @@
 //! The parts of a field, each from the front of the bytes.
-ghost use Rattle.std.specs.Prelude.{◌≡◌, ◌≤◌, length, IfOk};
+ghost use Rattle.std.specs.Prelude.{◌≡◌, ◌≤◌, length, take, IfOk};
 ghost use Rattle.std.specs.Int.{w8, w16, w32, w64};
 ghost use Rattle.mama_msg.specs.Name.{IsNameText};
 ghost use Rattle.mama_msg.specs.Field.{IsKeyed};
 ghost use Rattle.mama_payload.specs.Giving.{Gives};
-ghost use Rattle.mama_payload.specs.Reading.{byte_at, limited_at, number_at, signed_at, bytes_at, flag_at, text_at, block_at, price_at, value_at, kind_with_tag, kind_at, name_at};
+ghost use Rattle.mama_payload.specs.Reading.{byte_at, limited_at, number_at, signed_at, bytes_at, flag_at, text_at, block_at, price_at, numbers_at, list_at, value_at, kind_in, kind_at, name_at};
 
 use crate::fault::{Rule, Stop};
 use crate::kind::Kind;
 use crate::letters::{Alphabet, letters_of};
-use mama_msg::{BytesValue, Price, TextValue, Value};
+use crate::version::Version;
+use mama_msg::{BytesValue, NumbersValue, Price, TextValue, Value};
 use std::alloc::Global;
 
 /// The longest name.
 const MAX_NAME: u8 = 32;
+
+/// The longest list of numbers.
+const MAX_NUMBERS: u8 = 24;
 
 /// A byte, and the bytes after it.
 pub fn byte_of(bytes: &[u8]) -> Result<(u8, &[u8]), Stop>
@@ -159,6 +163,37 @@ fn price_of(bytes: &[u8]) -> Result<(Price, &[u8]), Stop>
     }
 }
 
+/// As many numbers as `count` says, in front of an array, and the bytes after them.
+fn numbers_of(count: u8, bytes: &[u8]) -> Result<([i64; NumbersValue::MAX_LEN], &[u8]), Stop>
+    requires { count ≤ 24 }
+    ensures { Gives (λ x. (take count x.0, x.1.now)) result (numbers_at count bytes.now) }
+{
+    let mut numbers = [0; NumbersValue::MAX_LEN];
+    let mut rest = bytes;
+    for i in 0..usize::from(count) {
+        match i64_of(rest) {
+            Ok((number, after)) => {
+                numbers[i] = number;
+                rest = after;
+            }
+            Err(stop) => return Err(stop),
+        }
+    }
+    Ok((numbers, rest))
+}
+
+#[tactic(auto, unfolding(crate::specs::Reading::list_at))]
+fn list_of(alloc: Global, bytes: &[u8]) -> Result<(NumbersValue, &[u8]), Stop>
+    ensures { Gives (λ x. (x.0, x.1.now)) result (list_at bytes.now) }
+{
+    let (count, rest) = limited_of(MAX_NUMBERS, bytes)?;
+    let (numbers, rest) = numbers_of(count, rest)?;
+    match NumbersValue::new(alloc, &numbers[..usize::from(count)])? {
+        Some(list) => Ok((list, rest)),
+        None => unreachable!(),
+    }
+}
+
 /// A value of this kind.
 #[tactic(auto, unfolding(crate::specs::Reading::value_at))]
 pub fn value_of(alloc: Global, kind: Kind, bytes: &[u8]) -> Result<(Value, &[u8]), Stop>
@@ -221,16 +256,20 @@ pub fn value_of(alloc: Global, kind: Kind, bytes: &[u8]) -> Result<(Value, &[u8]
             let (n, rest) = u64_of(bytes)?;
             Ok((Value::Moment(n), rest))
         }
+        Kind::Numbers => match list_of(alloc, bytes) {
+            Ok((list, rest)) => Ok((Value::Numbers(list), rest)),
+            Err(stop) => Err(stop),
+        },
     }
 }
 
-/// The kind whose tag stands at the front.
+/// The kind of a version whose tag stands at the front.
 #[tactic(auto, unfolding(crate::specs::Reading::kind_at))]
-pub fn kind_of(bytes: &[u8]) -> Result<(Kind, &[u8]), Stop>
-    ensures { Gives (λ x. (x.0, x.1.now)) result (kind_at bytes.now) }
+pub fn kind_of(version: Version, bytes: &[u8]) -> Result<(Kind, &[u8]), Stop>
+    ensures { Gives (λ x. (x.0, x.1.now)) result (kind_at version bytes.now) }
 {
     let (tag, rest) = byte_of(bytes)?;
-    match Kind::with_tag(tag) {
+    match Kind::in_version(version, tag) {
         Some(kind) => Ok((kind, rest)),
         None => Err(Stop::at(Rule::BadTag, bytes)),
     }

@@ -15,7 +15,9 @@ use Rattle.mama_script.specs.declared.line.Line.{Line}
 use Rattle.mama_script.specs.declared.line.Line.TheVariants as lines
 use Rattle.mama_script.specs.Line.{IsLine, line_text, line_words, ended}
 use Rattle.mama_script.specs.Before.{Before, start, after}
-use Rattle.mama_script.specs.Reading.{first_line, FitFrom}
+use Rattle.mama_script.specs.Reading.{first_line, version_of, FitFrom}
+use Rattle.mama_words.specs.declared.version.Version.{Version}
+use Rattle.mama_words.specs.declared.version.Version.TheVariants as version
 use Rattle.mama_script.specs.Script.{ScriptData}
 use Rattle.mama_script.specs.Tree.{lines_of, script_text, IsScript}
 use Rattle.mama_script.proofs.FormAgain.{line_parted}
@@ -127,6 +129,7 @@ cut_makes_text text front log e = sym (joined_pieces text) ∙ makes_text (piece
 -- ---- the lines of an accepted script are cut from a log
 
 not_log : (l : Line) → bytes_eq (line_text l) (codes "log") ≡ false
+not_log (lines.Strategy strategy) = refl
 not_log (lines.Queues n) = refl
 not_log (lines.Topic name) = refl
 not_log (lines.Publisher topic base) = refl
@@ -167,6 +170,16 @@ lines_cut b [] log h = cut_at_line (line (codes "log") ++ log) (codes "log") log
 lines_cut b (l ∷ ls) log h =
     past_line (line_text l) (flat_map ended ls) (line (codes "log") ++ log) (flat_map ended ls) log (line_lacks l h.0.form) (not_log l) (lines_cut (after b l) ls log h.1)
 
+first_lacks : (v : Version) → lacks 10 (first_line v) ≡ false
+first_lacks version.One = refl
+first_lacks version.Two = refl
+
+first_not_log : (v : Version) → bytes_eq (first_line v) (codes "log") ≡ false
+first_not_log version.One = refl
+first_not_log version.Two = refl
+
 pub script_is_cut : (script : ScriptData) (log : List ℕ) → IsScript script → cut_at_log (script_text script ++ (line (codes "log") ++ log)) ≡ Some (script_text script, log)
 script_is_cut script log accepted =
-    past_line first_line (flat_map ended (lines_of script)) (line (codes "log") ++ log) (flat_map ended (lines_of script)) log refl refl (lines_cut start (lines_of script) log accepted.accepted.fit)
+    let v : Version = version_of (lines_of script) in
+    past_line (first_line v) (flat_map ended (lines_of script)) (line (codes "log") ++ log) (flat_map ended (lines_of script)) log (first_lacks v) (first_not_log v)
+    (lines_cut (start v) (lines_of script) log accepted.accepted.fit)

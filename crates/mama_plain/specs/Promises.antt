@@ -48,8 +48,8 @@ pub record KeepsPromises (script : ScriptData) (run : RunData) : Type 0 where
   -- Of each object that is a subscription: each gap, each change of quality and each recap that it is told of is true of
   -- the messages that it handled.
   pub gaps : OfEachObject script run (HasTrueGaps (setting_of script) run.queues)
-  -- Of each object that is a subscription without fault rows, on a topic that exactly one publisher has: it is told no gap
-  -- and no change of quality, and asks for no recap.
+  -- Of each object that is a subscription without fault rows, on a topic that exactly one publisher has: it is told no gap,
+  -- no change of quality and no late update, and asks for no recap.
   pub calm : OfEachObject script run (HasCalmCalls script)
   -- Of each object that is a market subscription so: it is given each update that was sent to it while it was live, with a
   -- number above its first image's, once; unless it was muted.

@@ -27,6 +27,7 @@ use Rattle.mama_event.specs.declared.to_timers.TimersNote.{TimersNote}
 use Rattle.mama_event.specs.declared.to_queue.QueueNote.{QueueNote}
 use Rattle.mama_event.specs.declared.to_queue.ToQueue.{ToQueue}
 use Rattle.mama_event.specs.declared.to_queue.ToQueue.TheVariants as event
+use Rattle.mama_event.specs.declared.shape.Strategy.TheVariants as strategy
 use Rattle.mama_lane.specs.Values.{PortValue, TakerValue}
 use Rattle.mama_ends.specs.Inlet.{InletValue, AreLawful}
 use Rattle.mama_rules_queue.specs.Queue.{QueuePut, queue_puts_at}
@@ -170,7 +171,7 @@ queue_may objects number post seat law =
     let journal = post.served.journal in
     let lawful = done_lawfully journal post.inlet.kept (subst IsTakenLawfully seat.taken seat.lawful) in
     let puts_lawfully : (bounds : Bounds) → ArePutsLawful bounds (served_puts objects journal) = λ bounds.
-    law (record { shape = record { clients = 0; publisher_topics = []; bounds = bounds }; publishers = []; objects = objects }) bounds journal lawful in
+    law (record { shape = record { clients = 0; publisher_topics = []; bounds = bounds; strategy = strategy.One }; publishers = []; objects = objects }) bounds journal lawful in
     may_put post.ports post.left [] (served_puts objects journal) (has_put_with_none post.ports post.left (served_puts objects journal) seat.put)
     (puts_lawfully post.ports.to_bridge.bounds) (puts_lawfully post.ports.to_timers.bounds)
 

@@ -113,6 +113,7 @@ callback_text (on.Msg msg quality) = msg_callback_text msg quality
 callback_text (on.Gap first to) = codes "gap " ++ decimal first ++ spaced_number to
 callback_text (on.Quality quality number) = codes "quality " ++ quality_text quality ++ spaced_number number
 callback_text (on.RecapRequest sender) = codes "request " ++ decimal sender
+callback_text (on.Late sender seq) = codes "late " ++ decimal sender ++ spaced_number seq
 callback_text (on.Error code) = codes "error " ++ decimal code
 callback_text on.Destroy = codes "destroy"
 callback_text (on.Tick moment) = codes "tick " ++ decimal moment

@@ -41,6 +41,11 @@ pub fn put_callback(call: &Callback, out: &mut Vec<u8>) -> Result<(), OutOfMemor
             out.extend_from_slice(b"request ")?;
             put_number(*sender, out)
         }
+        Callback::Late { sender, seq } => {
+            out.extend_from_slice(b"late ")?;
+            put_number(*sender, out)?;
+            put_spaced_number(*seq, out)
+        }
         Callback::Error { code } => {
             out.extend_from_slice(b"error ")?;
             put_number(u32::from(*code), out)

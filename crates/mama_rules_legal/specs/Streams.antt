@@ -12,6 +12,7 @@ use Rattle.mama_event.specs.declared.market.MarketMsg.{MarketMsg}
 use Rattle.mama_event.specs.declared.to_bridge.SubTerms.{SubTerms}
 use Rattle.mama_event.specs.declared.to_bridge.InboxTerms.{InboxTerms}
 use Rattle.mama_event.specs.declared.to_queue.Make.{Make}
+use Rattle.mama_event.specs.declared.shape.Strategy.{Strategy}
 use Rattle.mama_event.specs.declared.to_queue.Make.TheVariants as make
 use Rattle.mama_event.specs.declared.to_queue.QueueNote.{QueueNote}
 use Rattle.mama_event.specs.declared.to_queue.QueueNote.TheVariants as q
@@ -52,8 +53,8 @@ pub record IsStream {M : Type 0} (o : ObjectId) (queue : ℕ) (make : Make) (ite
   pub whole : stream ≡ (queue, q.Create slot o make tag) ∷ (map (λ m. (queue, item slot m)) passed ++ (queue, q.Gone slot o) ∷ [])
 
 -- that of a subscription with these terms
-abbrev pub IsSubStream : SubId → SubTerms → List MarketMsg → List (ℕ × QueueNote) → Type 0
-IsSubStream s terms window stream = IsStream (Sub s) terms.queue (make.Sub terms.kind terms.cache) (λ slot m. q.Deliver slot s m) (through terms.faults window) stream
+abbrev pub IsSubStream : Strategy → SubId → SubTerms → List MarketMsg → List (ℕ × QueueNote) → Type 0
+IsSubStream strategy s terms window stream = IsStream (Sub s) terms.queue (make.Sub terms.kind terms.cache strategy) (λ slot m. q.Deliver slot s m) (through terms.faults window) stream
 
 -- that of an inbox with these terms
 abbrev pub IsInboxStream : InboxId → InboxTerms → List (List FieldData) → List (ℕ × QueueNote) → Type 0
@@ -91,13 +92,13 @@ pub record IsJournal {M : Type 0} (o : ObjectId) (make : Make) (item : ℕ → M
   pub tag : ObjectId
   pub whole : events_of o journal ≡ q.Create slot o make tag ∷ (map (λ m. item slot m) passed ++ q.Gone slot o ∷ [])
 
-abbrev pub IsSubJournal : SubId → SubTerms → List MarketMsg → List (ℕ × QueueNote) → Type 0
-IsSubJournal s terms window journal = IsJournal (Sub s) (make.Sub terms.kind terms.cache) (λ slot m. q.Deliver slot s m) (through terms.faults window) journal
+abbrev pub IsSubJournal : Strategy → SubId → SubTerms → List MarketMsg → List (ℕ × QueueNote) → Type 0
+IsSubJournal strategy s terms window journal = IsJournal (Sub s) (make.Sub terms.kind terms.cache strategy) (λ slot m. q.Deliver slot s m) (through terms.faults window) journal
 
 -- So it is with each subscription that the script joins, in the journal of its queue.
 pub record AreSubStreams (script : ScriptData) (run : RunData) : Type 0 where
   pub each : (s : SubId) (terms : SubTerms) → s.client < clients_of script.shape → terms_of script run s ≡ Some terms
-      → IsSubJournal s terms (window script.shape s (heard script.shape run.bridge)) (slice_index_or run.queues terms.queue [])
+      → IsSubJournal script.shape.strategy s terms (window script.shape s (heard script.shape run.bridge)) (slice_index_or run.queues terms.queue [])
 
 -- with what terms a put opens an inbox
 abbrev pub inbox_terms_noted : InboxId → BridgeNote → Option InboxTerms

@@ -20,6 +20,7 @@ use Rattle.mama_event.specs.declared.to_queue.QueueNote.TheVariants as q
 use Rattle.mama_event.specs.declared.to_bridge.BridgeNote.TheVariants as b
 use Rattle.mama_event.specs.declared.to_timers.TimersNote.TheVariants as t
 use Rattle.mama_event.specs.Listener.{planned}
+use Rattle.mama_event.specs.declared.shape.Strategy.TheVariants as strategy
 use Rattle.mama_rules_queue.specs.Queue.{Deed, handled, called, QueuePut, to_bridge, to_timers, deeds, queue_puts_at}
 
 abbrev pub sub : SubId
@@ -40,7 +41,7 @@ no_orders o call = []
 -- a stop in its own callback leaves nothing but the notice
 abbrev pub stopped : List (ℕ × QueueNote)
 stopped =
-    (0, q.Create 0 (Sub sub) (make.Sub Basic 10) (Sub sub)) ∷ (0, q.Deliver 0 sub (update 5)) ∷ (0, q.Deliver 0 sub (update 1))
+    (0, q.Create 0 (Sub sub) (make.Sub Basic 10 strategy.One) (Sub sub)) ∷ (0, q.Deliver 0 sub (update 5)) ∷ (0, q.Deliver 0 sub (update 1))
     ∷ (0, q.Gone 0 (Sub sub)) ∷ (0, q.Fin) ∷ (1, q.Fin) ∷ []
 
 pub deeds_of_stopped : deeds stops_at_second stopped ≡
@@ -54,7 +55,7 @@ puts_of_stopped = refl
 -- a gap makes the image stale and asks for a recap
 abbrev pub gapped : List (ℕ × QueueNote)
 gapped =
-    (0, q.Create 0 (Sub sub) (make.Sub Market 10) (Sub sub)) ∷ (0, q.Deliver 0 sub (image 0)) ∷ (0, q.Deliver 0 sub (update 2)) ∷ []
+    (0, q.Create 0 (Sub sub) (make.Sub Market 10 strategy.One) (Sub sub)) ∷ (0, q.Deliver 0 sub (image 0)) ∷ (0, q.Deliver 0 sub (update 2)) ∷ []
 
 pub deeds_of_gapped : deeds no_orders gapped ≡
     called (Sub sub) on.Create [] ∷ handled sub (image 0) ∷ called (Sub sub) (on.Msg (image 0) quality.Ok) []

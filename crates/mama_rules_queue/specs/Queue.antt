@@ -12,6 +12,7 @@ use Rattle.mama_event.specs.declared.ids.ObjectId.TheVariants.{Sub, Timer, Inbox
 use Rattle.mama_event.specs.declared.market.MarketMsg.{MarketMsg}
 use Rattle.mama_event.specs.declared.market.SubKind.{SubKind}
 use Rattle.mama_event.specs.declared.market.SubKind.TheVariants.{Basic}
+use Rattle.mama_event.specs.declared.shape.Strategy.TheVariants as strategy
 use Rattle.mama_event.specs.declared.callback.Callback.{Callback}
 use Rattle.mama_event.specs.declared.callback.Callback.TheVariants as on
 use Rattle.mama_event.specs.declared.order.Order.{Order}
@@ -102,10 +103,10 @@ abbrev pub make_in : ObjectId → QueueNote → Option Make
 make_in o (q.Create slot object make tag) = if same_object object o then Some make else None
 make_in o _ = None
 
--- the context of a subscription: what its kind and its cache make of the messages that it has handled
+-- the context of a subscription: what its strategy, its kind and its cache make of the messages that it has handled
 abbrev pub context_of : Option Make → List MarketMsg → ContextData
-context_of (Some (make.Sub kind cache)) messages = fold kind cache messages
-context_of _ messages = fold Basic 0 messages
+context_of (Some (make.Sub kind cache strategy)) messages = fold strategy kind cache messages
+context_of _ messages = fold strategy.One Basic 0 messages
 
 -- what an entry does: its candidates, of which those are made that are not muted
 abbrev pub served : (ObjectId → ℕ → List Order) → List (ℕ × QueueNote) → List Deed → QueueNote → List Deed

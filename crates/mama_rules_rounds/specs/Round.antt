@@ -19,7 +19,7 @@ use Rattle.mama_script.specs.declared.publisher.PublisherLine.TheVariants as lin
 use Rattle.mama_event.specs.Ports.{queues_of}
 use Rattle.mama_dq.specs.Context.{ContextData}
 use Rattle.mama_dq.specs.declared.table.Phase.{Phase}
-use Rattle.mama_dq.specs.declared.table.Phase.TheVariants.{Await, LiveOk, LiveStale}
+use Rattle.mama_dq.specs.declared.table.Phase.TheVariants.{Await, LiveOk, LiveStale, LiveKept}
 use Rattle.mama_dq.specs.Context.{quality_in}
 use Rattle.mama_rules_queue.specs.Queue.{QueuePut, deeds, calls_of, messages_of, context_of, make_in}
 use Rattle.mama_event.specs.declared.publisher_entry.PublisherEntry.{PublisherEntry}
@@ -133,6 +133,7 @@ image_in s c = imaged c.phase c.kind
     with_quality Await = []
     with_quality LiveOk = record { sub = s; head = record { sender = c.sender; last = c.last; quality = quality_in LiveOk }; body = c.image } ∷ []
     with_quality LiveStale = record { sub = s; head = record { sender = c.sender; last = c.last; quality = quality_in LiveStale }; body = c.image } ∷ []
+    with_quality LiveKept = record { sub = s; head = record { sender = c.sender; last = c.last; quality = quality_in LiveKept }; body = c.image } ∷ []
 
     imaged : Phase → SubKind → List LastImage
     imaged phase Basic = []

@@ -18,10 +18,11 @@ use Rattle.mama_event.specs.declared.to_publisher.PublisherNote.TheVariants as p
 use Rattle.mama_event.specs.declared.to_timers.TimersNote.TheVariants as t
 use Rattle.mama_event.specs.declared.to_queue.Make.TheVariants as make
 use Rattle.mama_event.specs.declared.shape.Shape.{Shape}
+use Rattle.mama_event.specs.declared.shape.Strategy.TheVariants as strategy
 use Rattle.mama_rules_services.specs.Bridge.{BridgePut, to_queue, to_publisher, to_timers, bridge_puts}
 
 abbrev pub small : Shape
-small = record { clients = 1; publisher_topics = 0 ∷ []; bounds = record { topics = 1; queues = 1 } }
+small = record { clients = 1; publisher_topics = 0 ∷ []; bounds = record { topics = 1; queues = 1 }; strategy = strategy.One }
 
 abbrev pub sub : ℕ → SubId
 sub n = record { client = 0; number = n }
@@ -48,12 +49,12 @@ two_in_one_slot =
     ∷ []
 
 pub puts_of_two_in_one_slot : bridge_puts small two_in_one_slot ≡
-    to_queue 0 (q.Create 0 (Sub (sub 0)) (make.Sub Market 10) (Sub (sub 0)))
+    to_queue 0 (q.Create 0 (Sub (sub 0)) (make.Sub Market 10 strategy.One) (Sub (sub 0)))
     ∷ to_publisher 0 (p.Want (sub 0) Initial)
     ∷ to_queue 0 (q.Deliver 0 (sub 0) (msg Initial 0))
     ∷ to_queue 0 (q.Deliver 0 (sub 0) (msg Update 1))
     ∷ to_queue 0 (q.Gone 0 (Sub (sub 0)))
-    ∷ to_queue 0 (q.Create 0 (Sub (sub 1)) (make.Sub Market 10) (Sub (sub 1)))
+    ∷ to_queue 0 (q.Create 0 (Sub (sub 1)) (make.Sub Market 10 strategy.One) (Sub (sub 1)))
     ∷ to_publisher 0 (p.Want (sub 1) Initial)
     ∷ to_queue 0 (q.Deliver 0 (sub 1) (msg Initial 1))
     ∷ to_publisher 0 p.Settle

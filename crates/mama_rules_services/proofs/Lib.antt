@@ -1,3 +1,4 @@
 pub mod BridgeRows
 pub mod TimersRows
 pub mod PutterPorts
+pub mod CameBy

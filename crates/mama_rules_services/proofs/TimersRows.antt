@@ -8,10 +8,11 @@ use Rattle.mama_event.specs.declared.to_queue.QueueNote.{QueueNote}
 use Rattle.mama_event.specs.declared.to_queue.QueueNote.TheVariants as q
 use Rattle.mama_event.specs.declared.to_queue.Make.TheVariants as make
 use Rattle.mama_event.specs.declared.shape.Shape.{Shape}
+use Rattle.mama_event.specs.declared.shape.Strategy.TheVariants as strategy
 use Rattle.mama_rules_services.specs.Timers.{timers_puts}
 
 abbrev pub quiet : Shape
-quiet = record { clients = 1; publisher_topics = []; bounds = record { topics = 0; queues = 1 } }
+quiet = record { clients = 1; publisher_topics = []; bounds = record { topics = 0; queues = 1 }; strategy = strategy.One }
 
 abbrev pub timer : TimerId
 timer = record { client = 0; number = 0 }

@@ -290,7 +290,7 @@ may_wish shape before sofar s sender (Some terms) =
 abbrev pub answer : Shape → List BridgeEvent → List BridgePut → BridgeEvent → List BridgePut
 answer shape before sofar (joins s terms tag) =
     if list_any (joins_sub s) before then []
-    else to_queue terms.queue (q.Create (free_slot shape before sofar terms.queue) (Sub s) (make.Sub terms.kind terms.cache) tag) ∷ wants_image shape s terms.kind terms.topic
+    else to_queue terms.queue (q.Create (free_slot shape before sofar terms.queue) (Sub s) (make.Sub terms.kind terms.cache shape.strategy) tag) ∷ wants_image shape s terms.kind terms.topic
 answer shape before sofar (leaves s) = if is_live shape s before then ended shape before sofar s else []
 answer shape before sofar (opens i terms tag) =
     if list_any (opens_inbox i) before then []

@@ -1,9 +1,8 @@
 -- The line that reading tells is the first that is wrong.
 use Rattle.std.proofs.Common.{◌≡◌, ◌≢◌, ℕ, suc, ◌+◌, ◌<◌, Bool, true, false, cond, List, [], ◌∷◌, ◌++◌, length, map, Option, Some, None, Result, Ok, Err, refl, sym, ap, subst, ◌∙◌, inl, inr, arith}
 use Rattle.std.specs.Prelude.{◌⊎◌, ◌==◌}
-use Rattle.std.specs.Str.{bytes_eq}
 use Rattle.mama_words.specs.Parting.{pieces}
-use Rattle.mama_words.proofs.Choices.{same_text, text_same}
+use Rattle.mama_words.specs.declared.version.Version.{Version}
 use Rattle.mama_script.specs.declared.fault.Flaw.{Flaw}
 use Rattle.mama_script.specs.declared.fault.Flaw.TheVariants.{Fault, Limit}
 use Rattle.mama_script.specs.declared.fault.ScriptFault.{ScriptFault}
@@ -14,9 +13,9 @@ use Rattle.mama_script.specs.Line.{line_text}
 use Rattle.mama_script.specs.Form.{form_in}
 use Rattle.mama_script.specs.Before.{Before, start, after, flaw}
 use Rattle.mama_script.specs.Names.{made_by, unnamed_from}
-use Rattle.mama_script.specs.Reading.{and_then, at_line, unless_flawed, judged, line_in, unless_faulty, line_first, read_from, first_line, lines_in, unless_unnamed, named_or_fault, script_in, spelling, FitFrom}
+use Rattle.mama_script.specs.Reading.{and_then, at_line, unless_flawed, judged, line_in, unless_faulty, line_first, read_from, first_line, version_in, read_version, version_of, lines_in, unless_unnamed, named_or_fault, script_in, spelling, FitFrom}
 use Rattle.mama_script.specs.First.{behind, EachFits, flaw_of, HasFlaw, IsHeadless, IsFirstFlaw, IsFirstUnnamed, IsFirst}
-use Rattle.mama_script.proofs.Whole.{line_found, lines_found, pieces_joined}
+use Rattle.mama_script.proofs.Whole.{line_found, version_again, version_found, lines_found, pieces_joined}
 
 -- what reading tells of the pieces from the line k on
 record FirstFrom (b : Before) (k : ℕ) (ps : List (List ℕ)) (e : ScriptFault) : Type 0 where
@@ -102,31 +101,32 @@ headless line found ps h e =
     let same = same_at 1 line (Fault 1) found (failed_is {A = List Line} (Bad 1 1) (at_line line found) e) in
     (sym same.0, sym same.1, h)
 
-never_same : (first : List ℕ) → bytes_eq first first_line ≡ false → first ≢ first_line
-never_same first h e = let t : true ≡ false = sym (text_same first first_line e) ∙ h in cc
+never_said : (first : List ℕ) → version_in first ≡ None → (v : Version) → first ≢ first_line v
+never_said first none v e = let t : None ≡ Some v = sym none ∙ ap version_in e ∙ version_again v in cc
 
-first_behind : (text first next : List ℕ) (more : List (List ℕ)) (line : ℕ) (found : Flaw) (same : Bool) → bytes_eq first first_line ≡ same → pieces 10 text ≡ first ∷ next ∷ more
-    → cond same (read_from start 2 (next ∷ more)) (Err (Bad 1 1)) ≡ Err (at_line line found) → ((line ≡ 1) × (found ≡ Fault 1) × IsHeadless (first ∷ next ∷ more)) ⊎ IsFirstFlaw text line found
-first_behind text first next more line found true same cut e =
-    let f = first_from start 2 (next ∷ more) (at_line line found) (omega arith) e in
+first_behind : (text first next : List ℕ) (more : List (List ℕ)) (line : ℕ) (found : Flaw) (said : Option Version) → version_in first ≡ said → pieces 10 text ≡ first ∷ next ∷ more
+    → read_version said (next ∷ more) ≡ Err (at_line line found) → ((line ≡ 1) × (found ≡ Fault 1) × IsHeadless (first ∷ next ∷ more)) ⊎ IsFirstFlaw text line found
+first_behind text first next more line found (Some v) said cut e =
+    let f = first_from (start v) 2 (next ∷ more) (at_line line found) (omega arith) e in
     let n = same_at line (length f.lines + 2) found f.found f.number in
     inr (record {
+      version = v;
       lines = f.lines;
       rest = f.rest;
-      text_is = cut ∙ ap (λ (t : List ℕ). t ∷ next ∷ more) (same_text first first_line same) ∙ ap (λ (t : List (List ℕ)). first_line ∷ t) f.begins;
+      text_is = cut ∙ ap (λ (t : List ℕ). t ∷ next ∷ more) (version_found first v said) ∙ ap (λ (t : List (List ℕ)). first_line v ∷ t) f.begins;
       fit = f.fit;
       number = n.0;
-      has = subst (λ (g : Flaw). HasFlaw (behind start f.lines) f.rest g) (sym n.1) f.has;
+      has = subst (λ (g : Flaw). HasFlaw (behind (start v) f.lines) f.rest g) (sym n.1) f.has;
     })
-first_behind text first next more line found false same cut e = inl (headless line found (first ∷ next ∷ more) (never_same first same) e)
+first_behind text first next more line found None said cut e = inl (headless line found (first ∷ next ∷ more) (never_said first said) e)
 
 first_in_lines : (text : List ℕ) (ps : List (List ℕ)) (line : ℕ) (found : Flaw) → pieces 10 text ≡ ps → lines_in ps ≡ Err (at_line line found)
     → ((line ≡ 1) × (found ≡ Fault 1) × IsHeadless ps) ⊎ IsFirstFlaw text line found
 first_in_lines text [] line found cut e = inl (headless line found [] tt e)
 first_in_lines text (rest ∷ []) line found cut e = inl (headless line found (rest ∷ []) tt e)
-first_in_lines text (first ∷ next ∷ more) line found cut e = first_behind text first next more line found (bytes_eq first first_line) refl cut e
+first_in_lines text (first ∷ next ∷ more) line found cut e = first_behind text first next more line found (version_in first) refl cut e
 
-unnamed_told : (text : List ℕ) (ls : List Line) (o : Option ℕ) (line : ℕ) (found : Flaw) → text ≡ spelling ls → FitFrom start ls → unnamed_from (made_by ls) 2 ls ≡ o → unless_unnamed ls o ≡ Err (at_line line found) → (found ≡ Fault 10) × IsFirstUnnamed text line
+unnamed_told : (text : List ℕ) (ls : List Line) (o : Option ℕ) (line : ℕ) (found : Flaw) → text ≡ spelling ls → FitFrom (start (version_of ls)) ls → unnamed_from (made_by ls) 2 ls ≡ o → unless_unnamed ls o ≡ Err (at_line line found) → (found ≡ Fault 10) × IsFirstUnnamed text line
 unnamed_told text ls None line found spelled fit o e = absurd cc
 unnamed_told text ls (Some k) line found spelled fit o e =
     let same = same_at k line (Fault 10) found (failed_is {A = List Line} (Bad k 10) (at_line line found) e) in

@@ -5,6 +5,8 @@ use Rattle.std.specs.List.{list_all}
 use Rattle.mama_edge.specs.Decimal.{decimal}
 use Rattle.mama_edge.specs.Quoted.{quoted}
 use Rattle.mama_msg.specs.Value.{IsText}
+use Rattle.mama_event.specs.declared.shape.Strategy.{Strategy}
+use Rattle.mama_words.specs.Kind.{strategy_text}
 use Rattle.mama_link.specs.declared.faults.Fault.{Fault}
 use Rattle.mama_link.specs.declared.faults.Fault.TheVariants.{Lose, Dup, Hold}
 use Rattle.mama_words.specs.declared.order.OrderWord.{OrderWord}
@@ -16,12 +18,13 @@ use Rattle.mama_words.specs.Sentence.{sentence}
 use Rattle.mama_words.specs.WordForm.{IsWord, AreWords}
 use Rattle.mama_words.proofs.Numbers.{number_in_again}
 use Rattle.mama_words.proofs.Cutting.{decimal_lacks}
-use Rattle.mama_words.proofs.KindLaws.{sub_kind_again}
+use Rattle.mama_words.proofs.KindLaws.{sub_kind_again, strategy_again}
 use Rattle.mama_words.proofs.ValueLaws.{text_again}
+use Rattle.mama_words.specs.declared.nums.Nums.TheVariants.{Unknown}
 use Rattle.mama_words.proofs.FieldLaws.{message_again}
 use Rattle.mama_words.proofs.OrderLaws.{order_again}
 use Rattle.mama_words.proofs.Sentences.{parted_again, is_simple, piece_simple}
-use Rattle.mama_words.proofs.Spellings.{decimal_word, sub_kind_word, quoted_word, field_words, order_word}
+use Rattle.mama_words.proofs.Spellings.{decimal_word, sub_kind_word, strategy_word, quoted_word, field_words, order_word}
 use Rattle.mama_script.specs.declared.head.Place.{Place}
 use Rattle.mama_script.specs.declared.line.QueueName.{QueueName}
 use Rattle.mama_script.specs.declared.line.QueueName.TheVariants.{Number, Any}
@@ -30,7 +33,7 @@ use Rattle.mama_script.specs.declared.line.Line.TheVariants as lines
 use Rattle.mama_script.specs.Head.{allows}
 use Rattle.mama_script.specs.HeadText.{head_text}
 use Rattle.mama_script.specs.Line.{queue_text, fault_words, line_words, line_text, head_of, head_of_order, IsQueueName, IsFault, IsLine}
-use Rattle.mama_script.specs.Form.{queue_in, queues_in, topic_in, publisher_in, update_in, alone_in, pause_in, sub_in, timer_in, inbox_in, short_fault_in, hold_in, fault_in, at_in, order_line_in, now_in, body_in, head_at, form_in}
+use Rattle.mama_script.specs.Form.{queue_in, strategy_line_in, queues_in, topic_in, publisher_in, update_in, alone_in, pause_in, sub_in, timer_in, inbox_in, short_fault_in, hold_in, fault_in, at_in, order_line_in, now_in, body_in, head_at, form_in}
 use Rattle.mama_script.proofs.Heads.{head_at_again, between_again, decimal_is_no_word}
 
 queue_again : (q : QueueName) → IsQueueName q → queue_in (queue_text q) ≡ Some q
@@ -52,6 +55,10 @@ order_body_again (orders.Stop id) h = order_line_again (orders.Stop id) h
 order_body_again (orders.Disarm id) h = order_line_again (orders.Disarm id) h
 order_body_again (orders.Close id) h = order_line_again (orders.Close id) h
 order_body_again (orders.Ask id topic fids) h = order_line_again (orders.Ask id topic fids) h
+
+strategy_line_again : (s : Strategy) → strategy_line_in (codes "strategy" ∷ strategy_text s ∷ []) ≡ Ok (lines.Strategy s)
+unfolding strategy_line_in
+strategy_line_again s = rw (strategy_again s) refl
 
 queues_again : (n : ℕ) → 1 ≤ n → n < 2 ^ 64 → queues_in (codes "queues" ∷ decimal n ∷ []) ≡ Ok (lines.Queues n)
 unfolding queues_in
@@ -80,10 +87,11 @@ unfolding alone_in
 alone_again l word = refl
 
 body_again : (l : Line) → IsLine l → body_in (head_of l) (line_words l) ≡ Ok l
+body_again (lines.Strategy s) h = strategy_line_again s
 body_again (lines.Queues n) h = queues_again n h.0 h.1
 body_again (lines.Topic name) h = topic_again name h.0 h.1
-body_again (lines.Publisher topic base) h = unfold publisher_in in rw (number_in_again topic h.0, message_again base h.1) refl
-body_again (lines.Update update) h = unfold update_in in rw (message_again update h) refl
+body_again (lines.Publisher topic base) h = unfold publisher_in in rw (number_in_again topic h.0, message_again Unknown base h.1) refl
+body_again (lines.Update update) h = unfold update_in in rw (message_again Unknown update h) refl
 body_again lines.Recap h = alone_again lines.Recap (codes "recap")
 body_again (lines.Pause rounds) h = pause_again rounds h.0 h.1
 body_again lines.Client h = alone_again lines.Client (codes "client")
@@ -111,10 +119,11 @@ fault_are_words index Dup high h = (fixed (codes "dup") refl refl, (decimal_word
 fault_are_words index (Hold by) high h = (fixed (codes "hold") refl refl, (decimal_word index (omega (arith, high)), (decimal_word by (omega (arith, h.1)), tt)))
 
 line_are_words : (l : Line) → IsLine l → AreWords (line_words l)
+line_are_words (lines.Strategy s) h = (fixed (codes "strategy") refl refl, (strategy_word s, tt))
 line_are_words (lines.Queues n) h = (fixed (codes "queues") refl refl, (decimal_word n h.1, tt))
 line_are_words (lines.Topic name) h = (fixed (codes "topic") refl refl, (quoted_word name h.0.printable, tt))
-line_are_words (lines.Publisher topic base) h = (fixed (codes "publisher") refl refl, (decimal_word topic h.0, field_words base h.1.fields))
-line_are_words (lines.Update update) h = (fixed (codes "update") refl refl, field_words update h.fields)
+line_are_words (lines.Publisher topic base) h = (fixed (codes "publisher") refl refl, (decimal_word topic h.0, field_words Unknown base h.1.fields))
+line_are_words (lines.Update update) h = (fixed (codes "update") refl refl, field_words Unknown update h.fields)
 line_are_words lines.Recap h = (fixed (codes "recap") refl refl, tt)
 line_are_words (lines.Pause rounds) h = (fixed (codes "pause") refl refl, (decimal_word rounds (omega (arith, h.1)), tt))
 line_are_words lines.Client h = (fixed (codes "client") refl refl, tt)
@@ -140,6 +149,7 @@ order_begins (orders.Close id) = refl
 order_begins (orders.Ask id topic fids) = refl
 
 line_begins : (l : Line) → line_words l ≡ head_text (head_of l) ∷ tail (line_words l)
+line_begins (lines.Strategy s) = refl
 line_begins (lines.Queues n) = refl
 line_begins (lines.Topic name) = refl
 line_begins (lines.Publisher topic base) = refl

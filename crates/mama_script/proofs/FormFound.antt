@@ -10,14 +10,15 @@ use Rattle.mama_words.specs.declared.order.OrderWord.TheVariants as orders
 use Rattle.mama_words.specs.Reading.{◌>>=◌, or_fault, both}
 use Rattle.mama_words.specs.Parting.{parted_in}
 use Rattle.mama_words.specs.Number.{number_in, between_in}
-use Rattle.mama_words.specs.Kind.{sub_kind_in, sub_kind_text}
+use Rattle.mama_words.specs.Kind.{sub_kind_in, sub_kind_text, strategy_in}
 use Rattle.mama_words.specs.Value.{text_in}
+use Rattle.mama_words.specs.declared.nums.Nums.TheVariants.{Unknown}
 use Rattle.mama_words.specs.Field.{message_in}
 use Rattle.mama_words.specs.Order.{order_in, order_words}
 use Rattle.mama_words.specs.Sentence.{sentence}
 use Rattle.mama_words.proofs.Choices.{some_is, ok_is, chosen, chosen_some, guard_bad, guard_step, bind_ok, or_fault_ok, step_ok, both_ok, map_some, same_text}
 use Rattle.mama_words.proofs.Numbers.{number_in_found}
-use Rattle.mama_words.proofs.KindLaws.{sub_kind_found}
+use Rattle.mama_words.proofs.KindLaws.{sub_kind_found, strategy_found}
 use Rattle.mama_words.proofs.ValueLaws.{text_found}
 use Rattle.mama_words.proofs.FieldLaws.{message_found}
 use Rattle.mama_words.proofs.OrderLaws.{order_found}
@@ -32,7 +33,7 @@ use Rattle.mama_script.specs.declared.line.Line.TheVariants as lines
 use Rattle.mama_script.specs.Head.{head_in, allows}
 use Rattle.mama_script.specs.HeadText.{head_text}
 use Rattle.mama_script.specs.Line.{queue_text, line_words, line_text, head_of, head_of_order, IsQueueName, IsLine}
-use Rattle.mama_script.specs.Form.{queue_in, count_in, queues_in, topic_or_fault, topic_in, publisher_in, update_in, alone_in, pause_in, sub_in, timer_in, inbox_in, short_fault_in, hold_in, fault_in, at_in, order_line_in, now_in, body_in, head_at, form_in}
+use Rattle.mama_script.specs.Form.{queue_in, count_in, strategy_line_in, queues_in, topic_or_fault, topic_in, publisher_in, update_in, alone_in, pause_in, sub_in, timer_in, inbox_in, short_fault_in, hold_in, fault_in, at_in, order_line_in, now_in, body_in, head_at, form_in}
 use Rattle.mama_script.proofs.Heads.{head_again, head_at_found, between_found}
 
 -- a line with this head, whose other words are these
@@ -54,6 +55,15 @@ queue_found word q e =
           let n = number_in_found word m.0 m.1 in
           subst (λ (x : QueueName). IsQueueName x × (word ≡ queue_text x)) m.2 (n.0, n.1)
     ]
+
+strategy_line_found : (rest : List (List ℕ)) (l : Line) → strategy_line_in (head_text heads.Strategy ∷ rest) ≡ Ok l → Spelled heads.Strategy rest l
+unfolding strategy_line_in
+strategy_line_found [] l e = absurd cc
+strategy_line_found (w ∷ []) l e =
+    let p = step_ok 5 (strategy_in w) _ l e in
+    subst (λ (x : Line). Spelled heads.Strategy (w ∷ []) x) (ok_is (lines.Strategy p.0) l p.2)
+    (record { fits = tt; head_is = refl; words_are = ap (λ (x : List ℕ). codes "strategy" ∷ x ∷ []) (strategy_found w p.0 p.1) })
+strategy_line_found (a ∷ b ∷ ws) l e = absurd cc
 
 queues_found : (rest : List (List ℕ)) (l : Line) → queues_in (head_text heads.Queues ∷ rest) ≡ Ok l → Spelled heads.Queues rest l
 unfolding queues_in
@@ -81,17 +91,17 @@ unfolding publisher_in
 publisher_found [] l e = absurd cc
 publisher_found (t ∷ fields) l e =
     let p = step_ok 5 (number_in t) _ l e in
-    let q = bind_ok (message_in fields) _ l p.2 in
+    let q = bind_ok (message_in Unknown fields) _ l p.2 in
     let n = number_in_found t p.0 p.1 in
-    let m = message_found fields q.0 q.1 in
+    let m = message_found Unknown fields q.0 q.1 in
     subst (λ (x : Line). Spelled heads.Publisher (t ∷ fields) x) (ok_is (lines.Publisher p.0 q.0) l q.2)
     (record { fits = (n.0, m.0); head_is = refl; words_are = ap (λ (x : List ℕ). codes "publisher" ∷ x ∷ fields) n.1 ∙ ap (λ (x : List (List ℕ)). codes "publisher" ∷ decimal p.0 ∷ x) m.1 })
 
 update_found : (rest : List (List ℕ)) (l : Line) → update_in (head_text heads.Update ∷ rest) ≡ Ok l → Spelled heads.Update rest l
 unfolding update_in
 update_found fields l e =
-    let q = bind_ok (message_in fields) _ l e in
-    let m = message_found fields q.0 q.1 in
+    let q = bind_ok (message_in Unknown fields) _ l e in
+    let m = message_found Unknown fields q.0 q.1 in
     subst (λ (x : Line). Spelled heads.Update fields x) (ok_is (lines.Update q.0) l q.2)
     (record { fits = m.0; head_is = refl; words_are = ap (λ (x : List (List ℕ)). codes "update" ∷ x) m.1 })
 
@@ -266,6 +276,7 @@ order_line_found head rest l e =
     subst (λ (x : Line). Spelled head rest x) (ok_is (lines.Order p.0) l p.2) (record { fits = f.0; head_is = same; words_are = f.1 })
 
 body_found : (head : Head) (rest : List (List ℕ)) (l : Line) → body_in head (head_text head ∷ rest) ≡ Ok l → Spelled head rest l
+body_found heads.Strategy rest l e = strategy_line_found rest l e
 body_found heads.Queues rest l e = queues_found rest l e
 body_found heads.Topic rest l e = topic_found rest l e
 body_found heads.Publisher rest l e = publisher_found rest l e

@@ -18,6 +18,7 @@ use Rattle.mama_script.specs.Form.{if_allowed, head_at}
 
 pub head_again : (h : Head) → head_in (head_text h) ≡ Some h
 unfolding head_in
+head_again heads.Strategy = refl
 head_again heads.Queues = refl
 head_again heads.Topic = refl
 head_again heads.Publisher = refl
@@ -38,7 +39,7 @@ head_again heads.Now = refl
 
 abbrev pub all_heads : List Head
 all_heads =
-    heads.Queues ∷ heads.Topic ∷ heads.Publisher ∷ heads.Update ∷ heads.Recap ∷ heads.Pause ∷ heads.Client ∷ heads.Sub ∷ heads.Timer ∷ heads.Inbox ∷ heads.Fault ∷ heads.At ∷ heads.Stop ∷ heads.Disarm ∷ heads.Close ∷ heads.Ask ∷ heads.Now ∷ []
+    heads.Strategy ∷ heads.Queues ∷ heads.Topic ∷ heads.Publisher ∷ heads.Update ∷ heads.Recap ∷ heads.Pause ∷ heads.Client ∷ heads.Sub ∷ heads.Timer ∷ heads.Inbox ∷ heads.Fault ∷ heads.At ∷ heads.Stop ∷ heads.Disarm ∷ heads.Close ∷ heads.Ask ∷ heads.Now ∷ []
 
 -- reading is looking for the first head that has the word
 pub head_named : (word : List ℕ) → named_in head_text word all_heads ≡ head_in word

@@ -26,8 +26,11 @@ use Rattle.mama_script.specs.declared.client.ClientLine.TheVariants as steps
 use Rattle.mama_script.specs.Script.{ScriptData}
 use Rattle.mama_script.specs.Head.{may_end}
 use Rattle.mama_script.specs.Before.{Before, start, after, flaw_if, first_flaw, beside, topic_flaw, queue_flaw, order_flaw, object_flaw, number_at, after_queues, after_publisher, after_client, after_sub, after_timer, after_inbox, after_fault, after_at}
-use Rattle.mama_script.specs.Reading.{FitFrom}
-use Rattle.mama_script.specs.Tree.{queue_name, plan_line, fault_line, object_lines, publisher_line, publisher_lines, step_lines, client_lines, topic_line, IsScript}
+use Rattle.mama_script.specs.Reading.{version_of, FitFrom}
+use Rattle.mama_script.specs.Tree.{queue_name, plan_line, fault_line, object_lines, publisher_line, publisher_lines, step_lines, client_lines, topic_line, strategy_lines, IsScript}
+use Rattle.mama_words.specs.declared.version.Version.{Version}
+use Rattle.mama_words.specs.declared.version.Version.TheVariants as version
+use Rattle.mama_event.specs.declared.shape.Strategy.{Strategy}
 use Rattle.mama_script.specs.Within.{IsQueueWithin, IsOrderWithin, AreOrdersWithin, planned, IsPlanWithin, IsStepWithin, subs_of, objects_of, subs_in, objects_in, all_subs, IsClientWithin, AreSendsWithin, IsPublisherWithin, IsWithin}
 use Rattle.mama_script.proofs.Counts.{number_at-insert}
 use Rattle.mama_script.proofs.Naming.{script_named}
@@ -358,13 +361,18 @@ some_client : (b : Before) (cs : List (List ClientLine)) → may_end b.place ≡
 some_client b [] ends h = let bad : true ≡ false = sym h ∙ ends in absurd cc
 some_client b (c ∷ cs) ends h = omega arith
 
+-- behind the line that tells the strategy all is as at the beginning of version 1
+body_fits : (v : Version) (told : Strategy) (queues : ℕ) (ls : List Line) → FitFrom (start (version_of (strategy_lines v told ++ lines.Queues queues ∷ ls))) (strategy_lines v told ++ lines.Queues queues ∷ ls) → FitFrom (start version.One) (lines.Queues queues ∷ ls)
+body_fits version.One told queues ls h = h
+body_fits version.Two told queues ls h = h.1
+
 pub script_within : (s : ScriptData) → IsScript s → IsWithin s
 script_within s is =
     let q = s.shape.bounds.queues in
-    let b = after_queues q start in
+    let b = after_queues q (start version.One) in
     let clients = flat_map client_lines s.clients in
     let publishers = flat_map publisher_lines s.publishers ++ clients in
-    let fit = is.accepted.fit in
+    let fit = body_fits s.version s.shape.strategy q (map topic_line s.topics ++ publishers) is.accepted.fit in
     let few = ltb-false 64 q (flaw_none (ltb 64 q) (Limit 2) None fit.0.sound).0 in
     let t = topics_on b s.topics publishers fit.1 in
     let p = publishers_on t.next s.publishers clients t.fits in

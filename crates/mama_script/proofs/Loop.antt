@@ -1,14 +1,14 @@
 -- One line more in the loop that reads a text.
-use Rattle.std.proofs.Common.{◌≡◌, ℕ, true, false, cond, suc, ◌+◌, ◌<◌, List, [], ◌∷◌, ◌++◌, length, Option, Some, None, Result, Ok, Err, refl, sym, ap, ◌∙◌, append_assoc, append-nil, add-one, length-append, arith}
+use Rattle.std.proofs.Common.{◌≡◌, ℕ, suc, ◌+◌, ◌<◌, List, [], ◌∷◌, ◌++◌, length, Option, Some, None, Result, Ok, Err, refl, sym, ap, ◌∙◌, append_assoc, append-nil, add-one, length-append, arith}
 use Rattle.mama_words.specs.Parting.{pieces, cut_at}
 use Rattle.mama_words.proofs.Cuts.{pieces_at_some, pieces_at_none}
 use Rattle.mama_words.proofs.Cutting.{cut_at_split}
-use Rattle.std.specs.Str.{bytes_eq}
+use Rattle.mama_words.specs.declared.version.Version.{Version}
 use Rattle.mama_script.specs.declared.fault.ScriptFault.{ScriptFault}
 use Rattle.mama_script.specs.declared.fault.ScriptFault.TheVariants.{Bad, OverLimit, OutOfMemory}
 use Rattle.mama_script.specs.declared.line.Line.{Line}
 use Rattle.mama_script.specs.Before.{Before, start, after}
-use Rattle.mama_script.specs.Reading.{and_then, line_in, end_fault, unless_faulty, line_first, read_from, first_line, lines_in}
+use Rattle.mama_script.specs.Reading.{and_then, line_in, end_fault, unless_faulty, line_first, read_from, version_in, read_version, lines_in}
 use Rattle.mama_script.specs.Answer.{Fails}
 use Rattle.mama_script.proofs.Whole.{read_from_line, pieces_some}
 
@@ -73,18 +73,18 @@ fails_more front b k rest text more (OverLimit line limit) total cut h so_far = 
 
 -- ---- the first line
 
-lines_at : (first : List ℕ) (ps : List (List ℕ)) → 0 < length ps → lines_in (first ∷ ps) ≡ cond (bytes_eq first first_line) (read_from start 2 ps) (Err (Bad 1 1))
+lines_at : (first : List ℕ) (ps : List (List ℕ)) → 0 < length ps → lines_in (first ∷ ps) ≡ read_version (version_in first) ps
 lines_at first [] some = absurd (omega arith)
 lines_at first (p ∷ ps) some = refl
 
-lines_cut : (text first rest : List ℕ) → Some (first, rest) ≡ cut_at 10 text → lines_in (pieces 10 text) ≡ cond (bytes_eq first first_line) (read_from start 2 (pieces 10 rest)) (Err (Bad 1 1))
+lines_cut : (text first rest : List ℕ) → Some (first, rest) ≡ cut_at 10 text → lines_in (pieces 10 text) ≡ read_version (version_in first) (pieces 10 rest)
 lines_cut text first rest cut = ap lines_in (pieces_at_some 10 text first rest (sym cut)) ∙ lines_at first (pieces 10 rest) (pieces_some 10 rest)
 
-pub lines_behind : (text first rest : List ℕ) → Some (first, rest) ≡ cut_at 10 text → bytes_eq first first_line ≡ true → lines_in (pieces 10 text) ≡ read_from start 2 (pieces 10 rest)
-lines_behind text first rest cut same = lines_cut text first rest cut ∙ rw same refl
+pub lines_behind : (text first rest : List ℕ) (v : Version) → Some (first, rest) ≡ cut_at 10 text → Some v ≡ version_in first → lines_in (pieces 10 text) ≡ read_from (start v) 2 (pieces 10 rest)
+lines_behind text first rest v cut said = lines_cut text first rest cut ∙ ap (λ (o : Option Version). read_version o (pieces 10 rest)) (sym said)
 
-pub lines_other : (text first rest : List ℕ) → Some (first, rest) ≡ cut_at 10 text → bytes_eq first first_line ≡ false → lines_in (pieces 10 text) ≡ Err (Bad 1 1)
-lines_other text first rest cut same = lines_cut text first rest cut ∙ rw same refl
+pub lines_other : (text first rest : List ℕ) → Some (first, rest) ≡ cut_at 10 text → None ≡ version_in first → lines_in (pieces 10 text) ≡ Err (Bad 1 1)
+lines_other text first rest cut said = lines_cut text first rest cut ∙ ap (λ (o : Option Version). read_version o (pieces 10 rest)) (sym said)
 
 pub lines_uncut : (text : List ℕ) → None ≡ cut_at 10 text → lines_in (pieces 10 text) ≡ Err (Bad 1 1)
 lines_uncut text cut = ap lines_in (pieces_at_none 10 text (sym cut))

@@ -12,7 +12,10 @@ use Rattle.mama_script.specs.declared.client.ClientLine.{ClientLine}
 use Rattle.mama_script.specs.declared.client.ClientLine.TheVariants as steps
 use Rattle.mama_script.specs.Names.{nothing_made, with_sub, with_timer, with_inbox, at_last, made_with, made_after, made_by, is_named, unnamed_from}
 use Rattle.mama_script.specs.Script.{ScriptData}
-use Rattle.mama_script.specs.Tree.{plan_line, fault_line, object_lines, publisher_line, publisher_lines, step_lines, client_lines, topic_line, lines_of}
+use Rattle.mama_words.specs.declared.version.Version.{Version}
+use Rattle.mama_words.specs.declared.version.Version.TheVariants as version
+use Rattle.mama_event.specs.declared.shape.Strategy.{Strategy}
+use Rattle.mama_script.specs.Tree.{plan_line, fault_line, object_lines, publisher_line, publisher_lines, step_lines, client_lines, topic_line, strategy_lines, body_lines, lines_of}
 use Rattle.mama_script.specs.Within.{made_with_step, made_with_steps, made_of, ArePlanned, IsStepNamed, AreStepsNamed}
 use Rattle.mama_script.proofs.Made.{at_last_push}
 
@@ -76,12 +79,18 @@ made_topics : (made : List Made) (names : List (List ℕ)) → made_after made (
 made_topics made [] = refl
 made_topics made (name ∷ names) = made_topics made names
 
+-- the line that tells the strategy makes nothing
+made_opened : (v : Version) (told : Strategy) (ls : List Line) → made_by (strategy_lines v told ++ ls) ≡ made_by ls
+made_opened version.One told ls = refl
+made_opened version.Two told ls = refl
+
 made_lines : (s : ScriptData) → made_by (lines_of s) ≡ map made_of s.clients
 made_lines s =
     let topics = map topic_line s.topics in
     let publishers = flat_map publisher_lines s.publishers in
     let clients = flat_map client_lines s.clients in
-    made_after-append [] topics (publishers ++ clients)
+    made_opened s.version s.shape.strategy (body_lines s)
+    ∙ made_after-append [] topics (publishers ++ clients)
     ∙ ap (λ (x : List Made). made_after x (publishers ++ clients)) (made_topics [] s.topics)
     ∙ made_after-append [] publishers clients
     ∙ ap (λ (x : List Made). made_after x clients) (made_publishers [] s.publishers)
@@ -134,6 +143,7 @@ script_named s h =
     let made = made_by (lines_of s) in
     let publishers = flat_map publisher_lines s.publishers in
     let clients = flat_map client_lines s.clients in
-    let t = named_split made (map topic_line s.topics) (publishers ++ clients) (all_named made 2 (lines_of s) h).1 in
+    let body = named_split made (strategy_lines s.version s.shape.strategy) (body_lines s) (all_named made 2 (lines_of s) h) in
+    let t = named_split made (map topic_line s.topics) (publishers ++ clients) body.1.1 in
     let c = named_split made publishers clients t.1 in
     subst (λ (m : List Made). AllByRecursion (AreStepsNamed m) s.clients) (made_lines s) (clients_named made s.clients c.1)

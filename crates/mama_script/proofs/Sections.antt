@@ -5,6 +5,10 @@ use Rattle.mama_event.specs.declared.order.Order.{Order}
 use Rattle.mama_event.specs.declared.order.Order.TheVariants as orders
 use Rattle.mama_event.specs.declared.order.PlanRow.{PlanRow}
 use Rattle.mama_event.specs.declared.shape.Shape.{Shape}
+use Rattle.mama_event.specs.declared.shape.Strategy.{Strategy}
+use Rattle.mama_event.specs.declared.shape.Strategy.TheVariants as strategy
+use Rattle.mama_words.specs.declared.version.Version.{Version}
+use Rattle.mama_words.specs.declared.version.Version.TheVariants as version
 use Rattle.mama_link.specs.declared.faults.FaultRow.{FaultRow}
 use Rattle.mama_words.specs.declared.order.OrderWord.{OrderWord}
 use Rattle.mama_words.specs.declared.order.OrderWord.TheVariants as order_words
@@ -21,7 +25,8 @@ use Rattle.mama_script.specs.declared.client.QueueWord.TheVariants as words
 use Rattle.mama_script.specs.declared.client.ClientLine.{ClientLine}
 use Rattle.mama_script.specs.declared.client.ClientLine.TheVariants as steps
 use Rattle.mama_script.specs.Script.{ScriptData}
-use Rattle.mama_script.specs.Tree.{queue_name, plan_line, fault_line, object_lines, publisher_line, publisher_lines, step_lines, client_lines, topic_line, lines_of, topic_of_part, IsShaped}
+use Rattle.mama_script.specs.Tree.{queue_name, plan_line, fault_line, object_lines, publisher_line, publisher_lines, step_lines, client_lines, topic_line, strategy_lines, body_lines, lines_of, topic_of_part, HasStrategy, IsShaped}
+use Rattle.mama_script.specs.Reading.{version_of}
 
 -- what the lines from some line on have
 record Found : Type 0 where
@@ -49,6 +54,7 @@ queue_from names.Any = words.Any
 
 -- one line more in front
 abbrev onto : Line → Found → Found
+onto (lines.Strategy strategy) s = s
 onto (lines.Queues n) s = record s { queues = n }
 onto (lines.Topic name) s = record s { topics = name ∷ s.topics }
 onto (lines.Publisher topic base) s = record s { publishers = record { topic = topic; base = base; lines = s.sent } ∷ s.publishers; sent = []; stepped = [] }
@@ -198,8 +204,8 @@ build_topics (x ∷ xs) ps cs ts q = ap (onto (topic_line x)) (build_topics xs p
 abbrev nothing : Found
 nothing = found [] [] [] [] [] [] [] 0
 
-build_lines : (s : ScriptData) → build (lines_of s) nothing ≡ found [] [] [] [] s.publishers s.clients s.topics s.shape.bounds.queues
-build_lines s =
+build_body : (s : ScriptData) → build (body_lines s) nothing ≡ found [] [] [] [] s.publishers s.clients s.topics s.shape.bounds.queues
+build_body s =
     let ps = s.publishers in
     let cs = s.clients in
     let ts = s.topics in
@@ -211,27 +217,40 @@ build_lines s =
     ∙ build_publishers ps [] cs [] 0 ∙ ap (λ (x : List PublisherPart). found [] [] [] [] x cs [] 0) (append-nil ps))
     ∙ build_topics ts ps cs [] 0 ∙ ap (λ (x : List (List ℕ)). found [] [] [] [] ps cs x 0) (append-nil ts))
 
-abbrev shape_from : Found → Shape
-shape_from f = record { clients = length f.clients; publisher_topics = map topic_of_part f.publishers; bounds = record { topics = length f.topics; queues = f.queues } }
+-- the strategy that lines tell
+abbrev strategy_told : List Line → Strategy
+strategy_told (lines.Strategy s ∷ ls) = s
+strategy_told _ = strategy.One
 
-abbrev script_from : Found → ScriptData
-script_from f = record { shape = shape_from f; topics = f.topics; publishers = f.publishers; clients = f.clients }
+abbrev shape_with : ℕ → List ℕ → ℕ → ℕ → Strategy → Shape
+shape_with c ps t q s = record { clients = c; publisher_topics = ps; bounds = record { topics = t; queues = q }; strategy = s }
 
-abbrev shape_with : ℕ → List ℕ → ℕ → ℕ → Shape
-shape_with c ps t q = record { clients = c; publisher_topics = ps; bounds = record { topics = t; queues = q } }
+abbrev script_with : Version → Shape → List (List ℕ) → List PublisherPart → List (List ClientLine) → ScriptData
+script_with v shape topics publishers clients = record { version = v; shape = shape; topics = topics; publishers = publishers; clients = clients }
 
-abbrev script_with : Shape → List (List ℕ) → List PublisherPart → List (List ClientLine) → ScriptData
-script_with shape topics publishers clients = record { shape = shape; topics = topics; publishers = publishers; clients = clients }
+abbrev script_from : Version → Strategy → Found → ScriptData
+script_from v s f = script_with v (shape_with (length f.clients) (map topic_of_part f.publishers) (length f.topics) f.queues s) f.topics f.publishers f.clients
 
-same_shape : (a b : ℕ) (x y : List ℕ) (t u q : ℕ) → a ≡ b → x ≡ y → t ≡ u → shape_with a x t q ≡ shape_with b y u q
-same_shape a b x y t u q e f g = cc
+-- the script that has these lines
+abbrev script_of : List Line → ScriptData
+script_of ls = script_from (version_of ls) (strategy_told ls) (build ls nothing)
 
-script_back : (s : ScriptData) → IsShaped s → script_from (build (lines_of s) nothing) ≡ s
-script_back s h =
-    let shape : shape_from (found [] [] [] [] s.publishers s.clients s.topics s.shape.bounds.queues) ≡ s.shape =
-    same_shape (length s.clients) s.shape.clients (map topic_of_part s.publishers) s.shape.publisher_topics (length s.topics) s.shape.bounds.topics s.shape.bounds.queues (sym h.clients) (sym h.publishers) (sym h.topics) in
-    ap script_from (build_lines s) ∙ ap (λ (x : Shape). script_with x s.topics s.publishers s.clients) shape
+same_shape : (a b : ℕ) (x y : List ℕ) (t u q : ℕ) (s r : Strategy) → a ≡ b → x ≡ y → t ≡ u → s ≡ r → shape_with a x t q s ≡ shape_with b y u q r
+same_shape a b x y t u q s r e f g h = cc
+
+body_back : (s : ScriptData) (told : Strategy) → IsShaped s → told ≡ s.shape.strategy → script_from s.version told (build (body_lines s) nothing) ≡ s
+body_back s told h same =
+    let shape : shape_with (length s.clients) (map topic_of_part s.publishers) (length s.topics) s.shape.bounds.queues told ≡ s.shape =
+    same_shape (length s.clients) s.shape.clients (map topic_of_part s.publishers) s.shape.publisher_topics (length s.topics) s.shape.bounds.topics s.shape.bounds.queues told s.shape.strategy (sym h.clients) (sym h.publishers) (sym h.topics) same in
+    ap (script_from s.version told) (build_body s) ∙ ap (λ (x : Shape). script_with s.version x s.topics s.publishers s.clients) shape
+
+opened_back : (v : Version) (told : Strategy) (s : ScriptData) → HasStrategy v told → s.version ≡ v → s.shape.strategy ≡ told → IsShaped s → script_of (strategy_lines v told ++ body_lines s) ≡ s
+opened_back version.One told s has same is h = ap (λ (v : Version). script_from v strategy.One (build (body_lines s) nothing)) (sym same) ∙ body_back s strategy.One h (sym has ∙ sym is)
+opened_back version.Two told s has same is h = ap (λ (v : Version). script_from v told (build (body_lines s) nothing)) (sym same) ∙ body_back s told h (sym is)
+
+script_back : (s : ScriptData) → IsShaped s → script_of (lines_of s) ≡ s
+script_back s h = opened_back s.version s.shape.strategy s h.strategy refl refl h
 
 -- scripts that have the same lines are one
 pub same_script : (s t : ScriptData) → IsShaped s → IsShaped t → lines_of s ≡ lines_of t → s ≡ t
-same_script s t h k e = sym (script_back s h) ∙ ap (λ (ls : List Line). script_from (build ls nothing)) e ∙ script_back t k
+same_script s t h k e = sym (script_back s h) ∙ ap script_of e ∙ script_back t k

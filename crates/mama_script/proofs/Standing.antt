@@ -1,5 +1,5 @@
 -- Accepted lines stand in a row: their numbers are within the limits, and the faults of an object have distinct indexes.
-use Rattle.std.proofs.Common.{◌≡◌, ℕ, suc, ◌+◌, ◌<◌, ◌≤◌, ◌^◌, Bool, true, false, eqb, ltb, leb, List, [], ◌∷◌, ◌++◌, length, map, Option, Some, None, refl, sym, ap, subst, ◌∙◌, arith, length-append, append_assoc, append-nil}
+use Rattle.std.proofs.Common.{◌≡◌, ◌≢◌, ℕ, suc, ◌+◌, ◌<◌, ◌≤◌, ◌^◌, Bool, true, false, eqb, ltb, leb, List, [], ◌∷◌, ◌++◌, length, map, Option, Some, None, refl, sym, ap, subst, ◌∙◌, arith, length-append, append_assoc, append-nil}
 use Rattle.std.specs.Prelude.{◌||◌, ◌==◌, slice_get}
 use Rattle.std.specs.List.{flat_map, list_any}
 use Rattle.std.specs.Option.{option_or}
@@ -28,10 +28,12 @@ use Rattle.mama_script.specs.declared.publisher.PublisherPart.{PublisherPart}
 use Rattle.mama_script.specs.declared.client.ClientLine.{ClientLine}
 use Rattle.mama_script.specs.Head.{allows}
 use Rattle.mama_script.specs.Line.{IsFault, head_of}
-use Rattle.mama_script.specs.Before.{Before, start, after, topic_flaw, queue_flaw, order_flaw, object_flaw}
+use Rattle.mama_script.specs.Before.{Before, opening, start, after, topic_flaw, queue_flaw, order_flaw, object_flaw}
 use Rattle.mama_script.specs.Names.{nothing_made, with_sub, with_timer, with_inbox, at_last, made_with, made_after, made_by, makes, is_made, is_order_named, is_named}
-use Rattle.mama_script.specs.Reading.{Fits, FitFrom, AreAccepted}
-use Rattle.mama_script.specs.Tree.{fault_line, topic_line, publisher_lines, client_lines, topic_of_part}
+use Rattle.mama_script.specs.Reading.{version_of, Fits, FitFrom, AreAccepted}
+use Rattle.mama_script.specs.Tree.{fault_line, topic_line, publisher_lines, client_lines, topic_of_part, strategy_lines, HasStrategy}
+use Rattle.mama_words.specs.declared.version.Version.{Version}
+use Rattle.mama_event.specs.declared.shape.Strategy.{Strategy}
 use Rattle.mama_script.specs.Counted.{IsCounted, AreCounted}
 use Rattle.mama_script.specs.Standing.{IsSmallId, IsSmallOrder, IsSmallQueue, IsSmall, place_behind, faults_behind, bad_fault, Stand}
 use Rattle.mama_script.proofs.Counted.{counted_more, counted_client, counted_sub, counted_timer, counted_inbox, counted_get}
@@ -58,6 +60,7 @@ length-at_last f (m ∷ []) = refl
 length-at_last f (m ∷ n ∷ ms) = ap suc (length-at_last f (n ∷ ms))
 
 tally_line : (b : Before) (made : List Made) (l : Line) → Tally b made → Fits b l → Tally (after b l) (made_with made l)
+tally_line b made (lines.Strategy strategy) t fits = t
 tally_line b made (lines.Queues n) t fits = record {
   topics_few = t.topics_few;
   queues_few = ltb-false 64 n (flaw_none (ltb 64 n) (Limit 2) None fits.sound).0;
@@ -210,6 +213,7 @@ told_more rows row i none other = fault_at-append rows row i ∙ rw (none, other
 
 at_link : (place : Place) → allows place (head_of (lines.Fault (record { index = 0; fault = Lose }))) ≡ true → place ≡ places.Linked
 at_link places.Linked e = refl
+at_link places.Strategy e = absurd cc
 at_link places.Start e = absurd cc
 at_link places.Topics e = absurd cc
 at_link places.Publisher e = absurd cc
@@ -247,12 +251,21 @@ stand b here made rows (l ∷ ls) t few told named h = (
   stand_line b l (faults_behind rows l) ls (stand (after b l) (made_with here l) made (faults_behind rows l) ls (tally_line b here l t h.0) few (told_line b rows l told h.0) named.1 h.1),
 )
 
-nothing : Tally start []
-nothing = record { topics_few = omega arith; queues_few = omega arith; clients_few = omega arith; subs_few = omega arith; objects_few = omega arith; clients_are = refl; counted = tt }
+nothing : (v : Version) → Tally (start v) []
+nothing v = record { topics_few = omega arith; queues_few = omega arith; clients_few = omega arith; subs_few = omega arith; objects_few = omega arith; clients_are = refl; counted = tt }
 
-pub accepted_stand : (ls : List Line) → AreAccepted ls → Stand places.Start [] ls
+pub accepted_stand : (ls : List Line) → AreAccepted ls → Stand (opening (version_of ls)) [] ls
 accepted_stand ls is =
-    stand start [] (made_by ls) [] ls nothing (few_made start [] ls nothing is.fit) (λ at i free. refl) (all_named (made_by ls) 2 ls is.named) is.fit
+    let b = start (version_of ls) in
+    stand b [] (made_by ls) [] ls (nothing (version_of ls)) (few_made b [] ls (nothing (version_of ls)) is.fit) (λ at i free. refl) (all_named (made_by ls) 2 ls is.named) is.fit
+
+-- ---- the line that tells the strategy
+
+-- version 1 has none, and begins with the queues
+pub unopened : (ls : List Line) (o : Option Line) → o ≡ slice_get ls 0 → ((s : Strategy) → o ≢ Some (lines.Strategy s)) → Stand (opening (version_of ls)) [] ls → Stand places.Start [] ls
+unopened [] o is none h = absurd cc
+unopened (lines.Strategy s ∷ ls) o is none h = absurd (none s is)
+unopened (l ∷ ls) o is none h = h
 
 -- ---- one fault more
 
@@ -291,25 +304,25 @@ record FewSections (topics : List (List ℕ)) (clients : List (List ClientLine))
   topics_few : length topics ≤ 1024
   clients_few : length clients ≤ 64
 
-few_sections : (queues : ℕ) (topics : List (List ℕ)) (publishers : List PublisherPart) (clients : List (List ClientLine))
-    → AreAccepted (lines.Queues queues ∷ (map topic_line topics ++ (flat_map publisher_lines publishers ++ flat_map client_lines clients))) → FewSections topics clients
-few_sections queues topics publishers clients accepted =
+few_sections : (v : Version) (told : Strategy) (queues : ℕ) (topics : List (List ℕ)) (publishers : List PublisherPart) (clients : List (List ClientLine)) → HasStrategy v told
+    → AreAccepted (strategy_lines v told ++ lines.Queues queues ∷ (map topic_line topics ++ (flat_map publisher_lines publishers ++ flat_map client_lines clients))) → FewSections topics clients
+few_sections v told queues topics publishers clients has accepted =
     let w = script_within
-    (record { shape = record { clients = length clients; publisher_topics = map topic_of_part publishers; bounds = record { topics = length topics; queues = queues } }; topics = topics; publishers = publishers; clients = clients })
-    (record { shaped = record { clients = refl; topics = refl; publishers = refl }; accepted = accepted }) in
+    (record { version = v; shape = record { clients = length clients; publisher_topics = map topic_of_part publishers; bounds = record { topics = length topics; queues = queues }; strategy = told }; topics = topics; publishers = publishers; clients = clients })
+    (record { shaped = record { clients = refl; topics = refl; publishers = refl; strategy = has }; accepted = accepted }) in
     record { topics_few = w.topics_few; clients_few = w.clients_few }
 
-taken_few : (a b c d : List Line) (queues : ℕ) (topics : List (List ℕ)) (publishers : List PublisherPart) (clients : List (List ClientLine)) → AreAccepted a
+taken_few : (v : Version) (told : Strategy) (all a b c d : List Line) (queues : ℕ) (topics : List (List ℕ)) (publishers : List PublisherPart) (clients : List (List ClientLine)) → AreAccepted all → HasStrategy v told → all ≡ strategy_lines v told ++ a
     → a ≡ lines.Queues queues ∷ b → b ≡ map topic_line topics ++ c → c ≡ flat_map publisher_lines publishers ++ d → d ≡ flat_map client_lines clients → FewSections topics clients
-taken_few a b c d queues topics publishers clients is ab bc cd de =
-    few_sections queues topics publishers clients
+taken_few v told all a b c d queues topics publishers clients is has za ab bc cd de =
+    few_sections v told queues topics publishers clients has
     (subst (λ (x : List Line). AreAccepted x)
-    (ab ∙ ap (λ (x : List Line). lines.Queues queues ∷ x) (bc ∙ ap (λ (x : List Line). map topic_line topics ++ x) (cd ∙ ap (λ (x : List Line). flat_map publisher_lines publishers ++ x) de))) is)
+    (za ∙ ap (λ (x : List Line). strategy_lines v told ++ x) (ab ∙ ap (λ (x : List Line). lines.Queues queues ∷ x) (bc ∙ ap (λ (x : List Line). map topic_line topics ++ x) (cd ∙ ap (λ (x : List Line). flat_map publisher_lines publishers ++ x) de)))) is)
 
-pub few_topics : (a b c d : List Line) (queues : ℕ) (topics : List (List ℕ)) (publishers : List PublisherPart) (clients : List (List ClientLine)) → AreAccepted a
+pub few_topics : (v : Version) (told : Strategy) (all a b c d : List Line) (queues : ℕ) (topics : List (List ℕ)) (publishers : List PublisherPart) (clients : List (List ClientLine)) → AreAccepted all → HasStrategy v told → all ≡ strategy_lines v told ++ a
     → a ≡ lines.Queues queues ∷ b → b ≡ map topic_line topics ++ c → c ≡ flat_map publisher_lines publishers ++ d → d ≡ flat_map client_lines clients → length topics < 2 ^ 32
-few_topics a b c d queues topics publishers clients is ab bc cd de = let f = taken_few a b c d queues topics publishers clients is ab bc cd de in omega (arith, f.topics_few)
+few_topics v told all a b c d queues topics publishers clients is has za ab bc cd de = let f = taken_few v told all a b c d queues topics publishers clients is has za ab bc cd de in omega (arith, f.topics_few)
 
-pub few_clients : (a b c d : List Line) (queues : ℕ) (topics : List (List ℕ)) (publishers : List PublisherPart) (clients : List (List ClientLine)) → AreAccepted a
+pub few_clients : (v : Version) (told : Strategy) (all a b c d : List Line) (queues : ℕ) (topics : List (List ℕ)) (publishers : List PublisherPart) (clients : List (List ClientLine)) → AreAccepted all → HasStrategy v told → all ≡ strategy_lines v told ++ a
     → a ≡ lines.Queues queues ∷ b → b ≡ map topic_line topics ++ c → c ≡ flat_map publisher_lines publishers ++ d → d ≡ flat_map client_lines clients → length clients < 2 ^ 32
-few_clients a b c d queues topics publishers clients is ab bc cd de = let f = taken_few a b c d queues topics publishers clients is ab bc cd de in omega (arith, f.clients_few)
+few_clients v told all a b c d queues topics publishers clients is has za ab bc cd de = let f = taken_few v told all a b c d queues topics publishers clients is has za ab bc cd de in omega (arith, f.clients_few)

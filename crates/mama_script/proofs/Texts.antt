@@ -11,7 +11,7 @@ use Rattle.mama_msg.specs.Field.{FieldData}
 use Rattle.mama_words.specs.declared.order.OrderWord.{OrderWord}
 use Rattle.mama_words.specs.declared.order.OrderWord.TheVariants as orders
 use Rattle.mama_event.specs.declared.market.SubKind.{SubKind}
-use Rattle.mama_words.specs.Kind.{sub_kind_text}
+use Rattle.mama_words.specs.Kind.{sub_kind_text, strategy_text}
 use Rattle.mama_words.specs.Field.{fields_text}
 use Rattle.mama_words.specs.Order.{order_words, order_text}
 use Rattle.mama_words.specs.Sentence.{spaced}
@@ -23,9 +23,13 @@ use Rattle.mama_script.specs.declared.publisher.PublisherPart.{PublisherPart}
 use Rattle.mama_script.specs.declared.client.ClientLine.{ClientLine}
 use Rattle.mama_script.specs.declared.line.QueueName.{QueueName}
 use Rattle.mama_script.specs.Line.{ended, queue_text}
-use Rattle.mama_script.specs.Reading.{first_line}
+use Rattle.mama_script.specs.Reading.{first_line, version_of}
 use Rattle.mama_script.specs.Script.{ScriptData}
-use Rattle.mama_script.specs.Tree.{plan_line, fault_line, publisher_line, publisher_lines, step_lines, client_lines, topic_line, script_text}
+use Rattle.mama_script.specs.Tree.{plan_line, fault_line, publisher_line, publisher_lines, step_lines, client_lines, topic_line, strategy_lines, body_lines, lines_of, script_text}
+use Rattle.mama_words.specs.declared.version.Version.{Version}
+use Rattle.mama_words.specs.declared.version.Version.TheVariants as version
+use Rattle.mama_event.specs.declared.shape.Strategy.{Strategy}
+use Rattle.mama_event.specs.declared.shape.Strategy.TheVariants as strategy
 use Rattle.mama_script.specs.Text.{topic_text, send_text, publisher_text, fault_text, plan_text, object_text, step_text, client_text}
 
 flat_map-flat_map : {X : Type 0} (g : X → List Line) (xs : List X) → flat_map ended (flat_map g xs) ≡ flat_map (λ x. flat_map ended (g x)) xs
@@ -44,19 +48,34 @@ object_text_is f p =
     ∙ ap (λ (t : List ℕ). flat_map fault_text f ++ t) (flat_map-map ended plan_line p)
 
 abbrev joined_text : ℕ → List ℕ → List ℕ → List ℕ → List ℕ
-joined_text queues a b c = (first_line ++ 10 ∷ []) ++ (ended (lines.Queues queues) ++ (a ++ (b ++ c)))
+joined_text queues a b c = ended (lines.Queues queues) ++ (a ++ (b ++ c))
 
-pub script_text_is : (s : ScriptData)
-    → script_text s ≡ (first_line ++ 10 ∷ []) ++ (ended (lines.Queues s.shape.bounds.queues) ++ (flat_map topic_text s.topics ++ (flat_map publisher_text s.publishers ++ flat_map client_text s.clients)))
-script_text_is s =
+body_text_is : (s : ScriptData)
+    → flat_map ended (body_lines s) ≡ joined_text s.shape.bounds.queues (flat_map topic_text s.topics) (flat_map publisher_text s.publishers) (flat_map client_text s.clients)
+body_text_is s =
     let q = s.shape.bounds.queues in
     let topics = map topic_line s.topics in
     let publishers = flat_map publisher_lines s.publishers in
     let clients = flat_map client_lines s.clients in
-    ap (λ (t : List ℕ). (first_line ++ 10 ∷ []) ++ (ended (lines.Queues q) ++ t)) (flat_map-append ended topics (publishers ++ clients) ∙ ap (λ (t : List ℕ). flat_map ended topics ++ t) (flat_map-append ended publishers clients))
+    ap (λ (t : List ℕ). ended (lines.Queues q) ++ t) (flat_map-append ended topics (publishers ++ clients) ∙ ap (λ (t : List ℕ). flat_map ended topics ++ t) (flat_map-append ended publishers clients))
     ∙ ap (λ (t : List ℕ). joined_text q t (flat_map ended publishers) (flat_map ended clients)) (flat_map-map ended topic_line s.topics)
     ∙ ap (λ (t : List ℕ). joined_text q (flat_map topic_text s.topics) t (flat_map ended clients)) (flat_map-flat_map publisher_lines s.publishers)
     ∙ ap (λ (t : List ℕ). joined_text q (flat_map topic_text s.topics) (flat_map publisher_text s.publishers) t) (flat_map-flat_map client_lines s.clients)
+
+version_told : (v : Version) (told : Strategy) (queues : ℕ) (ls : List Line) → version_of (strategy_lines v told ++ lines.Queues queues ∷ ls) ≡ v
+version_told version.One told queues ls = refl
+version_told version.Two told queues ls = refl
+
+pub script_text_is : (s : ScriptData)
+    → script_text s
+    ≡ (first_line s.version ++ 10 ∷ [])
+    ++ (flat_map ended (strategy_lines s.version s.shape.strategy)
+    ++ (ended (lines.Queues s.shape.bounds.queues) ++ (flat_map topic_text s.topics ++ (flat_map publisher_text s.publishers ++ flat_map client_text s.clients))))
+script_text_is s =
+    let opened = strategy_lines s.version s.shape.strategy in
+    let rest = map topic_line s.topics ++ (flat_map publisher_lines s.publishers ++ flat_map client_lines s.clients) in
+    ap (λ (v : Version). (first_line v ++ 10 ∷ []) ++ flat_map ended (lines_of s)) (version_told s.version s.shape.strategy s.shape.bounds.queues rest)
+    ∙ ap (λ (t : List ℕ). (first_line s.version ++ 10 ∷ []) ++ t) (flat_map-append ended opened (body_lines s) ∙ ap (λ (t : List ℕ). flat_map ended opened ++ t) (body_text_is s))
 
 order_row : (o : OrderWord) → flat_map spaced (order_words o) ≡ 32 ∷ order_text o
 order_row (orders.Stop id) = ap (λ (t : List ℕ). 32 ∷ t) (sym (order_sentence (orders.Stop id)))
@@ -95,5 +114,15 @@ pub sub_text : (out : List ℕ) (topic : ℕ) (kind : SubKind) (queue : QueueNam
     → (((((((out ++ codes "sub") ++ spaced (decimal topic)) ++ 32 ∷ []) ++ sub_kind_text kind) ++ spaced (queue_text queue)) ++ spaced (decimal cache)) ++ spaced (decimal recaps)) ++ 10 ∷ [] ≡ out ++ ended (lines.Sub topic kind queue cache recaps)
 sub_text out topic kind queue cache recaps = sub_shape out (codes "sub") (spaced (decimal topic)) (sub_kind_text kind) (spaced (queue_text queue)) (spaced (decimal cache)) (spaced (decimal recaps))
 
-pub print_shape : (f q t p c : List ℕ) → (((f ++ q) ++ t) ++ p) ++ c ≡ f ++ (q ++ (t ++ (p ++ c)))
-print_shape f q t p c = simp append_assoc
+pub print_shape : (f s q t p c : List ℕ) → ((((f ++ s) ++ q) ++ t) ++ p) ++ c ≡ f ++ (s ++ (q ++ (t ++ (p ++ c))))
+print_shape f s q t p c = simp append_assoc
+
+strategy_shape : (out a b : List ℕ) → ((out ++ a) ++ b) ++ 10 ∷ [] ≡ out ++ ((a ++ b) ++ 10 ∷ [])
+strategy_shape out a b = simp append_assoc
+
+strategy_row : (told : Strategy) → flat_map ended (lines.Strategy told ∷ []) ≡ (codes "strategy " ++ strategy_text told) ++ 10 ∷ []
+strategy_row strategy.One = refl
+strategy_row strategy.Two = refl
+
+pub strategy_line_text : (out : List ℕ) (told : Strategy) → ((out ++ codes "strategy ") ++ strategy_text told) ++ 10 ∷ [] ≡ out ++ flat_map ended (lines.Strategy told ∷ [])
+strategy_line_text out told = strategy_shape out (codes "strategy ") (strategy_text told) ∙ ap (λ (t : List ℕ). out ++ t) (sym (strategy_row told))

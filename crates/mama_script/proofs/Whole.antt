@@ -2,24 +2,28 @@
 use Rattle.std.proofs.Common.{◌≡◌, ℕ, suc, ◌<◌, Bool, true, false, cond, eqb, List, [], ◌∷◌, ◌++◌, length, Option, Some, None, Result, Ok, Err, refl, sym, ap, subst, ◌∙◌, append_assoc, arith}
 use Rattle.std.specs.Prelude.{◌==◌, ◌&&◌, not}
 use Rattle.std.specs.List.{flat_map, list_all, list_any}
-use Rattle.std.specs.Str.{bytes_eq}
 use Rattle.std.proofs.lemmas.Bool.{and_parts, eqb-true}
 use Rattle.std.proofs.lemmas.List.{nil_from_length}
 use Rattle.mama_words.specs.Parting.{onto_first, pieces, is_plain, is_parted, is_outside, place_after, is_empty_word, words}
 use Rattle.mama_words.specs.declared.parting.Place.TheVariants.{Outside}
-use Rattle.mama_words.proofs.Choices.{chosen_some, same_text}
+use Rattle.mama_words.proofs.Choices.{chosen_some}
+use Rattle.mama_words.proofs.Named.{named_found}
+use Rattle.mama_words.specs.declared.version.Version.{Version}
+use Rattle.mama_words.specs.declared.version.Version.TheVariants as version
+use Rattle.mama_words.specs.declared.order.OrderWord.TheVariants as orders
 use Rattle.mama_words.proofs.Cuts.{pieces_at_some}
 use Rattle.mama_words.proofs.Cutting.{lacks, all_lack, cut_at_again}
 use Rattle.mama_script.specs.declared.fault.Flaw.{Flaw}
 use Rattle.mama_script.specs.declared.fault.ScriptFault.{ScriptFault}
 use Rattle.mama_script.specs.declared.fault.ScriptFault.TheVariants.{Bad}
 use Rattle.mama_script.specs.declared.line.Line.{Line}
-use Rattle.mama_script.specs.Head.{may_end}
-use Rattle.mama_script.specs.Line.{IsLine, line_text, line_words, ended}
+use Rattle.mama_script.specs.declared.line.Line.TheVariants as lines
+use Rattle.mama_script.specs.Head.{allows, may_end}
+use Rattle.mama_script.specs.Line.{head_of, IsLine, line_text, line_words, ended}
 use Rattle.mama_script.specs.Form.{form_in}
-use Rattle.mama_script.specs.Before.{Before, start, after, flaw}
+use Rattle.mama_script.specs.Before.{Before, opening, start, after, flaw}
 use Rattle.mama_script.specs.Names.{made_by, unnamed_from}
-use Rattle.mama_script.specs.Reading.{and_then, unless_flawed, judged, line_in, end_fault, unless_faulty, end_in, line_first, read_from, first_line, lines_in, unless_unnamed, named_or_fault, script_in, spelling, Fits, FitFrom, AreAccepted}
+use Rattle.mama_script.specs.Reading.{and_then, unless_flawed, judged, line_in, end_fault, unless_faulty, end_in, line_first, read_from, first_line, version_in, read_version, version_of, lines_in, unless_unnamed, named_or_fault, script_in, spelling, Fits, FitFrom, AreAccepted}
 use Rattle.mama_script.proofs.FormFound.{form_found}
 use Rattle.mama_script.proofs.FormAgain.{form_again, line_parted}
 
@@ -146,17 +150,47 @@ whole_again b k (l ∷ ls) h =
 
 -- ---- the whole text
 
-first_ok : (b : Bool) (r : Result (List Line) ScriptFault) (ls : List Line) → cond b r (Err (Bad 1 1)) ≡ Ok ls → (b ≡ true) × (r ≡ Ok ls)
-first_ok true r ls e = (refl, e)
-first_ok false r ls e = absurd cc
+pub version_again : (v : Version) → version_in (first_line v) ≡ Some v
+version_again version.One = refl
+version_again version.Two = refl
 
-pub lines_found : (ps : List (List ℕ)) (ls : List Line) → lines_in ps ≡ Ok ls → FitFrom start ls × (joined ps ≡ spelling ls)
+pub version_found : (text : List ℕ) (v : Version) → version_in text ≡ Some v → text ≡ first_line v
+version_found text v = named_found first_line text (version.One ∷ version.Two ∷ []) v
+
+-- what may stand behind the first line tells the version
+opened_by : (v : Version) (l : Line) (ls : List Line) → allows (opening v) (head_of l) ≡ true → version_of (l ∷ ls) ≡ v
+opened_by version.One (lines.Strategy s) ls h = absurd cc
+opened_by version.One _ ls h = refl
+opened_by version.Two (lines.Strategy s) ls h = refl
+opened_by version.Two (lines.Order (orders.Stop id)) ls h = absurd cc
+opened_by version.Two (lines.Order (orders.Disarm id)) ls h = absurd cc
+opened_by version.Two (lines.Order (orders.Close id)) ls h = absurd cc
+opened_by version.Two (lines.Order (orders.Ask id topic fids)) ls h = absurd cc
+opened_by version.Two _ ls h = absurd cc
+
+no_end : (v : Version) → may_end (opening v) ≡ false
+no_end version.One = refl
+no_end version.Two = refl
+
+pub version_fits : (v : Version) (ls : List Line) → FitFrom (start v) ls → version_of ls ≡ v
+version_fits v [] h = let bad : true ≡ false = sym h ∙ no_end v in absurd cc
+version_fits v (l ∷ ls) h = opened_by v l ls h.0.place
+
+version_ok : (o : Option Version) (ps : List (List ℕ)) (ls : List Line) → read_version o ps ≡ Ok ls → (v : Version) × (o ≡ Some v) × (read_from (start v) 2 ps ≡ Ok ls)
+version_ok None ps ls e = absurd cc
+version_ok (Some v) ps ls e = (v, refl, e)
+
+pub lines_found : (ps : List (List ℕ)) (ls : List Line) → lines_in ps ≡ Ok ls → FitFrom (start (version_of ls)) ls × (joined ps ≡ spelling ls)
 lines_found [] ls e = absurd cc
 lines_found (rest ∷ []) ls e = absurd cc
 lines_found (first ∷ next ∷ more) ls e =
-    let p = first_ok (bytes_eq first first_line) (read_from start 2 (next ∷ more)) ls e in
-    let w = whole_found start 2 (next ∷ more) ls p.1 in
-    (w.0, ap (λ (t : List ℕ). t ++ 10 ∷ joined (next ∷ more)) (same_text first first_line p.0) ∙ ap (λ (t : List ℕ). first_line ++ 10 ∷ t) w.1)
+    let p = version_ok (version_in first) (next ∷ more) ls e in
+    let w = whole_found (start p.0) 2 (next ∷ more) ls p.2 in
+    let same : p.0 ≡ version_of ls = sym (version_fits p.0 ls w.0) in (
+      subst (λ (v : Version). FitFrom (start v) ls) same w.0,
+      ap (λ (t : List ℕ). t ++ 10 ∷ joined (next ∷ more)) (version_found first p.0 p.1 ∙ ap first_line same) ∙ ap (λ (t : List ℕ). first_line (version_of ls) ++ 10 ∷ t) w.1
+          ∙ sym (append_assoc (first_line (version_of ls)) (10 ∷ []) (flat_map ended ls)),
+    )
 
 unless_unnamed_ok : (ms ls : List Line) (o : Option ℕ) → unnamed_from (made_by ms) 2 ms ≡ o → unless_unnamed ms o ≡ Ok ls → (ms ≡ ls) × (unnamed_from (made_by ls) 2 ls ≡ None)
 unless_unnamed_ok ms ls None h e = let same = done_is ms ls e in (same, subst (λ (x : List Line). unnamed_from (made_by x) 2 x ≡ None) same h)
@@ -167,14 +201,20 @@ script_found text ls e =
     let a = and_then_ok (lines_in (pieces 10 text)) named_or_fault ls e in
     let n = unless_unnamed_ok a.0 ls (unnamed_from (made_by a.0) 2 a.0) refl a.2 in
     let f = lines_found (pieces 10 text) a.0 a.1 in
-    let fits = subst (λ (x : List Line). FitFrom start x) n.0 f.0 in
+    let fits = subst (λ (x : List Line). FitFrom (start (version_of x)) x) n.0 f.0 in
     (record { fit = fits; named = n.1 }, sym (pieces_joined text) ∙ f.1 ∙ ap spelling n.0)
 
-lines_again : (ps : List (List ℕ)) (ls : List Line) → read_from start 2 ps ≡ Ok ls → lines_in (first_line ∷ ps) ≡ Ok ls
-lines_again [] ls e = absurd cc
-lines_again (p ∷ ps) ls e = e
+lines_again : (v : Version) (ps : List (List ℕ)) (ls : List Line) → read_from (start v) 2 ps ≡ Ok ls → lines_in (first_line v ∷ ps) ≡ Ok ls
+lines_again v [] ls e = absurd cc
+lines_again v (p ∷ ps) ls e = ap (λ (o : Option Version). read_version o (p ∷ ps)) (version_again v) ∙ e
+
+-- no first line has an end in it
+first_cut : (v : Version) (rest : List ℕ) → pieces 10 ((first_line v ++ 10 ∷ []) ++ rest) ≡ first_line v ∷ pieces 10 rest
+first_cut version.One rest = refl
+first_cut version.Two rest = refl
 
 pub script_again : (ls : List Line) → AreAccepted ls → script_in (spelling ls) ≡ Ok ls
 script_again ls h =
-    let read : lines_in (pieces 10 (spelling ls)) ≡ Ok ls = lines_again (pieces 10 (flat_map ended ls)) ls (whole_again start 2 ls h.fit) in
+    let v = version_of ls in
+    let read : lines_in (pieces 10 (spelling ls)) ≡ Ok ls = ap lines_in (first_cut v (flat_map ended ls)) ∙ lines_again v (pieces 10 (flat_map ended ls)) ls (whole_again (start v) 2 ls h.fit) in
     ap (λ (r : Result (List Line) ScriptFault). and_then r named_or_fault) read ∙ ap (unless_unnamed ls) h.named

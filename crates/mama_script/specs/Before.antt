@@ -9,6 +9,8 @@ use Rattle.mama_msg.specs.Field.{FieldData}
 use Rattle.mama_msg.specs.Message.{apply}
 use Rattle.mama_words.specs.declared.order.OrderWord.{OrderWord}
 use Rattle.mama_words.specs.declared.order.OrderWord.TheVariants as orders
+use Rattle.mama_words.specs.declared.version.Version.{Version}
+use Rattle.mama_words.specs.declared.version.Version.TheVariants as version
 use Rattle.mama_script.specs.declared.head.Place.{Place}
 use Rattle.mama_script.specs.declared.head.Place.TheVariants as places
 use Rattle.mama_script.specs.declared.fault.Flaw.{Flaw}
@@ -41,10 +43,15 @@ pub record Before : Type 0 where
   pub indexes : List ℕ
   pub calls : List (ℕ × ℕ)
 
--- behind the first line
-abbrev pub start : Before
-start = record {
-  place = places.Start;
+-- where the line behind the first stands: version 2 tells its strategy there
+abbrev pub opening : Version → Place
+opening version.One = places.Start
+opening version.Two = places.Strategy
+
+-- behind the first line of a version
+abbrev pub start : Version → Before
+start v = record {
+  place = opening v;
   queues = 0;
   topics = 0;
   publishers = 0;
@@ -116,6 +123,9 @@ beside _ = places.Client
 abbrev pub weight_with : ℕ → Before → ℕ
 weight_with topic b = heavier b.weight (number_at topic b.weights)
 
+abbrev pub after_strategy : Before → Before
+after_strategy b = record b { place = places.Start }
+
 abbrev pub after_queues : ℕ → Before → Before
 after_queues n b = record b { queues = n; place = places.Topics }
 
@@ -151,6 +161,7 @@ after_step b = record b { place = beside b.place }
 
 -- what is so behind a line
 abbrev pub after : Before → Line → Before
+after b (lines.Strategy strategy) = after_strategy b
 after b (lines.Queues n) = after_queues n b
 after b (lines.Topic name) = after_topic b
 after b (lines.Publisher topic base) = after_publisher topic base b

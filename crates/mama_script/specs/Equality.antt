@@ -4,9 +4,11 @@ use Rattle.std.specs.Cmp.Lexicographic.{pointwise}
 use Rattle.std.specs.Str.{bytes_eq}
 use Rattle.mama_msg.specs.Equality.{same_message}
 use Rattle.mama_link.specs.Equality.{same_rows}
-use Rattle.mama_event.specs.Equality.{same_sub_kind, same_order, same_plan_row}
+use Rattle.mama_event.specs.Equality.{same_sub_kind, same_strategy, same_order, same_plan_row}
 use Rattle.mama_event.specs.declared.order.PlanRow.{PlanRow}
 use Rattle.mama_event.specs.declared.shape.Shape.{Shape}
+use Rattle.mama_words.specs.declared.version.Version.{Version}
+use Rattle.mama_words.specs.declared.version.Version.TheVariants as version
 use Rattle.mama_script.specs.declared.publisher.PublisherLine.{PublisherLine}
 use Rattle.mama_script.specs.declared.publisher.PublisherLine.TheVariants as sends
 use Rattle.mama_script.specs.declared.publisher.PublisherPart.{PublisherPart}
@@ -57,10 +59,16 @@ same_sends a b = pointwise same_publisher_line a b
 abbrev pub same_publisher : PublisherPart → PublisherPart → Bool
 same_publisher a b = a.topic == b.topic && same_message a.base b.base && same_sends a.lines b.lines
 
--- two shapes count the same
+-- two versions are one
+abbrev pub same_version : Version → Version → Bool
+same_version version.One version.One = true
+same_version version.Two version.Two = true
+same_version _ _ = false
+
+-- two shapes count the same, and have one strategy
 abbrev pub same_shape : Shape → Shape → Bool
-same_shape a b = a.clients == b.clients && bytes_eq a.publisher_topics b.publisher_topics && (a.bounds.topics == b.bounds.topics && a.bounds.queues == b.bounds.queues)
+same_shape a b = a.clients == b.clients && bytes_eq a.publisher_topics b.publisher_topics && (a.bounds.topics == b.bounds.topics && a.bounds.queues == b.bounds.queues) && same_strategy a.strategy b.strategy
 
 -- two scripts have the same parts
 abbrev pub same_script : ScriptData → ScriptData → Bool
-same_script a b = same_shape a.shape b.shape && pointwise bytes_eq a.topics b.topics && pointwise same_publisher a.publishers b.publishers && pointwise same_client a.clients b.clients
+same_script a b = same_version a.version b.version && same_shape a.shape b.shape && pointwise bytes_eq a.topics b.topics && pointwise same_publisher a.publishers b.publishers && pointwise same_client a.clients b.clients

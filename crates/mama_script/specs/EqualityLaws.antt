@@ -9,9 +9,11 @@ use Rattle.std.proofs.lemmas.Bool.Decides.{Decides-eqb}
 use Rattle.std.proofs.lemmas.Slice.Eq.{bytes_eq-Decides}
 use Rattle.mama_msg.specs.EqualityLaws.{same_message-Decides}
 use Rattle.mama_link.specs.EqualityLaws.{same_rows-Decides}
-use Rattle.mama_event.specs.EqualityLaws.{same_sub_kind-Decides, same_order-Decides, same_plan_row-Decides}
+use Rattle.mama_event.specs.EqualityLaws.{same_sub_kind-Decides, same_strategy-Decides, same_order-Decides, same_plan_row-Decides}
 use Rattle.mama_event.specs.declared.order.PlanRow.{PlanRow}
 use Rattle.mama_event.specs.declared.shape.Shape.{Shape}
+use Rattle.mama_words.specs.declared.version.Version.{Version}
+use Rattle.mama_words.specs.declared.version.Version.TheVariants as version
 use Rattle.mama_script.specs.declared.publisher.PublisherLine.{PublisherLine}
 use Rattle.mama_script.specs.declared.publisher.PublisherLine.TheVariants as sends
 use Rattle.mama_script.specs.declared.publisher.PublisherPart.{PublisherPart}
@@ -20,7 +22,7 @@ use Rattle.mama_script.specs.declared.client.QueueWord.TheVariants.{Number, Any}
 use Rattle.mama_script.specs.declared.client.ClientLine.{ClientLine}
 use Rattle.mama_script.specs.declared.client.ClientLine.TheVariants as steps
 use Rattle.mama_script.specs.Script.{ScriptData}
-use Rattle.mama_script.specs.Equality.{same_queue_word, same_plan, same_client_line, same_client, same_publisher_line, same_sends, same_publisher, same_shape, same_script}
+use Rattle.mama_script.specs.Equality.{same_queue_word, same_plan, same_client_line, same_client, same_publisher_line, same_sends, same_publisher, same_version, same_shape, same_script}
 
 -- two tests decide two facts
 and-Decides : {a b : Bool} {P Q : Type 0} → Decides a P → Decides b Q → Decides (a && b) (P × Q)
@@ -74,17 +76,22 @@ same_publisher-Decides a b =
     (λ p. λ i. record { topic = p.0.0 i; base = p.0.1 i; lines = p.1 i })
     (λ e. ((ap (λ (x : PublisherPart). x.topic) e, ap (λ (x : PublisherPart). x.base) e), ap (λ (x : PublisherPart). x.lines) e))
 
+same_version-Decides : (a b : Version) → Decides (same_version a b) (a ≡ b)
+same_version-Decides version.One version.One = (λ h. refl, λ e. refl)
+same_version-Decides version.Two version.Two = (λ h. refl, λ e. refl)
+same_version-Decides _ _ = (λ h. absurd (true≢false (sym h)), λ e. cc)
+
 pub same_shape-Decides : (a b : Shape) → Decides (same_shape a b) (a ≡ b)
 same_shape-Decides a b =
-    via (and-Decides (and-Decides (Decides-eqb a.clients b.clients) (bytes_eq-Decides a.publisher_topics b.publisher_topics)) (and-Decides (Decides-eqb a.bounds.topics b.bounds.topics) (Decides-eqb a.bounds.queues b.bounds.queues)))
-    (λ p. λ i. record { clients = p.0.0 i; publisher_topics = p.0.1 i; bounds = record { topics = p.1.0 i; queues = p.1.1 i } })
-    (λ e. ((ap (λ (x : Shape). x.clients) e, ap (λ (x : Shape). x.publisher_topics) e), (ap (λ (x : Shape). x.bounds.topics) e, ap (λ (x : Shape). x.bounds.queues) e)))
+    via (and-Decides (and-Decides (and-Decides (Decides-eqb a.clients b.clients) (bytes_eq-Decides a.publisher_topics b.publisher_topics)) (and-Decides (Decides-eqb a.bounds.topics b.bounds.topics) (Decides-eqb a.bounds.queues b.bounds.queues))) (same_strategy-Decides a.strategy b.strategy))
+    (λ p. λ i. record { clients = p.0.0.0 i; publisher_topics = p.0.0.1 i; bounds = record { topics = p.0.1.0 i; queues = p.0.1.1 i }; strategy = p.1 i })
+    (λ e. (((ap (λ (x : Shape). x.clients) e, ap (λ (x : Shape). x.publisher_topics) e), (ap (λ (x : Shape). x.bounds.topics) e, ap (λ (x : Shape). x.bounds.queues) e)), ap (λ (x : Shape). x.strategy) e))
 
 pub same_script-Decides : (a b : ScriptData) → Decides (same_script a b) (a ≡ b)
 same_script-Decides a b =
-    via (and-Decides (and-Decides (and-Decides (same_shape-Decides a.shape b.shape) (pointwise_decides bytes_eq-Decides a.topics b.topics)) (pointwise_decides same_publisher-Decides a.publishers b.publishers)) (pointwise_decides same_client-Decides a.clients b.clients))
-    (λ p. λ i. record { shape = p.0.0.0 i; topics = p.0.0.1 i; publishers = p.0.1 i; clients = p.1 i })
-    (λ e. (((ap (λ (x : ScriptData). x.shape) e, ap (λ (x : ScriptData). x.topics) e), ap (λ (x : ScriptData). x.publishers) e), ap (λ (x : ScriptData). x.clients) e))
+    via (and-Decides (and-Decides (and-Decides (and-Decides (same_version-Decides a.version b.version) (same_shape-Decides a.shape b.shape)) (pointwise_decides bytes_eq-Decides a.topics b.topics)) (pointwise_decides same_publisher-Decides a.publishers b.publishers)) (pointwise_decides same_client-Decides a.clients b.clients))
+    (λ p. λ i. record { version = p.0.0.0.0 i; shape = p.0.0.0.1 i; topics = p.0.0.1 i; publishers = p.0.1 i; clients = p.1 i })
+    (λ e. ((((ap (λ (x : ScriptData). x.version) e, ap (λ (x : ScriptData). x.shape) e), ap (λ (x : ScriptData). x.topics) e), ap (λ (x : ScriptData). x.publishers) e), ap (λ (x : ScriptData). x.clients) e))
 
 -- so they are equivalences
 pub same_plan_equivalence : IsEquivalence same_plan

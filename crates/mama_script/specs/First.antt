@@ -1,6 +1,7 @@
 -- believed: The first line that is wrong, in plain words: it has lines before it that all fit, and it has the flaw itself.
 use Rattle.std.specs.Prelude.{◌≡◌, ◌≢◌, ℕ, ◌+◌, List, [], ◌∷◌, ◌++◌, length, map, ◌==◌, Option, Some, None, Result, Ok, Err, ◌⊎◌, if◌then◌else◌}
 use Rattle.mama_words.specs.Parting.{pieces}
+use Rattle.mama_words.specs.declared.version.Version.{Version}
 use Rattle.mama_script.specs.declared.fault.Flaw.{Flaw}
 use Rattle.mama_script.specs.declared.fault.Flaw.TheVariants.{Fault}
 use Rattle.mama_script.specs.declared.line.Line.{Line}
@@ -9,7 +10,7 @@ use Rattle.mama_script.specs.Line.{line_text}
 use Rattle.mama_script.specs.Form.{form_in}
 use Rattle.mama_script.specs.Before.{Before, start, after, flaw}
 use Rattle.mama_script.specs.Names.{made_by, unnamed_from}
-use Rattle.mama_script.specs.Reading.{first_line, spelling, Fits, FitFrom}
+use Rattle.mama_script.specs.Reading.{first_line, version_of, spelling, Fits, FitFrom}
 
 -- what is so behind lines
 abbrev pub behind : Before → List Line → Before
@@ -36,26 +37,27 @@ HasFlaw b [] found = ⊥
 HasFlaw b (rest ∷ []) found = flaw_at_end b rest ≡ Some found
 HasFlaw b (text ∷ next ∷ more) found = flaw_of b (form_in b.place text) ≡ Some found
 
--- the first line is another one
+-- the first line says no version
 abbrev pub IsHeadless : List (List ℕ) → Type 0
 IsHeadless [] = Unit {0}
 IsHeadless (rest ∷ []) = Unit {0}
-IsHeadless (first ∷ next ∷ more) = first ≢ first_line
+IsHeadless (first ∷ next ∷ more) = (v : Version) → first ≢ first_line v
 
 -- behind the first line come lines that all fit, and then the one that has the flaw
 pub record IsFirstFlaw (text : List ℕ) (line : ℕ) (found : Flaw) : Type 0 where
+  pub version : Version
   pub lines : List Line
   pub rest : List (List ℕ)
-  pub text_is : pieces 10 text ≡ first_line ∷ (map line_text lines ++ rest)
-  pub fit : EachFits start lines
+  pub text_is : pieces 10 text ≡ first_line version ∷ (map line_text lines ++ rest)
+  pub fit : EachFits (start version) lines
   pub number : line ≡ length lines + 2
-  pub has : HasFlaw (behind start lines) rest found
+  pub has : HasFlaw (behind (start version) lines) rest found
 
 -- all lines fit, and this is the first that names an object which is not in the script
 pub record IsFirstUnnamed (text : List ℕ) (line : ℕ) : Type 0 where
   pub lines : List Line
   pub text_is : text ≡ spelling lines
-  pub fit : FitFrom start lines
+  pub fit : FitFrom (start (version_of lines)) lines
   pub unnamed : unnamed_from (made_by lines) 2 lines ≡ Some line
 
 -- line 1, or the first line with a flaw, or the first that names what is not there

@@ -7,8 +7,9 @@ use Rattle.mama_link.specs.declared.faults.Fault.TheVariants.{Lose, Dup, Hold}
 use Rattle.mama_words.specs.Reading.{◌>>=◌, or_fault, both}
 use Rattle.mama_words.specs.Parting.{parted_in}
 use Rattle.mama_words.specs.Number.{number_in, between_in}
-use Rattle.mama_words.specs.Kind.{sub_kind_in}
+use Rattle.mama_words.specs.Kind.{sub_kind_in, strategy_in}
 use Rattle.mama_words.specs.Value.{text_in}
+use Rattle.mama_words.specs.declared.nums.Nums.TheVariants.{Unknown}
 use Rattle.mama_words.specs.Field.{message_in}
 use Rattle.mama_words.specs.Order.{order_in}
 use Rattle.mama_script.specs.declared.head.Head.{Head}
@@ -27,6 +28,10 @@ queue_in word = if bytes_eq word (codes "any") then Some Any else option_map (λ
 abbrev pub count_in : List ℕ → Option ℕ
 count_in word = between_in 1 4294967295 word
 
+unfoldable pub strategy_line_in : List (List ℕ) → Result Line ℕ
+strategy_line_in (first ∷ word ∷ []) = or_fault 5 (strategy_in word) >>= λ strategy. Ok (lines.Strategy strategy)
+strategy_line_in words = Err 4
+
 unfoldable pub queues_in : List (List ℕ) → Result Line ℕ
 queues_in (first ∷ word ∷ []) = or_fault 5 (between_in 1 18446744073709551615 word) >>= λ n. Ok (lines.Queues n)
 queues_in words = Err 4
@@ -42,12 +47,12 @@ topic_in words = Err 4
 unfoldable pub publisher_in : List (List ℕ) → Result Line ℕ
 publisher_in (first ∷ topic ∷ fields) = do
   topic ← or_fault 5 (number_in topic)
-  base ← message_in fields
+  base ← message_in Unknown fields
   Ok (lines.Publisher topic base)
 publisher_in words = Err 4
 
 unfoldable pub update_in : List (List ℕ) → Result Line ℕ
-update_in (first ∷ fields) = message_in fields >>= λ update. Ok (lines.Update update)
+update_in (first ∷ fields) = message_in Unknown fields >>= λ update. Ok (lines.Update update)
 update_in words = Err 4
 
 -- a line of one word
@@ -115,6 +120,7 @@ now_in words = Err 4
 
 -- the line that the words spell, the first of which is its head
 abbrev pub body_in : Head → List (List ℕ) → Result Line ℕ
+body_in heads.Strategy words = strategy_line_in words
 body_in heads.Queues words = queues_in words
 body_in heads.Topic words = topic_in words
 body_in heads.Publisher words = publisher_in words

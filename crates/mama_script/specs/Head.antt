@@ -2,14 +2,15 @@
 use Rattle.std.specs.Prelude.{ℕ, codes, Bool, true, false, List, Option, Some, None, if◌then◌else◌}
 use Rattle.std.specs.Str.{bytes_eq}
 use Rattle.mama_script.specs.declared.head.Head.{Head}
-use Rattle.mama_script.specs.declared.head.Head.TheVariants.{Queues, Topic, Publisher, Update, Recap, Pause, Client, Sub, Timer, Inbox, Fault, At, Stop, Disarm, Close, Ask, Now}
+use Rattle.mama_script.specs.declared.head.Head.TheVariants.{Strategy, Queues, Topic, Publisher, Update, Recap, Pause, Client, Sub, Timer, Inbox, Fault, At, Stop, Disarm, Close, Ask, Now}
 use Rattle.mama_script.specs.declared.head.Place.{Place}
 use Rattle.mama_script.specs.declared.head.Place.TheVariants as places
 
 -- what a word begins
 unfoldable pub head_in : List ℕ → Option Head
 head_in word =
-    if bytes_eq word (codes "queues") then Some Queues
+    if bytes_eq word (codes "strategy") then Some Strategy
+    else (if bytes_eq word (codes "queues") then Some Queues
     else (if bytes_eq word (codes "topic") then Some Topic
     else (if bytes_eq word (codes "publisher") then Some Publisher
     else (if bytes_eq word (codes "update") then Some Update
@@ -25,7 +26,12 @@ head_in word =
     else (if bytes_eq word (codes "disarm") then Some Disarm
     else (if bytes_eq word (codes "close") then Some Close
     else (if bytes_eq word (codes "ask") then Some Ask
-    else (if bytes_eq word (codes "now") then Some Now else None))))))))))))))))
+    else (if bytes_eq word (codes "now") then Some Now else None)))))))))))))))))
+
+-- the line of the strategy, behind the first line of version 2
+abbrev pub is_strategy : Head → Bool
+is_strategy Strategy = true
+is_strategy head = false
 
 -- the line of the queues
 abbrev pub is_opening : Head → Bool
@@ -74,6 +80,7 @@ follows_link head = follows_plan head
 
 -- what a line at this place may begin with
 abbrev pub allows : Place → Head → Bool
+allows places.Strategy head = is_strategy head
 allows places.Start head = is_opening head
 allows places.Topics head = follows_topic head
 allows places.Publisher head = follows_publisher head

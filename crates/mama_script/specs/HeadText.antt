@@ -1,10 +1,11 @@
 -- inner: The words that lines begin with.
 use Rattle.std.specs.Prelude.{ℕ, codes, List}
 use Rattle.mama_script.specs.declared.head.Head.{Head}
-use Rattle.mama_script.specs.declared.head.Head.TheVariants.{Queues, Topic, Publisher, Update, Recap, Pause, Client, Sub, Timer, Inbox, Fault, At, Stop, Disarm, Close, Ask, Now}
+use Rattle.mama_script.specs.declared.head.Head.TheVariants.{Strategy, Queues, Topic, Publisher, Update, Recap, Pause, Client, Sub, Timer, Inbox, Fault, At, Stop, Disarm, Close, Ask, Now}
 
 -- the word
 abbrev pub head_text : Head → List ℕ
+head_text Strategy = codes "strategy"
 head_text Queues = codes "queues"
 head_text Topic = codes "topic"
 head_text Publisher = codes "publisher"

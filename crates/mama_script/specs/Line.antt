@@ -5,7 +5,8 @@ use Rattle.mama_link.specs.declared.faults.Fault.TheVariants.{Lose, Dup, Hold}
 use Rattle.mama_edge.specs.Decimal.{decimal}
 use Rattle.mama_edge.specs.Quoted.{quoted}
 use Rattle.mama_msg.specs.Value.{IsText}
-use Rattle.mama_words.specs.Kind.{sub_kind_text}
+use Rattle.mama_words.specs.Kind.{sub_kind_text, strategy_text}
+use Rattle.mama_words.specs.declared.nums.Nums.TheVariants.{Unknown}
 use Rattle.mama_words.specs.Field.{field_text, IsMessage}
 use Rattle.mama_words.specs.Order.{order_words, IsOrder}
 use Rattle.mama_words.specs.declared.order.OrderWord.{OrderWord}
@@ -30,6 +31,7 @@ fault_words index (Hold by) = codes "hold" ∷ decimal index ∷ decimal by ∷ 
 
 -- the words of a line
 abbrev pub line_words : Line → List (List ℕ)
+line_words (lines.Strategy strategy) = codes "strategy" ∷ strategy_text strategy ∷ []
 line_words (lines.Queues n) = codes "queues" ∷ decimal n ∷ []
 line_words (lines.Topic name) = codes "topic" ∷ quoted name ∷ []
 line_words (lines.Publisher topic base) = codes "publisher" ∷ decimal topic ∷ map field_text base
@@ -62,6 +64,7 @@ head_of_order (orders.Ask id topic fids) = heads.Ask
 
 -- what a line begins with
 abbrev pub head_of : Line → Head
+head_of (lines.Strategy strategy) = heads.Strategy
 head_of (lines.Queues n) = heads.Queues
 head_of (lines.Topic name) = heads.Topic
 head_of (lines.Publisher topic base) = heads.Publisher
@@ -90,10 +93,11 @@ IsFault (Hold by) = (1 ≤ by) × (by ≤ 4294967295)
 
 -- a line with each number in its range
 abbrev pub IsLine : Line → Type 0
+IsLine (lines.Strategy strategy) = Unit {0}
 IsLine (lines.Queues n) = (1 ≤ n) × (n < 2 ^ 64)
 IsLine (lines.Topic name) = IsText name × ((length name == 0) ≡ false)
-IsLine (lines.Publisher topic base) = (topic < 2 ^ 64) × IsMessage base
-IsLine (lines.Update update) = IsMessage update
+IsLine (lines.Publisher topic base) = (topic < 2 ^ 64) × IsMessage Unknown base
+IsLine (lines.Update update) = IsMessage Unknown update
 IsLine lines.Recap = Unit {0}
 IsLine (lines.Pause rounds) = (1 ≤ rounds) × (rounds ≤ 1000000)
 IsLine lines.Client = Unit {0}

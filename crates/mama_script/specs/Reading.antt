@@ -3,12 +3,15 @@ use Rattle.std.specs.Prelude.{◌≡◌, ℕ, suc, codes, true, ◌==◌, List, 
 use Rattle.std.specs.List.{flat_map}
 use Rattle.std.specs.Str.{bytes_eq}
 use Rattle.mama_words.specs.Parting.{pieces}
+use Rattle.mama_words.specs.declared.version.Version.{Version}
+use Rattle.mama_words.specs.declared.version.Version.TheVariants as version
 use Rattle.mama_script.specs.declared.head.Place.{Place}
 use Rattle.mama_script.specs.declared.fault.Flaw.{Flaw}
 use Rattle.mama_script.specs.declared.fault.Flaw.TheVariants.{Fault, Limit}
 use Rattle.mama_script.specs.declared.fault.ScriptFault.{ScriptFault}
 use Rattle.mama_script.specs.declared.fault.ScriptFault.TheVariants.{Bad, OverLimit}
 use Rattle.mama_script.specs.declared.line.Line.{Line}
+use Rattle.mama_script.specs.declared.line.Line.TheVariants as lines
 use Rattle.mama_script.specs.Head.{allows, may_end}
 use Rattle.mama_script.specs.Line.{head_of, IsLine, ended}
 use Rattle.mama_script.specs.Form.{form_in}
@@ -58,14 +61,26 @@ read_from b k [] = Err (Bad k 3)
 read_from b k (rest ∷ []) = end_in b k rest
 read_from b k (text ∷ next ∷ more) = and_then (line_in b k text) (λ line. and_then (read_from (after b line) (suc k) (next ∷ more)) (line_first line))
 
-abbrev pub first_line : List ℕ
-first_line = codes "mama script 1"
+-- the first line of a version
+abbrev pub first_line : Version → List ℕ
+first_line version.One = codes "mama script 1"
+first_line version.Two = codes "mama script 2"
 
--- the lines behind the first, which is always the same
+-- the version that a first line says
+abbrev pub version_in : List ℕ → Option Version
+version_in text =
+    if bytes_eq text (first_line version.One) then Some version.One
+    else (if bytes_eq text (first_line version.Two) then Some version.Two else None)
+
+-- the lines behind the first, if it says a version
+abbrev pub read_version : Option Version → List (List ℕ) → Result (List Line) ScriptFault
+read_version None ps = Err (Bad 1 1)
+read_version (Some v) ps = read_from (start v) 2 ps
+
 abbrev pub lines_in : List (List ℕ) → Result (List Line) ScriptFault
 lines_in [] = Err (Bad 1 1)
 lines_in (rest ∷ []) = Err (Bad 1 1)
-lines_in (first ∷ next ∷ more) = if bytes_eq first first_line then read_from start 2 (next ∷ more) else Err (Bad 1 1)
+lines_in (first ∷ next ∷ more) = read_version (version_in first) (next ∷ more)
 
 abbrev pub unless_unnamed : List Line → Option ℕ → Result (List Line) ScriptFault
 unless_unnamed ls None = Ok ls
@@ -79,9 +94,14 @@ named_or_fault ls = unless_unnamed ls (unnamed_from (made_by ls) 2 ls)
 abbrev pub script_in : List ℕ → Result (List Line) ScriptFault
 script_in text = and_then (lines_in (pieces 10 text)) named_or_fault
 
+-- the version that has these lines: the line behind the first tells the strategy in version 2 alone
+abbrev pub version_of : List Line → Version
+version_of (lines.Strategy strategy ∷ ls) = version.Two
+version_of _ = version.One
+
 -- the text that lines spell
 abbrev pub spelling : List Line → List ℕ
-spelling ls = (first_line ++ 10 ∷ []) ++ flat_map ended ls
+spelling ls = (first_line (version_of ls) ++ 10 ∷ []) ++ flat_map ended ls
 
 -- a line fits those before it
 pub record Fits (b : Before) (l : Line) : Type 0 where
@@ -96,5 +116,5 @@ FitFrom b (l ∷ ls) = Fits b l × FitFrom (after b l) ls
 
 -- lines that are accepted
 pub record AreAccepted (ls : List Line) : Type 0 where
-  pub fit : FitFrom start ls
+  pub fit : FitFrom (start (version_of ls)) ls
   pub named : unnamed_from (made_by ls) 2 ls ≡ None

@@ -10,11 +10,17 @@ use Rattle.mama_script.specs.declared.line.QueueName.TheVariants.{Number, Any}
 use Rattle.mama_script.specs.declared.line.Line.{Line}
 use Rattle.mama_script.specs.declared.line.Line.TheVariants as lines
 use Rattle.mama_script.specs.Head.{head_in}
-use Rattle.mama_script.specs.Form.{form_in}
+use Rattle.mama_script.specs.Form.{form_in, strategy_line_in}
 use Rattle.mama_script.specs.Before.{Before, start, flaw}
 use Rattle.mama_script.specs.Names.{made_by, unnamed_from}
-use Rattle.mama_script.specs.Reading.{first_line, script_in}
+use Rattle.mama_script.specs.Reading.{script_in}
+use Rattle.mama_script.specs.Reading as reading
+use Rattle.mama_words.specs.declared.version.Version.{Version}
+use Rattle.mama_words.specs.declared.version.Version.TheVariants as version
 use Rattle.mama_script.specs.First.{behind}
+
+abbrev first_line : List ℕ
+first_line = reading.first_line version.One
 
 -- the text whose lines, each ended, are these behind the first
 abbrev pub text_of : List (List ℕ) → List ℕ
@@ -25,7 +31,7 @@ text_of (line ∷ lines) = line ++ 10 ∷ text_of lines
 pub empty_row : script_in [] ≡ Err (Bad 1 1)
 empty_row = refl
 
-pub other_row : script_in (text_of (codes "mama script 2" ∷ [])) ≡ Err (Bad 1 1)
+pub other_row : script_in (text_of (codes "mama script 3" ∷ [])) ≡ Err (Bad 1 1)
 other_row = refl
 
 -- the queues are missing, at the number of lines plus one
@@ -45,12 +51,28 @@ pub place_row : script_in (text_of (first_line ∷ codes "client" ∷ [])) ≡ E
 unfolding form_in head_in
 place_row = refl
 
+-- version 2 tells its strategy, 1 or 2, behind the first line, and version 1 has no such line
+abbrev second_version : List ℕ
+second_version = reading.first_line version.Two
+
+pub strategy_missing_row : script_in (text_of (second_version ∷ codes "queues 1" ∷ [])) ≡ Err (Bad 2 3)
+unfolding form_in head_in
+strategy_missing_row = refl
+
+pub third_strategy_row : script_in (text_of (second_version ∷ codes "strategy 3" ∷ [])) ≡ Err (Bad 2 5)
+unfolding form_in head_in strategy_line_in
+third_strategy_row = refl
+
+pub strategy_too_early_row : script_in (text_of (first_line ∷ codes "strategy 1" ∷ [])) ≡ Err (Bad 2 3)
+unfolding form_in head_in
+strategy_too_early_row = refl
+
 -- two queues, a topic, a publisher of it and a client
 abbrev opening : List Line
 opening = lines.Queues 2 ∷ lines.Topic (codes "A") ∷ lines.Publisher 0 [] ∷ lines.Recap ∷ lines.Recap ∷ lines.Client ∷ []
 
 abbrev opened : Before
-opened = behind start opening
+opened = behind (start version.One) opening
 
 -- queue 1 is there, queue 2 is not, nor is topic 1; the topic's fault comes with a subscription's first
 pub queue_row : flaw opened (lines.Inbox (Number 1)) ≡ None

@@ -43,6 +43,7 @@ IsSmall _ = Unit {0}
 
 -- where the next line stands
 abbrev pub place_behind : Place → Line → Place
+place_behind place (lines.Strategy strategy) = places.Start
 place_behind place (lines.Queues queues) = places.Topics
 place_behind place (lines.Topic name) = place
 place_behind place (lines.Publisher topic base) = places.Publisher

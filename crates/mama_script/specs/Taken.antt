@@ -13,7 +13,7 @@ taken_lines (Other line) = line ∷ []
 
 -- the script that has these parts
 abbrev pub script_of_parts : Parts → ScriptData
-script_of_parts parts = record { shape = parts.shape; topics = parts.topics.items; publishers = parts.publishers.items; clients = parts.clients.items }
+script_of_parts parts = record { version = parts.version; shape = parts.shape; topics = parts.topics.items; publishers = parts.publishers.items; clients = parts.clients.items }
 
 abbrev pub parts_lines : Parts → List Line
 parts_lines parts = lines_of (script_of_parts parts)

@@ -2,7 +2,11 @@
 use Rattle.std.specs.Prelude.{◌≡◌, ℕ, List, [], ◌∷◌, ◌++◌, length, map}
 use Rattle.std.specs.List.{flat_map}
 use Rattle.mama_event.specs.declared.order.PlanRow.{PlanRow}
+use Rattle.mama_event.specs.declared.shape.Strategy.{Strategy}
+use Rattle.mama_event.specs.declared.shape.Strategy.TheVariants as strategy
 use Rattle.mama_link.specs.declared.faults.FaultRow.{FaultRow}
+use Rattle.mama_words.specs.declared.version.Version.{Version}
+use Rattle.mama_words.specs.declared.version.Version.TheVariants as version
 use Rattle.mama_words.specs.Order.{word_of}
 use Rattle.mama_script.specs.declared.line.QueueName.{QueueName}
 use Rattle.mama_script.specs.declared.line.QueueName.TheVariants as names
@@ -58,9 +62,18 @@ client_lines client = lines.Client ∷ flat_map step_lines client
 abbrev pub topic_line : List ℕ → Line
 topic_line name = lines.Topic name
 
+-- version 2 tells its strategy
+abbrev pub strategy_lines : Version → Strategy → List Line
+strategy_lines version.One strategy = []
+strategy_lines version.Two strategy = lines.Strategy strategy ∷ []
+
+-- the queues, the topics and the sections
+abbrev pub body_lines : ScriptData → List Line
+body_lines s = lines.Queues s.shape.bounds.queues ∷ (map topic_line s.topics ++ (flat_map publisher_lines s.publishers ++ flat_map client_lines s.clients))
+
 -- the lines of a script behind the first
 abbrev pub lines_of : ScriptData → List Line
-lines_of s = lines.Queues s.shape.bounds.queues ∷ (map topic_line s.topics ++ (flat_map publisher_lines s.publishers ++ flat_map client_lines s.clients))
+lines_of s = strategy_lines s.version s.shape.strategy ++ body_lines s
 
 -- the one text of a script
 abbrev pub script_text : ScriptData → List ℕ
@@ -69,11 +82,17 @@ script_text s = spelling (lines_of s)
 abbrev pub topic_of_part : PublisherPart → ℕ
 topic_of_part part = part.topic
 
+-- a script of version 1 has the first strategy
+abbrev pub HasStrategy : Version → Strategy → Type 0
+HasStrategy version.One s = s ≡ strategy.One
+HasStrategy version.Two s = Unit {0}
+
 -- the shape of a script counts what the script has
 pub record IsShaped (s : ScriptData) : Type 0 where
   pub clients : s.shape.clients ≡ length s.clients
   pub topics : s.shape.bounds.topics ≡ length s.topics
   pub publishers : s.shape.publisher_topics ≡ map topic_of_part s.publishers
+  pub strategy : HasStrategy s.version s.shape.strategy
 
 -- a script that a text spells
 pub record IsScript (s : ScriptData) : Type 0 where

@@ -8,7 +8,7 @@ use crate::fault::{Flaw, Refused};
 use crate::head::Place;
 use crate::line::{Line, QueueName};
 use mama_msg::Msg;
-use mama_words::OrderWord;
+use mama_words::{OrderWord, Version};
 use std::alloc::Global;
 use std::collections::{BTreeMap, BTreeSet};
 
@@ -62,12 +62,12 @@ fn flaw_if(test: bool, flaw: Flaw) -> Result<(), Flaw>
 }
 
 impl Context {
-    /// Behind the first line.
-    pub fn new(alloc: Global) -> Context
-        ensures { seen result ≡ before.start }
+    /// Behind the first line of a version.
+    pub fn new(alloc: Global, version: Version) -> Context
+        ensures { seen result ≡ before.start version }
     {
         Context {
-            place: Place::Start,
+            place: Place::opening(version),
             queues: 0,
             topics: 0,
             publishers: 0,
@@ -98,6 +98,7 @@ impl Context {
         ensures refused { IfErr result (Refuses (before.flaw (seen self.old) line.now)) }
     {
         match line {
+            Line::Strategy(_) => self.admit_strategy(),
             Line::Queues(queues) => self.admit_queues(*queues),
             Line::Topic(_) => self.admit_topic(),
             Line::Publisher { topic, base } => self.admit_publisher(*topic, base),
@@ -118,6 +119,14 @@ impl Context {
             Line::At { call, order } => self.admit_at(*call, order),
             Line::Order(order) => self.admit_order(order),
         }
+    }
+
+    fn admit_strategy(&mut self) -> Result<(), Refused>
+        ensures after { OnOk result (seen self.new ≡ before.after_strategy (seen self.old)) }
+        ensures refused { IfErr result (Refuses None) }
+    {
+        self.place = Place::Start;
+        Ok(())
     }
 
     fn admit_queues(&mut self, queues: u64) -> Result<(), Refused>

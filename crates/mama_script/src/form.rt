@@ -9,8 +9,8 @@ use crate::head::{Head, Place, read_head};
 use crate::line::{Line, QueueName};
 use mama_link::{Fault, FaultRow};
 use mama_words::{
-    ReadError, parted, read_between, read_message, read_number, read_order, read_sub_kind,
-    read_text,
+    Nums, ReadError, parted, read_between, read_message, read_number, read_order, read_strategy,
+    read_sub_kind, read_text,
 };
 use std::alloc::Global;
 
@@ -50,6 +50,7 @@ fn read_body(alloc: Global, head: Head, words: &[&[u8]]) -> Result<Line, ReadErr
     ensures { Gives (λ l. l) result (forms.body_in head (map (λ w. w.now) words.now)) }
 {
     match head {
+        Head::Strategy => read_strategy_line(words),
         Head::Queues => read_queues(words),
         Head::Topic => read_topic(alloc, words),
         Head::Publisher => read_publisher(alloc, words),
@@ -108,6 +109,19 @@ fn read_queue(word: &[u8]) -> Option<QueueName>
     }
 }
 
+#[tactic(auto, unfolding(crate::specs::Form::strategy_line_in))]
+fn read_strategy_line(words: &[&[u8]]) -> Result<Line, ReadError>
+    ensures { Gives (λ l. l) result (forms.strategy_line_in (map (λ w. w.now) words.now)) }
+{
+    match words {
+        [_, word] => {
+            let strategy = read_strategy(word).ok_or(ReadError::Fault(5))?;
+            Ok(Line::Strategy(strategy))
+        }
+        _ => Err(ReadError::Fault(4)),
+    }
+}
+
 #[tactic(auto, unfolding(crate::specs::Form::queues_in))]
 fn read_queues(words: &[&[u8]]) -> Result<Line, ReadError>
     ensures { Gives (λ l. l) result (forms.queues_in (map (λ w. w.now) words.now)) }
@@ -144,7 +158,7 @@ fn read_publisher(alloc: Global, words: &[&[u8]]) -> Result<Line, ReadError>
     match words {
         [_, topic, fields @ ..] => {
             let topic = read_number(topic).ok_or(ReadError::Fault(5))?;
-            let base = read_message(alloc, fields)?;
+            let base = read_message(alloc, Nums::Unknown, fields)?;
             Ok(Line::Publisher { topic, base })
         }
         _ => Err(ReadError::Fault(4)),
@@ -157,7 +171,7 @@ fn read_update(alloc: Global, words: &[&[u8]]) -> Result<Line, ReadError>
 {
     match words {
         [_, fields @ ..] => {
-            let update = read_message(alloc, fields)?;
+            let update = read_message(alloc, Nums::Unknown, fields)?;
             Ok(Line::Update(update))
         }
         _ => Err(ReadError::Fault(4)),

@@ -2,10 +2,14 @@ ghost use Rattle.std.specs.Prelude.{◌≡◌};
 ghost use Rattle.mama_words.specs.Named.{named_in};
 ghost use Rattle.mama_script.specs.Head as words;
 ghost use Rattle.mama_script.specs.HeadText.{head_text};
+ghost use Rattle.mama_script.specs.Before.{opening};
+
+use mama_words::Version;
 
 /// The first word of a line.
 #[derive(Clone, Copy, Debug, PartialEq, Eq)]
 pub enum Head {
+    Strategy,
     Queues,
     Topic,
     Publisher,
@@ -28,7 +32,9 @@ pub enum Head {
 /// Where a line stands, by the lines before it.
 #[derive(Clone, Copy, Debug, PartialEq, Eq)]
 pub enum Place {
-    /// Behind the first line.
+    /// Behind the first line of version 2.
+    Strategy,
+    /// Behind the first line of version 1, or the strategy.
     Start,
     /// Behind the queues, or a topic.
     Topics,
@@ -43,7 +49,8 @@ pub enum Place {
 }
 
 impl Head {
-    const ALL: [Head; 17] = [
+    const ALL: [Head; 18] = [
+        Head::Strategy,
         Head::Queues,
         Head::Topic,
         Head::Publisher,
@@ -68,6 +75,7 @@ impl Head {
         ensures { result.now ≡ head_text self }
     {
         match self {
+            Head::Strategy => b"strategy",
             Head::Queues => b"queues",
             Head::Topic => b"topic",
             Head::Publisher => b"publisher",
@@ -108,6 +116,15 @@ pub fn read_head(word: &[u8]) -> Option<Head>
     ensures { result ≡ words.head_in word.now }
 {
     named(word, &Head::ALL)
+}
+
+fn is_strategy(head: Head) -> bool
+    ensures { result ≡ words.is_strategy head }
+{
+    match head {
+        Head::Strategy => true,
+        _ => false,
+    }
 }
 
 fn is_opening(head: Head) -> bool
@@ -166,11 +183,22 @@ fn follows_link(head: Head) -> bool
 }
 
 impl Place {
+    /// Where the line behind the first stands.
+    pub fn opening(version: Version) -> Place
+        ensures { result ≡ opening version }
+    {
+        match version {
+            Version::One => Place::Start,
+            Version::Two => Place::Strategy,
+        }
+    }
+
     /// Whether a line that begins so may stand here.
     pub fn allows(self, head: Head) -> bool
         ensures { result ≡ words.allows self head }
     {
         match self {
+            Place::Strategy => is_strategy(head),
             Place::Start => is_opening(head),
             Place::Topics => follows_topic(head),
             Place::Publisher => follows_publisher(head),
@@ -185,7 +213,7 @@ impl Place {
         ensures { result ≡ words.may_end self }
     {
         match self {
-            Place::Start | Place::Topics | Place::Publisher => false,
+            Place::Strategy | Place::Start | Place::Topics | Place::Publisher => false,
             Place::Client | Place::Linked | Place::Planned => true,
         }
     }

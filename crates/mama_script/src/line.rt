@@ -1,4 +1,4 @@
-use mama_event::SubKind;
+use mama_event::{Strategy, SubKind};
 use mama_link::FaultRow;
 use mama_msg::{Msg, TextValue};
 use mama_words::OrderWord;
@@ -13,6 +13,7 @@ pub enum QueueName {
 /// A line of a script by its own form, apart from what other lines say.
 #[derive(Drop)]
 pub enum Line {
+    Strategy(Strategy),
     Queues(u64),
     Topic(TextValue),
     Publisher {

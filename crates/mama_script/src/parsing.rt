@@ -17,7 +17,7 @@ use crate::line::Line;
 use crate::names::first_unnamed;
 use crate::script::Script;
 use crate::tree::{Parts, parts_of};
-use mama_words::{ReadError, cut_at};
+use mama_words::{ReadError, Version, cut_at};
 use std::alloc::Global;
 
 /// The script that a text spells, or the first line that has a fault or passes a limit. An object that is not in the
@@ -63,24 +63,34 @@ fn read_lines(alloc: Global, text: &[u8]) -> Result<Vec<Line>, ScriptFault>
     ensures few { IfOk result (λ v. length v.items + 2 < 2 ^ 64) }
 {
     match cut_at(b'\n', text) {
-        Some((first, rest)) => {
-            if first == b"mama script 1".as_slice() {
-                read_rest(alloc, rest)
-            } else {
-                Err(ScriptFault::Bad { line: 1, fault: 1 })
-            }
-        }
+        Some((first, rest)) => match read_version(first) {
+            Some(version) => read_rest(alloc, version, rest),
+            None => Err(ScriptFault::Bad { line: 1, fault: 1 }),
+        },
         None => Err(ScriptFault::Bad { line: 1, fault: 1 }),
     }
 }
 
-fn read_rest(alloc: Global, text: &[u8]) -> Result<Vec<Line>, ScriptFault>
+// The version that a first line says.
+fn read_version(line: &[u8]) -> Option<Version>
+    ensures { result ≡ reading.version_in line.now }
+{
+    if line == b"mama script 1".as_slice() {
+        Some(Version::One)
+    } else if line == b"mama script 2".as_slice() {
+        Some(Version::Two)
+    } else {
+        None
+    }
+}
+
+fn read_rest(alloc: Global, version: Version, text: &[u8]) -> Result<Vec<Line>, ScriptFault>
     requires { length text.now + 2 < 2 ^ 64 }
-    ensures exact { Gives (λ v. v.items) result (reading.read_from before.start 2 (pieces 10 text.now)) }
+    ensures exact { Gives (λ v. v.items) result (reading.read_from (before.start version) 2 (pieces 10 text.now)) }
     ensures few { IfOk result (λ v. length v.items ≤ length text.now) }
 {
     let mut lines = Vec::new(alloc);
-    let mut context = Context::new(alloc);
+    let mut context = Context::new(alloc, version);
     let mut number = 2u64;
     let mut rest = text;
     while let Some((line, after)) = cut_at(b'\n', rest) {

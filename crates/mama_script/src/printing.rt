@@ -5,6 +5,7 @@ ghost use Rattle.mama_edge.specs.Decimal.{decimal};
 ghost use Rattle.mama_words.specs.Sentence.{spaced};
 ghost use Rattle.mama_words.specs.Order.{word_of};
 ghost use Rattle.mama_script.specs.Line.{ended, queue_text};
+ghost use Rattle.mama_script.specs.Reading.{first_line};
 ghost use Rattle.mama_script.specs.declared.line.Line.TheVariants as lines;
 ghost use Rattle.mama_script.specs.Tree as tree;
 ghost use Rattle.mama_script.specs.Text as texts;
@@ -14,11 +15,11 @@ use crate::plan::Plan;
 use crate::publisher::{PublisherLine, PublisherPart};
 use crate::script::Script;
 use mama_edge::{print_quoted, print_u64};
-use mama_event::{Order, PlanRow, SubKind};
+use mama_event::{Order, PlanRow, Strategy, SubKind};
 use mama_link::{Fault, FaultRow};
 use mama_memory::OutOfMemory;
 use mama_msg::{Msg, TextValue};
-use mama_words::{print_fields, print_order, print_sub_kind};
+use mama_words::{Version, print_fields, print_order, print_strategy, print_sub_kind};
 use std::alloc::Global;
 
 /// The one text that is read as this script.
@@ -26,12 +27,41 @@ pub fn print(alloc: Global, script: &Script) -> Result<Vec<u8>, OutOfMemory>
     ensures { IfOk result (λ text. text.items ≡ tree.script_text script.now) }
 {
     let mut out = Vec::new(alloc);
-    out.extend_from_slice(b"mama script 1\n")?;
+    put_first_line(script.version(), &mut out)?;
+    put_strategy(script.version(), script.shape().strategy, &mut out)?;
     put_queues(script.shape().bounds.queues, &mut out)?;
     put_topics(script.topics(), &mut out)?;
     put_publishers(script.publishers(), &mut out)?;
     put_clients(script.clients(), &mut out)?;
     Ok(out)
+}
+
+fn put_first_line(version: Version, out: &mut Vec<u8>) -> Result<(), OutOfMemory>
+    ensures { OnOk result (out.new.items ≡ out.old.items ++ (first_line version ++ 10 ∷ [])) }
+{
+    match version {
+        Version::One => Ok(out.extend_from_slice(b"mama script 1\n")?),
+        Version::Two => Ok(out.extend_from_slice(b"mama script 2\n")?),
+    }
+}
+
+// The line that tells the strategy, which version 1 has not.
+fn put_strategy(version: Version, strategy: Strategy, out: &mut Vec<u8>) -> Result<(), OutOfMemory>
+    ensures { OnOk result (out.new.items ≡ out.old.items ++ flat_map ended (tree.strategy_lines version strategy)) }
+{
+    match version {
+        Version::One => Ok(()),
+        Version::Two => put_strategy_line(strategy, out),
+    }
+}
+
+fn put_strategy_line(strategy: Strategy, out: &mut Vec<u8>) -> Result<(), OutOfMemory>
+    ensures { OnOk result (out.new.items ≡ out.old.items ++ flat_map ended (lines.Strategy strategy ∷ [])) }
+{
+    out.extend_from_slice(b"strategy ")?;
+    print_strategy(strategy, out)?;
+    out.push(b'\n')?;
+    Ok(())
 }
 
 fn put_queues(queues: u32, out: &mut Vec<u8>) -> Result<(), OutOfMemory>

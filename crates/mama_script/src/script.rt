@@ -6,6 +6,7 @@ use crate::publisher::PublisherPart;
 use crate::tree::Parts;
 use mama_event::Shape;
 use mama_msg::TextValue;
+use mama_words::Version;
 use std::marker::Model;
 
 // Whether two shapes count the same.
@@ -15,11 +16,13 @@ fn same_shape(a: &Shape, b: &Shape) -> bool
     a.clients == b.clients
         && a.publisher_topics.as_slice() == b.publisher_topics.as_slice()
         && a.bounds == b.bounds
+        && a.strategy == b.strategy
 }
 
 /// A script: how many actors there are, and what each does. It always is the value of a text that is accepted.
 #[derive(Drop)]
 pub struct Script {
+    version: Version,
     shape: Shape,
     topics: Vec<TextValue>,
     publishers: Vec<PublisherPart>,
@@ -33,9 +36,9 @@ impl Model for Script {
 
     ghost use Rattle.mama_script.specs.Tree.{IsScript};
 
-    ghost view = { λ s. record { shape = s.shape; topics = s.topics.items; publishers = s.publishers.items; clients = s.clients.items } };
+    ghost view = { λ s. record { version = s.version; shape = s.shape; topics = s.topics.items; publishers = s.publishers.items; clients = s.clients.items } };
 
-    ghost invariant = { λ s. IsScript (record { shape = s.shape; topics = s.topics.items; publishers = s.publishers.items; clients = s.clients.items }) };
+    ghost invariant = { λ s. IsScript (record { version = s.version; shape = s.shape; topics = s.topics.items; publishers = s.publishers.items; clients = s.clients.items }) };
 }
 
 impl PartialEq for Script {
@@ -50,7 +53,8 @@ impl PartialEq for Script {
     fn eq(&self, other: &Script) -> bool
         ensures { result ≡ same_script self.now other.now }
     {
-        same_shape(&self.shape, &other.shape)
+        self.version == other.version
+            && same_shape(&self.shape, &other.shape)
             && self.topics == other.topics
             && self.publishers == other.publishers
             && self.clients == other.clients
@@ -74,12 +78,14 @@ impl Script {
         ensures { result ≡ script_of_parts parts }
     {
         let Parts {
+            version,
             shape,
             topics,
             publishers,
             clients,
         } = parts;
         Script {
+            version,
             shape,
             topics,
             publishers,
@@ -95,6 +101,13 @@ impl Script {
         ensures within { IsWithin self.now }
     {
         &self.shape
+    }
+
+    /// The version of its text. A script of version 1 has the first strategy.
+    pub fn version(&self) -> Version
+        ensures { result ≡ self.now.version }
+    {
+        self.version
     }
 
     /// The names of the topics, in order of the topics' numbers.

@@ -6,7 +6,8 @@ ghost use Rattle.mama_words.specs.Id.{sub_word, timer_word, inbox_word};
 ghost use Rattle.mama_script.specs.Tree as tree;
 ghost use Rattle.mama_script.specs.Taken as taken;
 ghost use Rattle.mama_link.specs.Faults.{first_fault};
-ghost use Rattle.mama_script.specs.Reading.{AreAccepted};
+ghost use Rattle.mama_script.specs.Reading.{AreAccepted, version_of};
+ghost use Rattle.mama_script.specs.Before.{opening};
 ghost use Rattle.mama_script.specs.Standing as standing;
 
 use crate::client::{ClientLine, ClientLines, QueueWord};
@@ -14,17 +15,18 @@ use crate::head::Place;
 use crate::line::{Line, QueueName};
 use crate::plan::Plan;
 use crate::publisher::{PublisherLine, PublisherLines, PublisherPart};
-use mama_event::{Bounds, InboxId, Order, PlanRow, Shape, SubId, TimerId, Topics};
+use mama_event::{Bounds, InboxId, Order, PlanRow, Shape, Strategy, SubId, TimerId, Topics};
 use mama_link::{FaultRow, Faults, FaultsFault};
 use mama_memory::OutOfMemory;
 use mama_msg::{Msg, TextValue};
-use mama_words::{IdWord, OrderWord};
+use mama_words::{IdWord, OrderWord, Version};
 use std::alloc::Global;
 use std::collections::VecDeque;
 
 /// The parts of a script.
 #[derive(Drop)]
 pub struct Parts {
+    pub version: Version,
     pub shape: Shape,
     pub topics: Vec<TextValue>,
     pub publishers: Vec<PublisherPart>,
@@ -39,12 +41,14 @@ pub fn parts_of(alloc: Global, lines: Vec<Line>) -> Result<Parts, OutOfMemory>
     ensures shaped { IfOk result (λ parts. tree.IsShaped (taken.script_of_parts parts)) }
 {
     let mut lines = VecDeque::from(lines);
+    let (version, strategy) = take_strategy(&mut lines);
     let queues = take_queues(&mut lines);
     let topics = take_topics(alloc, &mut lines)?;
     let publishers = take_publishers(alloc, &mut lines)?;
     let clients = take_clients(alloc, &mut lines)?;
-    let shape = shape_of(alloc, queues, &topics, &publishers, &clients)?;
+    let shape = shape_of(alloc, queues, strategy, &topics, &publishers, &clients)?;
     Ok(Parts {
+        version,
         shape,
         topics,
         publishers,
@@ -55,6 +59,7 @@ pub fn parts_of(alloc: Global, lines: Vec<Line>) -> Result<Parts, OutOfMemory>
 fn shape_of(
     alloc: Global,
     queues: u32,
+    strategy: Strategy,
     topics: &[TextValue],
     publishers: &[PublisherPart],
     clients: &[ClientLines],
@@ -65,6 +70,7 @@ fn shape_of(
     ensures topics { IfOk result (λ shape. shape.bounds.topics ≡ length topics.now) }
     ensures publishers { IfOk result (λ shape. shape.publisher_topics ≡ map tree.topic_of_part publishers.now) }
     ensures clients { IfOk result (λ shape. shape.clients ≡ length clients.now) }
+    ensures strategy { IfOk result (λ shape. shape.strategy ≡ strategy) }
 {
     let publisher_topics = topics_of(alloc, publishers)?;
     Ok(Shape {
@@ -74,6 +80,7 @@ fn shape_of(
             topics: topics.len() as u32,
             queues,
         },
+        strategy,
     })
 }
 
@@ -85,6 +92,23 @@ fn topics_of(alloc: Global, publishers: &[PublisherPart]) -> Result<Vec<u32>, Ou
         topics.push(part.topic)?;
     }
     Ok(topics)
+}
+
+// The version that has these lines, and its strategy.
+fn take_strategy(lines: &mut VecDeque<Line>) -> (Version, Strategy)
+    requires { standing.Stand (opening (version_of lines.now.items)) [] lines.now.items }
+    ensures lines { lines.old.items ≡ tree.strategy_lines result.0 result.1 ++ lines.new.items }
+    ensures strategy { tree.HasStrategy result.0 result.1 }
+    ensures rest { standing.Stand Place.Start [] lines.new.items }
+{
+    match lines.front() {
+        Some(Line::Strategy(strategy)) => {
+            let strategy = *strategy;
+            lines.pop_front();
+            (Version::Two, strategy)
+        }
+        _ => (Version::One, Strategy::One),
+    }
 }
 
 fn take_queues(lines: &mut VecDeque<Line>) -> u32

@@ -1,7 +1,8 @@
 use crate::rows::{has_fields, message};
 use mama_memory::OutOfMemory;
 use mama_msg::{
-    AddFault, BytesValue, Duplicate, Field, GetFault, Msg, Name, Price, TextValue, Value,
+    AddFault, BytesValue, Duplicate, Field, GetFault, Msg, Name, NumbersValue, Price, TextValue,
+    Value,
 };
 use std::alloc::Global;
 use std::test::Fail;
@@ -100,6 +101,18 @@ fn bytes_and_prices_at_their_limits(rt: HostRuntime) -> Result<(), Fail> {
     assert!(rt; BytesValue::new(alloc, &[0xff; 256])?.is_none());
     assert!(rt; Price::new(-1250, 18).is_some());
     assert!(rt; Price::new(-1250, 19).is_none());
+    Ok(())
+}
+
+#[test]
+fn numbers_at_their_limits(rt: HostRuntime) -> Result<(), Fail> {
+    let alloc = rt.alloc();
+    let most = NumbersValue::new(alloc, &[-1; 24])?.ok_or("a list of numbers")?;
+    assert!(rt; most.numbers() == [-1; 24].as_slice());
+    assert!(rt; most.try_clone()? == most);
+    assert!(rt; NumbersValue::new(alloc, &[-1; 23])?.is_some_and(|fewer| fewer != most));
+    assert!(rt; NumbersValue::new(alloc, &[])?.is_some());
+    assert!(rt; NumbersValue::new(alloc, &[-1; 25])?.is_none());
     Ok(())
 }
 
@@ -216,8 +229,9 @@ fn numbers_at_the_ends_of_the_types(rt: HostRuntime) -> Result<(), Fail> {
     Ok(())
 }
 
-// Which of the getters of numbers, truth, text and price do not answer that the type of field 7 is wrong.
-fn readers(msg: &Msg) -> [char; 4] {
+// Which of the getters of a number, truth, text, price and a list of numbers do not answer that the type of field 7 is
+// wrong.
+fn readers(msg: &Msg) -> [char; 5] {
     let none = Name::default();
     let known = |is_wrong: bool| -> char { if is_wrong { 't' } else { 'y' } };
     [
@@ -225,17 +239,20 @@ fn readers(msg: &Msg) -> [char; 4] {
         known(msg.get_bool(&none, 7) == Err(GetFault::WrongType)),
         known(msg.get_text(&none, 7) == Err(GetFault::WrongType)),
         known(msg.get_price(&none, 7) == Err(GetFault::WrongType)),
+        known(msg.get_numbers(&none, 7) == Err(GetFault::WrongType)),
     ]
 }
 
-const TYPES: &str = "yttt 7:n:u8:1
-tytt 7:n:bool:true
-tttt 7:n:char:1
-ttyt 7:n:text:\"1\"
-tttt 7:n:bytes:x00ff
-ttty 7:n:price:-1250/2
-tttt 7:n:moment:1
-yyyy 8:n:u8:1";
+const TYPES: &str = "ytttt 7:n:u8:1
+ytttt 7:n:i64:1
+tyttt 7:n:bool:true
+ttttt 7:n:char:1
+ttytt 7:n:text:\"1\"
+ttttt 7:n:bytes:x00ff
+tttyt 7:n:price:-1250/2
+ttttt 7:n:moment:1
+tttty 7:n:nums:[1]
+yyyyy 8:n:u8:1";
 
 #[test]
 fn each_type_has_its_getter(rt: HostRuntime) -> Result<(), Fail> {
@@ -254,7 +271,10 @@ fn each_type_has_its_getter(rt: HostRuntime) -> Result<(), Fail> {
 #[test]
 fn getters_give_what_the_field_has(rt: HostRuntime) -> Result<(), Fail> {
     let none = Name::default();
-    let msg = message(rt.alloc(), "1::bool:true 3::text:\"1\" 5::price:-1250/2")?;
+    let msg = message(
+        rt.alloc(),
+        "1::bool:true 3::text:\"1\" 5::price:-1250/2 7::nums:[1,-2]",
+    )?;
     assert_eq!(rt; msg.get_bool(&none, 1), Ok(true));
     assert!(rt; msg.get_text(&none, 3) == Ok(b"1".as_slice()));
     assert_eq!(rt;
@@ -262,6 +282,9 @@ fn getters_give_what_the_field_has(rt: HostRuntime) -> Result<(), Fail> {
         Ok(Price::new(-1250, 2).ok_or("a price")?)
     );
     assert_eq!(rt; msg.get_price(&none, 2), Err(GetFault::NotFound));
+    assert!(rt; msg.get_numbers(&none, 7) == Ok([1, -2].as_slice()));
+    assert!(rt; msg.get_numbers(&none, 9) == Err(GetFault::NotFound));
+    assert_eq!(rt; msg.get_i64(&none, 7), Err(GetFault::WrongType));
     Ok(())
 }
 

@@ -1,5 +1,5 @@
 use crate::rows::has_fields;
-use crate::vectors::{CASES, ROWS};
+use crate::vectors::{CASES, NUMBERS, ROWS};
 use mama_msg::{Field, Msg, Name, Value};
 use mama_payload::{DecodeFault, EncodeFault, decode, encode};
 use std::alloc::{AllocError, Global};
@@ -31,6 +31,7 @@ fn word_of(fault: DecodeFault) -> (&'static str, usize) {
         DecodeFault::BadText { at } => ("BadText", at),
         DecodeFault::Repeated { at } => ("Repeated", at),
         DecodeFault::TooMany { at } => ("TooMany", at),
+        DecodeFault::OldForm { at } => ("OldForm", at),
         DecodeFault::Trailing { at } => ("Trailing", at),
         DecodeFault::OutOfMemory => ("memory", 0),
     }
@@ -66,7 +67,7 @@ fn is_so(alloc: Global, row: &str) -> Result<bool, Fail> {
 
 #[test]
 fn payloads_are_read_and_written(rt: HostRuntime) -> Result<(), Fail> {
-    for (rows, count) in [(ROWS, 75), (CASES, 399)] {
+    for (rows, count) in [(ROWS, 75), (CASES, 399), (NUMBERS, 28)] {
         for row in rows.lines() {
             assert!(rt; is_so(rt.alloc(), row)?, "{row}");
         }

@@ -1,7 +1,7 @@
 //! What rows of tables stand for: numbers, and messages of fields as scripts write them.
 
 use mama_msg::Msg;
-use mama_words::{parted, print_fields, read_message};
+use mama_words::{Nums, parted, print_fields, read_message};
 use std::alloc::Global;
 use std::test::Fail;
 
@@ -22,7 +22,7 @@ pub fn message(alloc: Global, text: &str) -> Result<Msg, Fail> {
         return Ok(Msg::new(alloc));
     }
     let words = parted(alloc, text.as_bytes())?;
-    Ok(read_message(alloc, &words)?)
+    Ok(read_message(alloc, Nums::Known, &words)?)
 }
 
 /// The fields of a message, each after a space.

@@ -1,6 +1,6 @@
 use crate::orderer::Orderer;
 use mama_dispatch::{Listener, ObjectId, Order, QueueNote, Serving, ToQueue, ToService, Turn};
-use mama_event::{Make, MarketMsg, MsgKind, SubId, SubKind};
+use mama_event::{Make, MarketMsg, MsgKind, Strategy, SubId, SubKind};
 use mama_memory::Outbox;
 use mama_msg::Msg;
 use std::alloc::Global;
@@ -15,7 +15,11 @@ fn made(number: u32, kind: SubKind) -> ToQueue<Orderer> {
     ToQueue::Create {
         slot: number,
         object: ObjectId::Sub(sub(number)),
-        make: Make::Sub { kind, cache: 4 },
+        make: Make::Sub {
+            kind,
+            cache: 4,
+            strategy: Strategy::One,
+        },
         listener: Orderer {
             tag: ObjectId::Sub(sub(number)),
             count: 0,
@@ -141,8 +145,8 @@ fn a_queue_that_took_nothing_has_no_notes(rt: HostRuntime) -> Result<(), Fail> {
 #[test]
 fn callbacks_are_taken_object_by_object(rt: HostRuntime) -> Result<(), Fail> {
     let (taken, mut callbacks) = four(rt.alloc())?.into_callbacks();
-    assert_eq!(rt; taken.len(), 11);
-    let wanted: [(u32, usize); 5] = [(2, 3), (0, 3), (3, 2), (4, 0), (1, 3)];
+    assert_eq!(rt; taken.len(), 12);
+    let wanted: [(u32, usize); 5] = [(2, 3), (0, 7), (3, 2), (4, 0), (1, 3)];
     for (number, count) in wanted {
         let object = ObjectId::Sub(sub(number));
         assert_eq!(rt; callbacks.take(&object).len(), count);

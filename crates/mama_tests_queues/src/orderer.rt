@@ -90,6 +90,10 @@ impl Listener for Orderer {
         self.answer(orders);
     }
 
+    fn on_late(&mut self, sender: u32, seq: u32, orders: &mut Orders) {
+        self.answer(orders);
+    }
+
     fn on_error(&mut self, code: u8, orders: &mut Orders) {
         self.answer(orders);
     }

@@ -4,7 +4,8 @@ use mama_dispatch::{
     ImageHead, Listener, ObjectId, Order, Orders, Serving, ToQueue, ToService, Turn,
 };
 use mama_event::{
-    Make, MarketMsg, MsgKind, PlanRow, Quality, SubId, SubKind, Tagged, TimerId, ToBridge, ToTimers,
+    Make, MarketMsg, MsgKind, PlanRow, Quality, Strategy, SubId, SubKind, Tagged, TimerId,
+    ToBridge, ToTimers,
 };
 use mama_listener::{PlanListener, has_few_rows};
 use mama_memory::Outbox;
@@ -41,7 +42,11 @@ fn create(
     Ok(ToQueue::Create {
         slot: 0,
         object: OBJECT,
-        make: Make::Sub { kind, cache: 4 },
+        make: Make::Sub {
+            kind,
+            cache: 4,
+            strategy: Strategy::One,
+        },
         listener: PlanListener::new(alloc, OBJECT, plan),
     })
 }
@@ -189,6 +194,7 @@ fn quiet() -> ToQueue<Orderer> {
         make: Make::Sub {
             kind: SubKind::Basic,
             cache: 0,
+            strategy: Strategy::One,
         },
         listener: orderer(OBJECT, Order::Stop(SUB), 0, 0),
     }

@@ -1,6 +1,6 @@
 use mama_dq::{
-    Action, Callback, Calls, DqContext, MarketMsg, Msg, MsgKind, Phase, Quality, Relation, SubKind,
-    decide,
+    Action, Callback, Calls, DqContext, MarketMsg, Msg, MsgKind, Phase, Quality, Relation,
+    Strategy, SubKind, decide,
 };
 use mama_msg::{Field, Name, Value};
 use std::alloc::Global;
@@ -74,6 +74,9 @@ fn write_call(alloc: Global, text: &mut String, call: &Callback) -> Result<(), F
         }
         Callback::RecapRequest { sender } => {
             text.push_str(format!(in alloc; "request {sender}")?.as_str())?;
+        }
+        Callback::Late { sender, seq } => {
+            text.push_str(format!(in alloc; "late {sender} {seq}")?.as_str())?;
         }
         _ => text.push_str("other")?,
     }
@@ -153,64 +156,64 @@ fn step(
     Ok(())
 }
 
-// A market context with update 2 in its cache, one with an image at 5, or one that took update 7 after that.
-fn standing(alloc: Global, word: &str) -> Result<DqContext, Fail> {
-    let mut context = DqContext::new(alloc, SubKind::Market, 10);
-    let mut calls = Calls::new(alloc);
+// What a market context that stands so has taken: update 2 into its cache; an image at 5; update 7 after that; or, kept
+// past the image, update 8 before it.
+fn taken_by(word: &str) -> &'static str {
     if word == "await" {
-        step(
-            alloc,
-            &mut context,
-            &mut calls,
-            MsgKind::Update,
-            "1 2 102 0",
-        )?;
+        "update 1 2 102 0"
+    } else if word == "ok" {
+        "initial 1 5 105 0"
+    } else if word == "stale" {
+        "initial 1 5 105 0\nupdate 1 7 0 107"
+    } else if word == "kept" {
+        "update 1 8 0 108\ninitial 1 5 105 0"
     } else {
-        step(
-            alloc,
-            &mut context,
-            &mut calls,
-            MsgKind::Initial,
-            "1 5 105 0",
-        )?;
+        ""
     }
-    if word == "stale" {
-        step(
-            alloc,
-            &mut context,
-            &mut calls,
-            MsgKind::Update,
-            "1 7 0 107",
-        )?;
+}
+
+// A context with a cache of 10 that stands so.
+fn standing(alloc: Global, strategy: Strategy, word: &str) -> Result<DqContext, Fail> {
+    let mut context = DqContext::new(alloc, SubKind::Market, 10, strategy);
+    let mut calls = Calls::new(alloc);
+    for row in taken_by(word).lines() {
+        let (kind, rest) = row.split_once(' ').unwrap_or((row, ""));
+        step(alloc, &mut context, &mut calls, kind_of(kind), rest)?;
     }
     Ok(context)
 }
 
 // The context that a row begins, if it begins one: one that stands, or a new one of a kind with a cache.
-fn begun(alloc: Global, word: &str, rest: &str) -> Result<Option<DqContext>, Fail> {
+fn begun(
+    alloc: Global,
+    strategy: Strategy,
+    word: &str,
+    rest: &str,
+) -> Result<Option<DqContext>, Fail> {
     let (cache, _) = numbered(rest);
     if word == "new" {
-        Ok(Some(DqContext::new(alloc, SubKind::Market, cache)))
+        Ok(Some(DqContext::new(alloc, SubKind::Market, cache, strategy)))
     } else if word == "snapshot" {
-        Ok(Some(DqContext::new(alloc, SubKind::Snapshot, cache)))
+        Ok(Some(DqContext::new(alloc, SubKind::Snapshot, cache, strategy)))
     } else if word == "basic" {
-        Ok(Some(DqContext::new(alloc, SubKind::Basic, cache)))
-    } else if word == "await" || word == "ok" || word == "stale" {
-        Ok(Some(standing(alloc, word)?))
+        Ok(Some(DqContext::new(alloc, SubKind::Basic, cache, strategy)))
+    } else if taken_by(word) != "" {
+        Ok(Some(standing(alloc, strategy, word)?))
     } else {
         Ok(None)
     }
 }
 
-// Plays rows. Each begins a context, is a message for it, or says what it has told since it began, and its image.
-fn play(rt: &impl Abort, alloc: Global, rows: &str) -> Result<(), Fail> {
-    let mut context = DqContext::new(alloc, SubKind::Market, 0);
+// Plays rows with a strategy. Each begins a context, is a message for it, or says what it has told since it began, and
+// its image.
+fn play(rt: &impl Abort, alloc: Global, strategy: Strategy, rows: &str) -> Result<(), Fail> {
+    let mut context = DqContext::new(alloc, SubKind::Market, 0, strategy);
     let mut calls = Calls::new(alloc);
     for row in rows.lines() {
         let (word, rest) = row.split_once(' ').unwrap_or((row, ""));
         if word == "=" {
             assert_eq!(rt; told(alloc, &context, &mut calls)?.as_str(), rest);
-        } else if let Some(next) = begun(alloc, word, rest)? {
+        } else if let Some(next) = begun(alloc, strategy, word, rest)? {
             context = next;
         } else {
             step(alloc, &mut context, &mut calls, kind_of(word), rest)?;
@@ -316,7 +319,7 @@ initial 1 0 100 0
 
 #[test]
 fn each_cell_steps(rt: HostRuntime) -> Result<(), Fail> {
-    play(&rt, rt.alloc(), STEPS)
+    play(&rt, rt.alloc(), Strategy::One, STEPS)
 }
 
 // An update is lost, and the recap heals; an update comes after the next one; a cache of 10 drops the first five updates
@@ -404,7 +407,7 @@ initial 2 0 200 0
 
 #[test]
 fn lists_of_messages_are_told(rt: HostRuntime) -> Result<(), Fail> {
-    play(&rt, rt.alloc(), LISTS)
+    play(&rt, rt.alloc(), Strategy::One, LISTS)
 }
 
 const KINDS: &str = "new 10
@@ -427,14 +430,101 @@ update 1 1 101 0
 
 #[test]
 fn kinds_differ(rt: HostRuntime) -> Result<(), Fail> {
-    play(&rt, rt.alloc(), KINDS)
+    play(&rt, rt.alloc(), Strategy::One, KINDS)?;
+    play(&rt, rt.alloc(), Strategy::Two, KINDS)
+}
+
+// Of each cell in which the second strategy does something else, a message, and its callbacks and the image after it. Then:
+// a full cache had dropped 4, and all is told at the first gap; the kept updates close a gap, and the kept one of two with
+// one number counts; a kept update is used once; what an image message or the next update reaches is kept no more; another
+// sender's image and update drop what was kept; a late update helps to heal.
+const SECOND: &str = "await
+initial 1 1 101 0
+= msg initial 1 1 ok bid=101|image ok 1 1 bid=101|
+await
+initial 2 1 201 0
+= msg initial 2 1 ok bid=201|image ok 2 1 bid=201|
+ok
+update 1 5 0 105
+= late 1 5|image ok 1 5 bid=105|
+ok
+update 1 4 0 104
+= late 1 4|image ok 1 5 bid=105|
+stale
+update 1 7 107 0
+= late 1 7|image stale 1 7 bid=105 ask=107|
+stale
+update 1 6 106 0
+= late 1 6|image stale 1 7 bid=105 ask=107|
+recap 1 5 105 0
+= msg recap 1 5 ok bid=105|quality ok 7|image ok 1 7 bid=106 ask=107|
+kept
+update 1 5 0 105
+= late 1 5|image ok 1 5 bid=105|
+kept
+update 1 4 0 104
+= late 1 4|image ok 1 5 bid=105|
+kept
+update 1 7 0 107
+= gap 6 6|quality stale 5|request 1|msg update 1 7 stale ask=107|msg update 1 8 stale ask=108|image stale 1 8 bid=105 ask=108|
+kept
+update 1 9 109 0
+= gap 6 7|quality stale 5|request 1|msg update 1 8 stale ask=108|msg update 1 9 stale bid=109|image stale 1 9 bid=109 ask=108|
+kept
+update 1 6 0 106
+= msg update 1 6 ok ask=106|image ok 1 6 bid=105 ask=106|
+update 1 7 0 107
+= msg update 1 7 ok ask=107|image ok 1 7 bid=105 ask=107|
+update 1 9 109 0
+= msg update 1 8 ok ask=108|msg update 1 9 ok bid=109|image ok 1 9 bid=109 ask=108|
+update 1 11 111 0
+= gap 10 10|quality stale 9|request 1|msg update 1 11 stale bid=111|image stale 1 11 bid=111 ask=108|
+kept
+recap 1 4 104 0
+= image ok 1 5 bid=105|
+recap 1 7 107 0
+update 1 10 110 0
+= msg recap 1 7 ok bid=107|msg update 1 8 ok ask=108|gap 9 9|quality stale 8|request 1|msg update 1 10 stale bid=110|image stale 1 10 bid=110 ask=108|
+kept
+recap 1 8 108 0
+update 1 10 110 0
+= msg recap 1 8 ok bid=108|gap 9 9|quality stale 8|request 1|msg update 1 10 stale bid=110|image stale 1 10 bid=110|
+kept
+initial 2 3 203 0
+update 2 5 205 0
+= msg initial 2 3 ok bid=203|gap 4 4|quality stale 3|request 2|msg update 2 5 stale bid=205|image stale 2 5 bid=205|
+kept
+update 2 3 0 203
+recap 2 3 203 0
+= quality stale 5|request 2|msg update 2 3 stale ask=203|msg recap 2 3 ok bid=203|quality ok 3|image ok 2 3 bid=203|
+new 2
+update 1 4 4 0
+update 1 5 5 0
+update 1 6 6 0
+initial 1 3 3 0
+update 1 7 7 0
+recap 1 4 4 0
+recap 1 7 7 0
+update 1 6 6 0
+= msg initial 1 3 ok bid=3|gap 4 4|quality stale 3|request 1|msg update 1 5 stale bid=5|msg update 1 6 stale bid=6|msg update 1 7 stale bid=7|request 1|msg recap 1 7 ok bid=7|quality ok 7|late 1 6|image ok 1 7 bid=7|
+new 10
+update 1 11 11 0
+update 1 12 12 0
+initial 1 10 10 0
+update 1 12 0 12
+= msg initial 1 10 ok bid=10|msg update 1 11 ok bid=11|msg update 1 12 ok bid=12|image ok 1 12 bid=12|
+";
+
+#[test]
+fn the_second_strategy_keeps_early_updates(rt: HostRuntime) -> Result<(), Fail> {
+    play(&rt, rt.alloc(), Strategy::Two, SECOND)
 }
 
 #[test]
 fn the_largest_cache_drops_the_lowest_number(rt: HostRuntime) -> Result<(), Fail> {
     for (most, lines) in [(4096, 4097), (4097, 4100)] {
         let alloc = rt.alloc();
-        let mut context = DqContext::new(alloc, SubKind::Market, 4096);
+        let mut context = DqContext::new(alloc, SubKind::Market, 4096, Strategy::One);
         let mut calls = Calls::new(alloc);
         for seq in 1..=most {
             let msg = MarketMsg {
@@ -462,8 +552,14 @@ fn the_largest_cache_drops_the_lowest_number(rt: HostRuntime) -> Result<(), Fail
     Ok(())
 }
 
-#[test]
-fn each_cell_has_its_action(rt: HostRuntime) {
+// A row of a table: in a phase, the actions for updates or for image messages, next, same, old, ahead and other.
+fn has_actions(
+    rt: &impl Abort,
+    strategy: Strategy,
+    phase: Phase,
+    update: bool,
+    actions: [Action; 5],
+) {
     let relations = [
         Relation::Next,
         Relation::Same,
@@ -471,61 +567,38 @@ fn each_cell_has_its_action(rt: HostRuntime) {
         Relation::Ahead,
         Relation::Other,
     ];
-    let rows = [
-        (Phase::Await, false, [Action::Start; 5]),
-        (Phase::Await, true, [Action::Keep; 5]),
-        (
-            Phase::LiveOk,
-            false,
-            [
-                Action::Replace,
-                Action::Replace,
-                Action::Ignore,
-                Action::Replace,
-                Action::Adopt,
-            ],
-        ),
-        (
-            Phase::LiveOk,
-            true,
-            [
-                Action::Apply,
-                Action::Ignore,
-                Action::Ignore,
-                Action::Gap,
-                Action::Switch,
-            ],
-        ),
-        (
-            Phase::LiveStale,
-            false,
-            [
-                Action::Heal,
-                Action::Heal,
-                Action::Heal,
-                Action::Heal,
-                Action::Adopt,
-            ],
-        ),
-        (
-            Phase::LiveStale,
-            true,
-            [
-                Action::ApplyKeep,
-                Action::KeepOnly,
-                Action::KeepOnly,
-                Action::Gap,
-                Action::Switch,
-            ],
-        ),
-    ];
-    for (phase, update, actions) in rows {
-        for (i, action) in actions.iter().enumerate() {
-            assert_eq!(rt;
-                decide(phase, relations[i], update),
-                *action,
-                "{phase:?} {i} {update}"
-            );
-        }
+    for (i, action) in actions.iter().enumerate() {
+        assert_eq!(rt;
+            decide(strategy, phase, relations[i], update),
+            *action,
+            "{strategy:?} {phase:?} {i} {update}"
+        );
     }
+}
+
+// The actions of a row, by their names.
+macro_rules! row {
+    ($rt:expr, $strategy:ident $phase:ident $update:literal: $($action:ident)*) => {
+        has_actions($rt, Strategy::$strategy, Phase::$phase, $update, [$(Action::$action),*])
+    };
+}
+
+#[test]
+fn each_cell_has_its_action(rt: HostRuntime) {
+    row!(&rt, One Await false: Start Start Start Start Start);
+    row!(&rt, One Await true: Keep Keep Keep Keep Keep);
+    row!(&rt, One LiveOk false: Replace Replace Ignore Replace Adopt);
+    row!(&rt, One LiveOk true: Apply Ignore Ignore Gap Switch);
+    row!(&rt, One LiveStale false: Heal Heal Heal Heal Adopt);
+    row!(&rt, One LiveStale true: ApplyKeep KeepOnly KeepOnly Gap Switch);
+    row!(&rt, One LiveKept false: Replace Replace Ignore Replace Adopt);
+    row!(&rt, One LiveKept true: Apply Ignore Ignore Gap Switch);
+    row!(&rt, Two Await false: StartKeep StartKeep StartKeep StartKeep StartKeep);
+    row!(&rt, Two Await true: Keep Keep Keep Keep Keep);
+    row!(&rt, Two LiveOk false: Replace Replace Ignore Replace Adopt);
+    row!(&rt, Two LiveOk true: Apply Late Late Gap Switch);
+    row!(&rt, Two LiveStale false: Heal Heal Heal Heal Adopt);
+    row!(&rt, Two LiveStale true: ApplyKeep KeepLate KeepLate Gap Switch);
+    row!(&rt, Two LiveKept false: Replace Replace Ignore Replace Adopt);
+    row!(&rt, Two LiveKept true: Apply Late Late Catch Switch);
 }

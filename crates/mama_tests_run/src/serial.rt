@@ -32,7 +32,9 @@ fn a_script_with_a_gap_is_played_whole(rt: HostRuntime) -> Result<(), Fail> {
 // lowest numbers, which are then missing. Without its first image a subscription is told nothing. A cache of no
 // updates. No recap may be asked for, so the image stays stale. A snapshot takes the first image alone. Nobody but a
 // client. Orders of one queue mute: what the link still held is not told. Those of another queue do not. An inbox
-// that is closed in a callback hears no second reply.
+// that is closed in a callback hears no second reply. Version 2 with the first strategy: a message that comes twice is
+// called back once. With the second: it is told as late. Updates that come before the first image are used at the first gap,
+// and where there is none they are not used.
 const WORKED: &str =
     r#"@queues 1|topic "EQ.ABC"|publisher 0 22:bid:u32:100|update 22:bid:u32:101|update 25:ask:u32:103|update 22:bid:u32:102|update 25:ask:u32:104|update 22:bid:u32:105|client|sub 0 market 0 10 1000|fault lose 3|fault hold 5 2|fault lose 6|@on s0.0|create|msg initial 1 0 ok 22:bid:u32:100|msg update 1 1 ok 22:bid:u32:101|gap 2 2|quality stale 1|request 1|msg update 1 3 stale 22:bid:u32:102|gap 4 4|msg update 1 5 stale 22:bid:u32:105|request 1|msg recap 1 5 ok 22:bid:u32:105 25:ask:u32:104|quality ok 5|destroy|
 @queues 1|topic "EQ.ABC"|publisher 0 22:bid:u32:100|pause 1|recap|publisher 0 22:bid:u32:200|update 22:bid:u32:201|client|sub 0 market 0 10 1000|@on s0.0|create|msg initial 1 0 ok 22:bid:u32:100|quality stale 0|request 2|msg update 2 1 stale 22:bid:u32:201|msg recap 2 1 ok 22:bid:u32:201|quality ok 1|msg recap 1 0 ok 22:bid:u32:100|destroy|
@@ -57,7 +59,11 @@ const WORKED: &str =
 @queues 1|client|@mama log 1|client 0|bridge|c0 done|q0 bye|timers|c0 done|b fin|q0 bye|queue 0|b fin|t fin|images|end|
 @queues 1|topic "EQ.ABC"|publisher 0 22:bid:u32:100|pause 3|update 22:bid:u32:101|client|sub 0 market 0 10 1000|fault hold 2 5|sub 0 market 0 10 1000|at 3 stop s0.0|@on s0.0|create|msg initial 1 0 ok 22:bid:u32:100|destroy|on s0.1|create|msg initial 1 0 ok 22:bid:u32:100|msg update 1 1 ok 22:bid:u32:101|order stop s0.0|destroy|
 @queues 2|topic "EQ.ABC"|publisher 0 22:bid:u32:100|pause 3|update 22:bid:u32:101|client|sub 0 market 0 10 1000|fault hold 2 5|sub 0 market 1 10 1000|at 3 stop s0.0|@on s0.0|create|msg initial 1 0 ok 22:bid:u32:100|msg update 1 1 ok 22:bid:u32:101|destroy|on s0.1|create|msg initial 1 0 ok 22:bid:u32:100|msg update 1 1 ok 22:bid:u32:101|order stop s0.0|destroy|
-@queues 1|topic "EQ.ABC"|publisher 0 22:bid:u32:100|client|inbox 0|fault dup 1|at 2 close i0.0|ask i0.0 0 22|@q0 close i0.0|~queue 0|b create 0 i0.0|b reply 0 i0.0 22:bid:u32:100|b reply 0 i0.0 22:bid:u32:100|b gone 0 i0.0|b fin|t fin|on i0.0|create|reply 22:bid:u32:100|order close i0.0|destroy|images|end|"#;
+@queues 1|topic "EQ.ABC"|publisher 0 22:bid:u32:100|client|inbox 0|fault dup 1|at 2 close i0.0|ask i0.0 0 22|@q0 close i0.0|~queue 0|b create 0 i0.0|b reply 0 i0.0 22:bid:u32:100|b reply 0 i0.0 22:bid:u32:100|b gone 0 i0.0|b fin|t fin|on i0.0|create|reply 22:bid:u32:100|order close i0.0|destroy|images|end|
+@strategy 1|queues 1|topic "EQ.ABC"|publisher 0 22:bid:u32:100|update 22:bid:u32:101|update 25:ask:u32:103|update 22:bid:u32:102|client|sub 0 market 0 10 1000|fault dup 2|@mama log 1|~on s0.0|create|msg initial 1 0 ok 22:bid:u32:100|msg update 1 1 ok 22:bid:u32:101|msg update 1 2 ok 25:ask:u32:103|msg update 1 3 ok 22:bid:u32:102|destroy|images|s0.0 ok 1 3 22:bid:u32:102 25:ask:u32:103|end|
+@strategy 2|queues 1|topic "EQ.ABC"|publisher 0 22:bid:u32:100|update 22:bid:u32:101|update 25:ask:u32:103|update 22:bid:u32:102|client|sub 0 market 0 10 1000|fault dup 2|@on s0.0|create|msg initial 1 0 ok 22:bid:u32:100|msg update 1 1 ok 22:bid:u32:101|late 1 1|msg update 1 2 ok 25:ask:u32:103|msg update 1 3 ok 22:bid:u32:102|destroy|images|s0.0 ok 1 3 22:bid:u32:102 25:ask:u32:103|end|
+@strategy 2|queues 1|topic "EQ.ABC"|publisher 0 22:bid:u32:100|update 22:bid:u32:101|update 25:ask:u32:103|update 22:bid:u32:102|client|sub 0 market 0 10 1000|fault hold 1 2|@b data 0 s0.0 update 1 2 25:ask:u32:103|b data 0 s0.0 initial 1 0 22:bid:u32:100|b data 0 s0.0 update 1 3 22:bid:u32:102|b gone 0 s0.0|b fin|t fin|on s0.0|create|msg initial 1 0 ok 22:bid:u32:100|msg update 1 1 ok 22:bid:u32:101|msg update 1 2 ok 25:ask:u32:103|msg update 1 3 ok 22:bid:u32:102|destroy|images|s0.0 ok 1 3 22:bid:u32:102 25:ask:u32:103|end|
+@strategy 2|queues 1|topic "EQ.ABC"|publisher 0 22:bid:u32:100|update 22:bid:u32:101|update 25:ask:u32:103|update 22:bid:u32:102|client|sub 0 market 0 10 1000|fault hold 1 2|fault lose 4|@on s0.0|create|msg initial 1 0 ok 22:bid:u32:100|destroy|images|s0.0 ok 1 0 22:bid:u32:100|end|"#;
 
 fn moments_of(alloc: Global, text: &str) -> Result<Vec<u64>, AllocError> {
     let mut moments = Vec::new(alloc);
@@ -95,7 +101,12 @@ fn has_parts(alloc: Global, log: &[u8], row: &str) -> Result<bool, Fail> {
 }
 
 fn script_of(alloc: Global, lines: &str) -> Result<Vec<u8>, AllocError> {
-    let mut script = Vec::from_slice(alloc, "mama script 1\n".as_bytes())?;
+    let head = if lines.starts_with("strategy") {
+        "mama script 2\n"
+    } else {
+        "mama script 1\n"
+    };
+    let mut script = Vec::from_slice(alloc, head.as_bytes())?;
     add_row(&mut script, lines)?;
     Ok(script)
 }

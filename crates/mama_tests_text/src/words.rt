@@ -3,8 +3,8 @@ use mama_event::{MsgKind, ObjectId, Order, Quality, SubId, SubKind};
 use mama_memory::OutOfMemory;
 use mama_msg::Msg;
 use mama_words::{
-    ReadError, parted, print_fields, print_msg_kind, print_object_id, print_order, print_quality,
-    print_sub_kind, read_message, read_order,
+    Nums, ReadError, parted, print_fields, print_msg_kind, print_object_id, print_order,
+    print_quality, print_sub_kind, read_message, read_order,
 };
 use std::alloc::Global;
 use std::test::Fail;
@@ -22,9 +22,9 @@ fn fault_of_line(alloc: Global, line: &str) -> Result<u64, OutOfMemory> {
     told(parted(alloc, line.as_bytes()))
 }
 
-fn fault_of_message(alloc: Global, line: &str) -> Result<u64, OutOfMemory> {
+fn fault_of_message(alloc: Global, nums: Nums, line: &str) -> Result<u64, OutOfMemory> {
     match parted(alloc, line.as_bytes()) {
-        Ok(words) => told(read_message(alloc, &words)),
+        Ok(words) => told(read_message(alloc, nums, &words)),
         Err(_) => Err(OutOfMemory),
     }
 }
@@ -59,7 +59,35 @@ const MESSAGES: &str = r#"6 1:a:u8
 8 1:a:u8:1 1:b:u8:2
 6 0::u8:1 1:a:u8:256 1:a-b:u8:1
 7 1:a:u8:1 1:b:u8:2 3:c:u8:x
+7 1:a:nums:[1]
+7 1:a:nums:[]
 0 0:a:u8:1 1:a:u8:2"#;
+
+// The same where the type `nums` is known.
+const NUMBERS: &str = r#"0 1:a:nums:[]
+0 1:a:nums:[1,-2]
+0 1:a:nums:[1,2,3,4,5,6,7,8,9,10,11,12,13,14,15,16,17,18,19,20,21,22,23,24]
+7 1:a:nums:[1,2,3,4,5,6,7,8,9,10,11,12,13,14,15,16,17,18,19,20,21,22,23,24,25]
+7 1:a:nums:
+7 1:a:nums:1
+7 1:a:nums:[
+7 1:a:nums:[1
+7 1:a:nums:1]
+7 1:a:nums:[1]]
+7 1:a:nums:[[1]
+7 1:a:nums:[1,]
+7 1:a:nums:[,1]
+7 1:a:nums:[1,,2]
+7 1:a:nums:[,]
+7 1:a:nums:[01]
+7 1:a:nums:[-0]
+7 1:a:nums:[+1]
+7 1:a:nums:[1.5]
+7 1:a:nums:[9223372036854775808]
+7 1:a:nums:[-9223372036854775809]
+6 1:a-b:nums:[1]
+7 65536:a:nums:[1]
+8 1:a:nums:[1] 1:b:nums:[2]"#;
 
 const ORDERS: &str = r#"0 stop s0.18446744073709551615
 0 ask i0.1 5 1 2 3 4 5 6 7 65535
@@ -82,7 +110,19 @@ fn faults_of_words(rt: HostRuntime) -> Result<(), Fail> {
     assert_eq!(rt; fault_of_line(rt.alloc(), "a\tb")?, 2);
     for row in MESSAGES.lines() {
         let (fault, line) = numbered(row);
-        assert_eq!(rt; fault_of_message(rt.alloc(), line)?, fault, "{row}");
+        assert_eq!(rt;
+            fault_of_message(rt.alloc(), Nums::Unknown, line)?,
+            fault,
+            "{row}"
+        );
+    }
+    for row in NUMBERS.lines() {
+        let (fault, line) = numbered(row);
+        assert_eq!(rt;
+            fault_of_message(rt.alloc(), Nums::Known, line)?,
+            fault,
+            "{row}"
+        );
     }
     for row in ORDERS.lines() {
         let (fault, line) = numbered(row);
@@ -95,11 +135,12 @@ fn faults_of_words(rt: HostRuntime) -> Result<(), Fail> {
 const FIELDS: &str =
     r#"1:a:i8:-128 2:b:i8:127 3:c:i16:-32768 4:d:i32:2147483647 5:e:i64:-9223372036854775808
 1:a:u8:255 2:b:u16:65535 3:c:u32:4294967295 4:d:u64:18446744073709551615 5::char:0
-65535:x_1:bool:true 0:n:bool:false 3:t:text:"a: \"b\" \\" 4:b:bytes:x00ff 6:p:price:-1250/18 7:m:moment:0"#;
+65535:x_1:bool:true 0:n:bool:false 3:t:text:"a: \"b\" \\" 4:b:bytes:x00ff 6:p:price:-1250/18 7:m:moment:0
+1:a:nums:[] 2:b:nums:[0] 3:c:nums:[-9223372036854775808,9223372036854775807,-1]"#;
 
 fn printed_again(alloc: Global, line: &str) -> Result<Vec<u8>, Fail> {
     let words = parted(alloc, line.as_bytes())?;
-    let msg = read_message(alloc, &words)?;
+    let msg = read_message(alloc, Nums::Known, &words)?;
     let mut out = Vec::new(alloc);
     print_fields(&msg, &mut out)?;
     Ok(out)

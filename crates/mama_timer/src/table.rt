@@ -79,6 +79,7 @@ fn copied(alloc: Global, shape: &Shape) -> Result<Shape, OutOfMemory>
         clients: shape.clients,
         publisher_topics: Topics::new(topics),
         bounds: shape.bounds,
+        strategy: shape.strategy,
     })
 }
 

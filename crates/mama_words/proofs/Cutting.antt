@@ -1,14 +1,15 @@
 -- Cutting a text at the first byte of a kind, and joining it again.
-use Rattle.std.proofs.Common.{◌≡◌, ℕ, ◌<◌, ◌≤◌, ◌^◌, Bool, true, false, cond, eqb, leb, List, [], ◌∷◌, ◌++◌, length, Option, Some, None, refl, sym, ap, subst, ◌∙◌, arith, eq-eqb, inl, inr}
+use Rattle.std.proofs.Common.{◌≡◌, ℕ, ℤ, pos, negsuc, suc, ◌<◌, ◌≤◌, ◌^◌, Bool, true, false, cond, eqb, leb, List, [], ◌∷◌, ◌++◌, length, Option, Some, None, refl, sym, ap, subst, ◌∙◌, arith, eq-eqb, inl, inr}
 use Rattle.std.specs.Prelude.{◌&&◌, ◌||◌, ◌==◌, nat_le}
 use Rattle.std.specs.List.{list_any, list_all}
 use Rattle.std.specs.Str.Parse.{AllDigits}
 use Rattle.std.specs.Char.{digit_value}
-use Rattle.std.proofs.lemmas.Bool.{or_parts, or_from, and_parts, and_from, le-leb, leb-true, ne_eqb, eqb-true}
+use Rattle.std.proofs.lemmas.Bool.{or_parts, or_from, and_parts, and_from, le-leb, leb-true, ltb-true, ne_eqb, eqb-true}
 use Rattle.std.proofs.lemmas.Fmt.{decimal_is_IsNumeral}
 use Rattle.std.proofs.lemmas.Str.Parse.{digit_from_value}
 use Rattle.mama_edge.specs.Decimal.{decimal, int_decimal}
 use Rattle.mama_words.specs.Parting.{cut_at, onto_cut}
+use Rattle.mama_words.specs.Number.{is_within}
 use Rattle.mama_words.proofs.Choices.{some_is}
 
 -- a text without a byte of this kind
@@ -26,6 +27,12 @@ cut_at_again c [] b h = at_byte c c b (eq-eqb c c refl)
 cut_at_again c (x ∷ a) b h =
     let p = or_parts (eqb x c) (lacks c a) h in
     past_byte c x (a ++ c ∷ b) p.0 ∙ ap (onto_cut (x ∷ [])) (cut_at_again c a b p.1)
+
+pub cut_at_none : (c : ℕ) (text : List ℕ) → lacks c text ≡ false → cut_at c text ≡ None
+cut_at_none c [] h = refl
+cut_at_none c (b ∷ bs) h =
+    let p = or_parts (eqb b c) (lacks c bs) h in
+    past_byte c b bs p.0 ∙ ap (onto_cut (b ∷ [])) (cut_at_none c bs p.1)
 
 onto_cut_is : (front : List ℕ) (o : Option (List ℕ × List ℕ)) (x : List ℕ × List ℕ) → onto_cut front o ≡ Some x → (y : List ℕ × List ℕ) × (o ≡ Some y) × ((front ++ y.0, y.1) ≡ x)
 onto_cut_is front None x e = absurd cc
@@ -66,3 +73,7 @@ all_lack p c (b ∷ bs) no_c h =
 
 pub decimal_lacks : (c n : ℕ) → is_digit c ≡ false → n < 2 ^ 64 → lacks c (decimal n) ≡ false
 decimal_lacks c n no_c lt = all_lack is_digit c (decimal n) no_c (decimal_digits n lt)
+
+pub int_lacks : (c : ℕ) (z : ℤ) → is_digit c ≡ false → eqb 45 c ≡ false → is_within (2 ^ 63) z ≡ true → lacks c (int_decimal z) ≡ false
+int_lacks c (pos n) no_c no_sign h = let lt = ltb-true n (2 ^ 63) h in decimal_lacks c n no_c (omega (arith, lt))
+int_lacks c (negsuc n) no_c no_sign h = let lt = ltb-true n (2 ^ 63) h in or_from (eqb 45 c) (lacks c (decimal (suc n))) no_sign (decimal_lacks c (suc n) no_c (omega (arith, lt)))

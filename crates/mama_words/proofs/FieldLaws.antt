@@ -8,12 +8,13 @@ use Rattle.mama_edge.specs.Decimal.{decimal}
 use Rattle.mama_msg.specs.Name.{is_name_byte, IsNameText}
 use Rattle.mama_msg.specs.Field.{FieldData, IsKeyed}
 use Rattle.mama_msg.specs.declared.value.Value.{Value}
+use Rattle.mama_words.specs.declared.nums.Nums.{Nums}
 use Rattle.mama_words.specs.declared.value_type.ValueType.{ValueType}
 use Rattle.mama_words.specs.declared.value_type.ValueType.TheVariants as types
 use Rattle.mama_words.specs.Reading.{◌>>=◌, or_fault, both}
 use Rattle.mama_words.specs.Parting.{cut_at}
 use Rattle.mama_words.specs.Number.{below_in}
-use Rattle.mama_words.specs.Value.{type_of, type_text, value_text, type_in, value_in, IsValue}
+use Rattle.mama_words.specs.Value.{type_of, type_text, value_text, is_known, type_in, value_in, IsValue}
 use Rattle.mama_words.specs.Field.{field_text, IsField, name_in, keyed_or_fault, field_in, fields_in, are_distinct, distinct_or_fault, message_in, IsMessage}
 use Rattle.mama_words.proofs.Choices.{some_is, ok_is, chosen_some, guard_ok, guard_bad, bind_ok, step_ok, both_ok}
 use Rattle.mama_words.proofs.Numbers.{below_in_again, below_in_found}
@@ -58,58 +59,59 @@ type_lacks types.Text = refl
 type_lacks types.Bytes = refl
 type_lacks types.Price = refl
 type_lacks types.Moment = refl
+type_lacks types.Numbers = refl
 
-pub field_again : (f : FieldData) → IsField f → field_in (field_text f) ≡ Ok f
+pub field_again : (nums : Nums) (f : FieldData) → IsField nums f → field_in nums (field_text f) ≡ Ok f
 unfolding field_in
-field_again f is =
+field_again nums f is =
     let behind_name = type_text (type_of f.value) ++ 58 ∷ value_text f.value in
     let a : cut_at 58 (field_text f) ≡ Some (decimal f.fid, f.name ++ 58 ∷ behind_name) = cut_at_again 58 (decimal f.fid) (f.name ++ 58 ∷ behind_name) (decimal_lacks 58 f.fid refl (omega (arith, is.fid))) in
     let b : cut_at 58 (f.name ++ 58 ∷ behind_name) ≡ Some (f.name, behind_name) = cut_at_again 58 f.name behind_name (all_lack is_name_byte 58 f.name refl is.name.letters) in
     let c : cut_at 58 behind_name ≡ Some (type_text (type_of f.value), value_text f.value) = cut_at_again 58 (type_text (type_of f.value)) (value_text f.value) (type_lacks (type_of f.value)) in
-    rw (a, b, c, name_again f.name is.name, below_in_again (2 ^ 16) f.fid is.fid (omega (arith, is.fid)), type_again (type_of f.value), value_again f.value is.value) (keyed_again f is.keyed)
+    rw (a, b, c, name_again f.name is.name, below_in_again (2 ^ 16) f.fid is.fid (omega (arith, is.fid)), type_again nums (type_of f.value) is.known, value_again f.value is.value) (keyed_again f is.keyed)
 
-pub field_found : (word : List ℕ) (f : FieldData) → field_in word ≡ Ok f → IsField f × (word ≡ field_text f)
+pub field_found : (nums : Nums) (word : List ℕ) (f : FieldData) → field_in nums word ≡ Ok f → IsField nums f × (word ≡ field_text f)
 unfolding field_in
-field_found word f e =
+field_found nums word f e =
     let a = step_ok 6 (cut_at 58 word) _ f e in
     let b = step_ok 6 (cut_at 58 a.0.1) _ f a.2 in
     let c = step_ok 6 (cut_at 58 b.0.1) _ f b.2 in
     let n = step_ok 6 (name_in b.0.0) _ f c.2 in
     let i = step_ok 7 (below_in (2 ^ 16) a.0.0) _ f n.2 in
-    let t = step_ok 7 (type_in c.0.0) _ f i.2 in
+    let t = step_ok 7 (type_in nums c.0.0) _ f i.2 in
     let v = step_ok 7 (value_in t.0 c.0.1) _ f t.2 in
     let made : FieldData = record { fid = i.0; name = n.0; value = v.0 } in
     let k = keyed_found made f v.2 in
     let name = name_found b.0.0 n.0 n.1 in
     let fid = below_in_found (2 ^ 16) a.0.0 i.0 i.1 in
-    let type_is = type_found c.0.0 t.0 t.1 in
+    let type_is = type_found nums c.0.0 t.0 t.1 in
     let value = value_found t.0 c.0.1 v.0 v.1 in
-    let type_word : c.0.0 ≡ type_text (type_of v.0) = type_is ∙ ap type_text (sym value.type_is) in
+    let type_word : c.0.0 ≡ type_text (type_of v.0) = type_is.1 ∙ ap type_text (sym value.type_is) in
     let tail : c.0.0 ++ 58 ∷ c.0.1 ≡ type_text (type_of v.0) ++ 58 ∷ value_text v.0 = ap (λ (x : List ℕ). x ++ 58 ∷ c.0.1) type_word ∙ ap (λ (x : List ℕ). type_text (type_of v.0) ++ 58 ∷ x) value.text_is in
     let middle : b.0.0 ++ 58 ∷ b.0.1 ≡ n.0 ++ 58 ∷ (type_text (type_of v.0) ++ 58 ∷ value_text v.0) = ap (λ (x : List ℕ). x ++ 58 ∷ b.0.1) name.1 ∙ ap (λ (x : List ℕ). n.0 ++ 58 ∷ x) (cut_at_split 58 b.0.1 c.0 c.1 ∙ tail) in
     let whole : word ≡ field_text made = cut_at_split 58 word a.0 a.1 ∙ ap (λ (x : List ℕ). x ++ 58 ∷ a.0.1) fid.1 ∙ ap (λ (x : List ℕ). decimal i.0 ++ 58 ∷ x) (cut_at_split 58 a.0.1 b.0 b.1 ∙ middle) in
-    subst (λ (x : FieldData). IsField x × (word ≡ field_text x)) k.1 (record { fid = fid.0; name = name.0; keyed = k.0; value = value.fits }, whole)
+    subst (λ (x : FieldData). IsField nums x × (word ≡ field_text x)) k.1 (record { fid = fid.0; name = name.0; keyed = k.0; known = ap (is_known nums) value.type_is ∙ type_is.0; value = value.fits }, whole)
 
-pub fields_again : (fs : List FieldData) → AllByRecursion IsField fs → fields_in (map field_text fs) ≡ Ok fs
-fields_again [] all = refl
-fields_again (f ∷ fs) all = rw (field_again f all.0, fields_again fs all.1) refl
+pub fields_again : (nums : Nums) (fs : List FieldData) → AllByRecursion (IsField nums) fs → fields_in nums (map field_text fs) ≡ Ok fs
+fields_again nums [] all = refl
+fields_again nums (f ∷ fs) all = rw (field_again nums f all.0, fields_again nums fs all.1) refl
 
-pub fields_found : (ws : List (List ℕ)) (fs : List FieldData) → fields_in ws ≡ Ok fs → AllByRecursion IsField fs × (ws ≡ map field_text fs)
-fields_found [] fs e = subst (λ (x : List FieldData). AllByRecursion IsField x × ([] ≡ map field_text x)) (ok_is [] fs e) (tt, refl)
-fields_found (w ∷ ws) fs e =
-    let p = bind_ok (both (field_in w) (fields_in ws)) (λ x. Ok (x.0 ∷ x.1)) fs e in
-    let q = both_ok (field_in w) (fields_in ws) p.0 p.1 in
-    let f = field_found w p.0.0 q.0 in
-    let more = fields_found ws p.0.1 q.1 in
-    subst (λ (x : List FieldData). AllByRecursion IsField x × (w ∷ ws ≡ map field_text x)) (ok_is (p.0.0 ∷ p.0.1) fs p.2)
+pub fields_found : (nums : Nums) (ws : List (List ℕ)) (fs : List FieldData) → fields_in nums ws ≡ Ok fs → AllByRecursion (IsField nums) fs × (ws ≡ map field_text fs)
+fields_found nums [] fs e = subst (λ (x : List FieldData). AllByRecursion (IsField nums) x × ([] ≡ map field_text x)) (ok_is [] fs e) (tt, refl)
+fields_found nums (w ∷ ws) fs e =
+    let p = bind_ok (both (field_in nums w) (fields_in nums ws)) (λ x. Ok (x.0 ∷ x.1)) fs e in
+    let q = both_ok (field_in nums w) (fields_in nums ws) p.0 p.1 in
+    let f = field_found nums w p.0.0 q.0 in
+    let more = fields_found nums ws p.0.1 q.1 in
+    subst (λ (x : List FieldData). AllByRecursion (IsField nums) x × (w ∷ ws ≡ map field_text x)) (ok_is (p.0.0 ∷ p.0.1) fs p.2)
     ((f.0, more.0), ap (λ (x : List ℕ). x ∷ ws) f.1 ∙ ap (λ (x : List (List ℕ)). field_text p.0.0 ∷ x) more.1)
 
-pub message_again : (fs : List FieldData) → IsMessage fs → message_in (map field_text fs) ≡ Ok fs
-message_again fs is = rw (fields_again fs is.fields, is.distinct) refl
+pub message_again : (nums : Nums) (fs : List FieldData) → IsMessage nums fs → message_in nums (map field_text fs) ≡ Ok fs
+message_again nums fs is = rw (fields_again nums fs is.fields, is.distinct) refl
 
-pub message_found : (ws : List (List ℕ)) (fs : List FieldData) → message_in ws ≡ Ok fs → IsMessage fs × (ws ≡ map field_text fs)
-message_found ws fs e =
-    let p = bind_ok (fields_in ws) distinct_or_fault fs e in
+pub message_found : (nums : Nums) (ws : List (List ℕ)) (fs : List FieldData) → message_in nums ws ≡ Ok fs → IsMessage nums fs × (ws ≡ map field_text fs)
+message_found nums ws fs e =
+    let p = bind_ok (fields_in nums ws) distinct_or_fault fs e in
     let q = guard_ok (are_distinct p.0) 8 p.0 fs p.2 in
-    let r = fields_found ws p.0 p.1 in
-    subst (λ (x : List FieldData). IsMessage x × (ws ≡ map field_text x)) q.1 (record { fields = r.0; distinct = q.0 }, r.1)
+    let r = fields_found nums ws p.0 p.1 in
+    subst (λ (x : List FieldData). IsMessage nums x × (ws ≡ map field_text x)) q.1 (record { fields = r.0; distinct = q.0 }, r.1)

@@ -4,6 +4,7 @@ use Rattle.std.proofs.lemmas.List.{append-nil}
 use Rattle.mama_msg.specs.Field.{FieldData}
 use Rattle.mama_words.specs.Reading.{◌>>=◌, both}
 use Rattle.mama_words.specs.Field.{field_in, fields_in}
+use Rattle.mama_words.specs.declared.nums.Nums.{Nums}
 use Rattle.mama_words.specs.Lower.{lower}
 
 -- the fields so far and the lowest fault so far, with what reading the rest gives
@@ -35,11 +36,11 @@ joined_fault front None n (Err k) = refl
 joined_fault front (Some m) n (Ok fs) = refl
 joined_fault front (Some m) n (Err k) = ap (λ (x : ℕ). Err x) (min_min m n k)
 
-pub joined_more : (front : List FieldData) (least : Option ℕ) (w : List ℕ) (ws : List (List ℕ)) (f : FieldData) (total : Result (List FieldData) ℕ) → field_in w ≡ Ok f → joined front least (fields_in (w ∷ ws)) ≡ total → joined (front ++ f ∷ []) least (fields_in ws) ≡ total
-joined_more front least w ws f total e so_far = sym (joined_field front least f (fields_in ws)) ∙ sym (ap (λ (x : Result FieldData ℕ). joined front least (with_field x (fields_in ws))) e) ∙ so_far
+pub joined_more : (nums : Nums) (front : List FieldData) (least : Option ℕ) (w : List ℕ) (ws : List (List ℕ)) (f : FieldData) (total : Result (List FieldData) ℕ) → field_in nums w ≡ Ok f → joined front least (fields_in nums (w ∷ ws)) ≡ total → joined (front ++ f ∷ []) least (fields_in nums ws) ≡ total
+joined_more nums front least w ws f total e so_far = sym (joined_field front least f (fields_in nums ws)) ∙ sym (ap (λ (x : Result FieldData ℕ). joined front least (with_field x (fields_in nums ws))) e) ∙ so_far
 
-pub joined_worse : (front : List FieldData) (least : Option ℕ) (w : List ℕ) (ws : List (List ℕ)) (n : ℕ) (total : Result (List FieldData) ℕ) → field_in w ≡ Err n → joined front least (fields_in (w ∷ ws)) ≡ total → joined front (Some (lower least n)) (fields_in ws) ≡ total
-joined_worse front least w ws n total e so_far = sym (joined_fault front least n (fields_in ws)) ∙ sym (ap (λ (x : Result FieldData ℕ). joined front least (with_field x (fields_in ws))) e) ∙ so_far
+pub joined_worse : (nums : Nums) (front : List FieldData) (least : Option ℕ) (w : List ℕ) (ws : List (List ℕ)) (n : ℕ) (total : Result (List FieldData) ℕ) → field_in nums w ≡ Err n → joined front least (fields_in nums (w ∷ ws)) ≡ total → joined front (Some (lower least n)) (fields_in nums ws) ≡ total
+joined_worse nums front least w ws n total e so_far = sym (joined_fault front least n (fields_in nums ws)) ∙ sym (ap (λ (x : Result FieldData ℕ). joined front least (with_field x (fields_in nums ws))) e) ∙ so_far
 
 pub joined_all : (front : List FieldData) (total : Result (List FieldData) ℕ) → joined front None (Ok []) ≡ total → total ≡ Ok front
 joined_all front total e = sym e ∙ ap (λ (xs : List FieldData). Ok xs) (append-nil front)

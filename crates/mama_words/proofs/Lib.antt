@@ -12,6 +12,7 @@ pub mod Cutting
 pub mod IdLaws
 pub mod Named
 pub mod KindLaws
+pub mod NumberLists
 pub mod ValueLaws
 pub mod FieldLaws
 pub mod OrderLaws

@@ -166,8 +166,12 @@ int_in_narrow w half text z (Err d) e is fits =
     let same : z ≡ y = some_is z y (sym q.1 ∙ p.1) in
     fits (fits_within w half z e (rw same p.0))))
 
+-- such a number is kept in 64 bits
+pub int_in_kept : (text : List ℕ) (z : ℤ) → Some z ≡ int_in (2 ^ 63) text → to_z w64 (of_z w64 z) ≡ z
+int_in_kept text z is =
+    let p = int_in_found (2 ^ 63) text z (sym is) in
+    to_z-of_z w64 z (fits_within w64 (2 ^ 63) z refl p.0)
+
 pub int_in_cast : {E : Type 0} (w : Width) (half : ℕ) (text : List ℕ) (z : ℤ) (r : Result ℤ E) → half ≡ 2 ^ hbits w → Some z ≡ int_in (2 ^ 63) text → OkIff r (FitsSigned w (to_z w64 (of_z w64 z))) (to_z w64 (of_z w64 z)) → result_ok r ≡ int_in half text
 int_in_cast w half text z r e is fits =
-    let p = int_in_found (2 ^ 63) text z (sym is) in
-    let same : to_z w64 (of_z w64 z) ≡ z = to_z-of_z w64 z (fits_within w64 (2 ^ 63) z refl p.0) in
-    int_in_narrow w half text z r e is (subst (λ (x : ℤ). OkIff r (FitsSigned w x) x) same fits)
+    int_in_narrow w half text z r e is (subst (λ (x : ℤ). OkIff r (FitsSigned w x) x) (int_in_kept text z is) fits)

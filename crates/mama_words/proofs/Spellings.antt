@@ -17,12 +17,15 @@ use Rattle.mama_event.specs.declared.market.MsgKind.{MsgKind}
 use Rattle.mama_event.specs.declared.market.MsgKind.TheVariants.{Initial, Update, Recap}
 use Rattle.mama_event.specs.declared.market.Quality.{Quality}
 use Rattle.mama_event.specs.declared.market.Quality.TheVariants.{Ok as Good, Stale}
+use Rattle.mama_event.specs.declared.shape.Strategy.{Strategy}
+use Rattle.mama_event.specs.declared.shape.Strategy.TheVariants.{One, Two}
 use Rattle.mama_event.specs.FidList.{is_fid_list}
 use Rattle.mama_msg.specs.Name.{is_name_byte, IsNameText}
 use Rattle.mama_msg.specs.Field.{FieldData}
 use Rattle.mama_msg.specs.declared.value.Value.{Value}
 use Rattle.mama_msg.specs.declared.value.Value.TheVariants as values
 use Rattle.mama_words.specs.declared.id.IdWord.{IdWord}
+use Rattle.mama_words.specs.declared.nums.Nums.{Nums}
 use Rattle.mama_words.specs.declared.value_type.ValueType.{ValueType}
 use Rattle.mama_words.specs.declared.value_type.ValueType.TheVariants as types
 use Rattle.mama_words.specs.declared.order.OrderWord.{OrderWord}
@@ -33,8 +36,9 @@ use Rattle.mama_words.specs.Parting.{is_plain, is_gap, next_place, place_after, 
 use Rattle.mama_words.specs.Sentence.{spaced, sentence}
 use Rattle.mama_words.specs.WordForm.{has_gap, IsPiece, IsWord, AreWords}
 use Rattle.mama_words.specs.Number.{is_within}
-use Rattle.mama_words.specs.Kind.{sub_kind_text, msg_kind_text, quality_text}
+use Rattle.mama_words.specs.Kind.{sub_kind_text, msg_kind_text, quality_text, strategy_text}
 use Rattle.mama_words.specs.Id.{numbers_text, id_text}
+use Rattle.mama_words.specs.NumberList.{after_comma, with_commas}
 use Rattle.mama_words.specs.Value.{type_text, type_of, hex_pair, bool_text, bytes_text, price_text, value_text, IsValue}
 use Rattle.mama_words.specs.Field.{field_text, IsField, spaced_field, fields_text}
 use Rattle.mama_words.specs.Order.{order_words, IsId, are_small, IsOrder, spaced_number, order_text}
@@ -86,6 +90,10 @@ msg_kind_word Recap = fixed_word _ _ refl
 pub quality_word : (q : Quality) → IsWord (quality_text q)
 quality_word Good = fixed_word _ _ refl
 quality_word Stale = fixed_word _ _ refl
+
+pub strategy_word : (s : Strategy) → IsWord (strategy_text s)
+strategy_word One = fixed_word _ _ refl
+strategy_word Two = fixed_word _ _ refl
 
 -- ---- quoted texts
 
@@ -157,6 +165,18 @@ bool_piece : (b : Bool) → IsPiece (bool_text b)
 bool_piece true = piece_simple _ refl
 bool_piece false = piece_simple _ refl
 
+commas_piece : (zs : List ℤ) → list_all (is_within (2 ^ 63)) zs ≡ true → IsPiece (flat_map after_comma zs)
+commas_piece [] h = piece_empty
+commas_piece (z ∷ zs) h =
+    let p = and_parts (is_within (2 ^ 63) z) (list_all (is_within (2 ^ 63)) zs) h in
+    piece_cons 44 (int_decimal z ++ flat_map after_comma zs) refl (piece_append (int_decimal z) (flat_map after_comma zs) (int_piece z p.0) (commas_piece zs p.1))
+
+list_piece : (zs : List ℤ) → list_all (is_within (2 ^ 63)) zs ≡ true → IsPiece (with_commas zs)
+list_piece [] h = piece_empty
+list_piece (z ∷ zs) h =
+    let p = and_parts (is_within (2 ^ 63) z) (list_all (is_within (2 ^ 63)) zs) h in
+    piece_append (int_decimal z) (flat_map after_comma zs) (int_piece z p.0) (commas_piece zs p.1)
+
 value_piece : (v : Value) → IsValue v → IsPiece (value_text v)
 value_piece (values.Bool b) h = bool_piece b
 value_piece (values.Char n) h = decimal_piece n (omega (arith, h))
@@ -172,6 +192,7 @@ value_piece (values.Text t) h = quoted_piece t h.printable
 value_piece (values.Bytes bs) h = piece_cons 120 (flat_map hex_pair bs) refl (hex_piece bs h.1)
 value_piece (values.Price p) h = piece_append (int_decimal p.mantissa) (47 ∷ decimal p.decimals) (int_piece p.mantissa h.0) (piece_cons 47 (decimal p.decimals) refl (decimal_piece p.decimals (let le = h.1 in omega (arith, le))))
 value_piece (values.Moment n) h = decimal_piece n h
+value_piece (values.Numbers zs) h = piece_cons 91 (with_commas zs ++ 93 ∷ []) refl (piece_append (with_commas zs) (93 ∷ []) (list_piece zs h.within) (piece_simple (93 ∷ []) refl))
 
 type_piece : (t : ValueType) → IsPiece (type_text t)
 type_piece types.Bool = piece_simple _ refl
@@ -188,6 +209,7 @@ type_piece types.Text = piece_simple _ refl
 type_piece types.Bytes = piece_simple _ refl
 type_piece types.Price = piece_simple _ refl
 type_piece types.Moment = piece_simple _ refl
+type_piece types.Numbers = piece_simple _ refl
 
 range_simple : (low high b : ℕ) → 35 ≤ low → high ≤ 126 → is_in_range low high b ≡ true → is_simple b ≡ true
 range_simple low high b above below h =
@@ -213,8 +235,8 @@ name_simple b h =
       | inr p ↦ let e = eqb-true b 95 p in simple_from b (omega (arith, e)) (omega (arith, e))
     ]
 
-field_piece : (f : FieldData) → IsField f → IsPiece (field_text f)
-field_piece f is =
+field_piece : (nums : Nums) (f : FieldData) → IsField nums f → IsPiece (field_text f)
+field_piece nums f is =
     let value = piece_cons 58 (value_text f.value) refl (value_piece f.value is.value) in
     let typed = piece_cons 58 (type_text (type_of f.value) ++ 58 ∷ value_text f.value) refl (piece_append (type_text (type_of f.value)) (58 ∷ value_text f.value) (type_piece (type_of f.value)) value) in
     let name = piece_simple f.name (all_simple is_name_byte f.name name_simple is.name.letters) in
@@ -225,12 +247,12 @@ length-cons_back : (a : List ℕ) (b : ℕ) (bs : List ℕ) → 0 < length (a ++
 length-cons_back [] b bs = omega arith
 length-cons_back (x ∷ a) b bs = omega arith
 
-pub field_word : (f : FieldData) → IsField f → IsWord (field_text f)
-field_word f is = record { piece = field_piece f is; some = nonempty (field_text f) (length-cons_back (decimal f.fid) 58 (f.name ++ 58 ∷ (type_text (type_of f.value) ++ 58 ∷ value_text f.value))) }
+pub field_word : (nums : Nums) (f : FieldData) → IsField nums f → IsWord (field_text f)
+field_word nums f is = record { piece = field_piece nums f is; some = nonempty (field_text f) (length-cons_back (decimal f.fid) 58 (f.name ++ 58 ∷ (type_text (type_of f.value) ++ 58 ∷ value_text f.value))) }
 
-pub field_words : (fs : List FieldData) → AllByRecursion IsField fs → AreWords (map field_text fs)
-field_words [] all = tt
-field_words (f ∷ fs) all = (field_word f all.0, field_words fs all.1)
+pub field_words : (nums : Nums) (fs : List FieldData) → AllByRecursion (IsField nums) fs → AreWords (map field_text fs)
+field_words nums [] all = tt
+field_words nums (f ∷ fs) all = (field_word nums f all.0, field_words nums fs all.1)
 
 fid_words : (fids : List ℕ) → are_small fids ≡ true → AreWords (map decimal fids)
 fid_words [] h = tt

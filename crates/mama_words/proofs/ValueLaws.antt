@@ -15,13 +15,15 @@ use Rattle.mama_words.specs.declared.value_type.ValueType.TheVariants as types
 use Rattle.mama_words.specs.Parting.{cut_at}
 use Rattle.mama_words.specs.Number.{number_in, below_in, int_in, is_within}
 use Rattle.mama_words.specs.Quote.{quoted_in}
+use Rattle.mama_words.specs.NumberList.{numbers_in}
 use Rattle.mama_words.specs.Value.{type_of, value_text, value_in, IsValue, bool_in, bool_text, hex_pair, bytes_text, price_text, digit_in, pair_in, onto, hex_in, if_short, bytes_in, if_text, text_in, price_of, price_in}
 use Rattle.mama_edge.specs.Quoted.{quoted}
 use Rattle.mama_words.proofs.Choices.{some_is, chosen, chosen_some, chosen_other, map_some, and_then_some, same_text}
 use Rattle.mama_words.proofs.Numbers.{number_in_again, number_in_found, below_in_again, below_in_found, int_in_again, int_in_found}
 use Rattle.mama_words.proofs.Quotes.{quoted_in_again, quoted_in_found}
 use Rattle.mama_words.proofs.Texts.{if_text_at, if_short_at}
-use Rattle.mama_words.proofs.Cutting.{lacks, is_digit, all_lack, cut_at_again, cut_at_split, decimal_digits, decimal_lacks}
+use Rattle.mama_words.proofs.Cutting.{cut_at_again, cut_at_split, int_lacks}
+use Rattle.mama_words.proofs.NumberLists.{numbers_again, numbers_found}
 
 -- ---- truth values
 
@@ -162,13 +164,9 @@ text_found word t e =
 
 -- ---- prices
 
-int_lacks : (z : ℤ) → is_within (2 ^ 63) z ≡ true → lacks 47 (int_decimal z) ≡ false
-int_lacks (pos n) h = let lt = ltb-true n (2 ^ 63) h in decimal_lacks 47 n refl (omega (arith, lt))
-int_lacks (negsuc n) h = let lt = ltb-true n (2 ^ 63) h in decimal_lacks 47 (suc n) refl (omega (arith, lt))
-
 price_again : (p : PriceData) → is_within (2 ^ 63) p.mantissa ≡ true → p.decimals ≤ 18 → price_in (price_text p) ≡ Some p
 price_again p mantissa decimals =
-    ap (option_and_then price_of) (cut_at_again 47 (int_decimal p.mantissa) (decimal p.decimals) (int_lacks p.mantissa mantissa))
+    ap (option_and_then price_of) (cut_at_again 47 (int_decimal p.mantissa) (decimal p.decimals) (int_lacks 47 p.mantissa refl refl mantissa))
     ∙ rw (int_in_again (2 ^ 63) p.mantissa (omega arith) mantissa, below_in_again 19 p.decimals (omega (arith, decimals)) (omega (arith, decimals))) refl
 
 price_found : (text : List ℕ) (p : PriceData) → price_in text ≡ Some p → (is_within (2 ^ 63) p.mantissa ≡ true) × (p.decimals ≤ 18) × (text ≡ price_text p)
@@ -200,6 +198,7 @@ value_again (values.Text t) h = ap (option_map (λ t. values.Text t)) (text_agai
 value_again (values.Bytes bs) h = ap (option_map (λ bs. values.Bytes bs)) (bytes_again bs h.0 h.1)
 value_again (values.Price p) h = ap (option_map (λ p. values.Price p)) (price_again p h.0 h.1)
 value_again (values.Moment n) h = ap (option_map (λ n. values.Moment n)) (number_in_again n h)
+value_again (values.Numbers zs) h = ap (option_map (λ zs. values.Numbers zs)) (numbers_again zs h)
 
 -- a value that a text spells, and its type
 pub record Spells (t : ValueType) (text : List ℕ) (v : Value) : Type 0 where
@@ -228,3 +227,4 @@ value_found types.Text text v e = spelled types.Text text (λ t. values.Text t) 
 value_found types.Bytes text v e = spelled types.Bytes text (λ bs. values.Bytes bs) (bytes_in text) v (λ bs h. let p = bytes_found text bs h in record { type_is = refl; text_is = p.2; fits = (p.0, p.1) }) e
 value_found types.Price text v e = spelled types.Price text (λ p. values.Price p) (price_in text) v (λ x h. let p = price_found text x h in record { type_is = refl; text_is = p.2; fits = (p.0, p.1) }) e
 value_found types.Moment text v e = spelled types.Moment text (λ n. values.Moment n) (number_in text) v (λ n h. let p = number_in_found text n h in record { type_is = refl; text_is = p.1; fits = p.0 }) e
+value_found types.Numbers text v e = spelled types.Numbers text (λ zs. values.Numbers zs) (numbers_in text) v (λ zs h. let p = numbers_found text zs h in record { type_is = refl; text_is = p.1; fits = p.0 }) e

@@ -7,18 +7,20 @@ use Rattle.mama_msg.specs.Message.{has_key}
 use Rattle.mama_words.specs.Reading.{◌>>=◌, or_fault, both}
 use Rattle.mama_words.specs.Parting.{cut_at}
 use Rattle.mama_words.specs.Number.{below_in}
-use Rattle.mama_words.specs.Value.{type_of, type_text, value_text, type_in, value_in, IsValue}
+use Rattle.mama_words.specs.Value.{type_of, type_text, value_text, is_known, type_in, value_in, IsValue}
+use Rattle.mama_words.specs.declared.nums.Nums.{Nums}
 use Rattle.mama_edge.specs.Decimal.{decimal}
 
 -- the spelling of a field
 abbrev pub field_text : FieldData → List ℕ
 field_text f = decimal f.fid ++ 58 ∷ (f.name ++ 58 ∷ (type_text (type_of f.value) ++ 58 ∷ value_text f.value))
 
--- a field as its type has it
-pub record IsField (f : FieldData) : Type 0 where
+-- a field as its type has it, which the text knows
+pub record IsField (nums : Nums) (f : FieldData) : Type 0 where
   pub fid : f.fid < 2 ^ 16
   pub name : IsNameText f.name
   pub keyed : IsKeyed f.fid f.name
+  pub known : is_known nums (type_of f.value) ≡ true
   pub value : IsValue f.value
 
 abbrev pub name_in : List ℕ → Option (List ℕ)
@@ -29,21 +31,21 @@ abbrev pub keyed_or_fault : FieldData → Result FieldData ℕ
 keyed_or_fault f = if f.fid == 0 && length f.name == 0 then Err 8 else Ok f
 
 -- the field that a word spells. The first three colons end its fid, its name and its type.
-unfoldable pub field_in : List ℕ → Result FieldData ℕ
-field_in word = do
+unfoldable pub field_in : Nums → List ℕ → Result FieldData ℕ
+field_in nums word = do
   a ← or_fault 6 (cut_at 58 word)
   b ← or_fault 6 (cut_at 58 a.1)
   c ← or_fault 6 (cut_at 58 b.1)
   name ← or_fault 6 (name_in b.0)
   fid ← or_fault 7 (below_in (2 ^ 16) a.0)
-  type ← or_fault 7 (type_in c.0)
+  type ← or_fault 7 (type_in nums c.0)
   value ← or_fault 7 (value_in type c.1)
   keyed_or_fault (record { fid = fid; name = name; value = value })
 
 -- the fields that the words spell, or the lowest fault of all the words
-abbrev pub fields_in : List (List ℕ) → Result (List FieldData) ℕ
-fields_in [] = Ok []
-fields_in (w ∷ ws) = both (field_in w) (fields_in ws) >>= λ x. Ok (x.0 ∷ x.1)
+abbrev pub fields_in : Nums → List (List ℕ) → Result (List FieldData) ℕ
+fields_in nums [] = Ok []
+fields_in nums (w ∷ ws) = both (field_in nums w) (fields_in nums ws) >>= λ x. Ok (x.0 ∷ x.1)
 
 -- no two fields have one key
 abbrev pub are_distinct : List FieldData → Bool
@@ -55,8 +57,8 @@ abbrev pub distinct_or_fault : List FieldData → Result (List FieldData) ℕ
 distinct_or_fault fs = if are_distinct fs then Ok fs else Err 8
 
 -- the message that the words spell
-abbrev pub message_in : List (List ℕ) → Result (List FieldData) ℕ
-message_in ws = fields_in ws >>= distinct_or_fault
+abbrev pub message_in : Nums → List (List ℕ) → Result (List FieldData) ℕ
+message_in nums ws = fields_in nums ws >>= distinct_or_fault
 
 -- the fields of a message, each behind a space
 abbrev pub spaced_field : FieldData → List ℕ
@@ -65,7 +67,7 @@ spaced_field f = 32 ∷ field_text f
 abbrev pub fields_text : List FieldData → List ℕ
 fields_text fs = flat_map spaced_field fs
 
--- a message as its type has it
-pub record IsMessage (fs : List FieldData) : Type 0 where
-  pub fields : AllByRecursion IsField fs
+-- a message as its type has it, each field of which the text knows
+pub record IsMessage (nums : Nums) (fs : List FieldData) : Type 0 where
+  pub fields : AllByRecursion (IsField nums) fs
   pub distinct : are_distinct fs ≡ true

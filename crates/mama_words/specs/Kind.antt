@@ -1,4 +1,4 @@
--- believed: Kinds and qualities, and the words for them.
+-- believed: Kinds, qualities and strategies, and the words for them.
 use Rattle.std.specs.Prelude.{ℕ, codes, List, Option, Some, None, if◌then◌else◌}
 use Rattle.std.specs.Str.{bytes_eq}
 use Rattle.mama_event.specs.declared.market.SubKind.{SubKind}
@@ -7,6 +7,8 @@ use Rattle.mama_event.specs.declared.market.MsgKind.{MsgKind}
 use Rattle.mama_event.specs.declared.market.MsgKind.TheVariants.{Initial, Update, Recap}
 use Rattle.mama_event.specs.declared.market.Quality.{Quality}
 use Rattle.mama_event.specs.declared.market.Quality.TheVariants.{Ok as Good, Stale}
+use Rattle.mama_event.specs.declared.shape.Strategy.{Strategy}
+use Rattle.mama_event.specs.declared.shape.Strategy.TheVariants.{One, Two}
 
 abbrev pub sub_kind_text : SubKind → List ℕ
 sub_kind_text Market = codes "market"
@@ -27,3 +29,12 @@ msg_kind_text Recap = codes "recap"
 abbrev pub quality_text : Quality → List ℕ
 quality_text Good = codes "ok"
 quality_text Stale = codes "stale"
+
+abbrev pub strategy_text : Strategy → List ℕ
+strategy_text One = codes "1"
+strategy_text Two = codes "2"
+
+abbrev pub strategy_in : List ℕ → Option Strategy
+strategy_in word =
+    if bytes_eq word (codes "1") then Some One
+    else (if bytes_eq word (codes "2") then Some Two else None)

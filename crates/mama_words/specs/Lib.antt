@@ -9,6 +9,7 @@ pub mod Quote
 pub mod Kind
 pub mod KindIn
 pub mod Id
+pub mod NumberList
 pub mod Value
 pub mod Field
 pub mod Lower

@@ -9,9 +9,12 @@ use Rattle.mama_msg.specs.Price.{PriceData}
 use Rattle.mama_msg.specs.Value.{IsText, is_printable}
 use Rattle.mama_words.specs.declared.value_type.ValueType.{ValueType}
 use Rattle.mama_words.specs.declared.value_type.ValueType.TheVariants as types
+use Rattle.mama_words.specs.declared.nums.Nums.{Nums}
+use Rattle.mama_words.specs.declared.nums.Nums.TheVariants.{Unknown, Known}
 use Rattle.mama_words.specs.Parting.{cut_at}
 use Rattle.mama_words.specs.Number.{number_in, below_in, int_in, is_within}
 use Rattle.mama_words.specs.Quote.{quoted_in}
+use Rattle.mama_words.specs.NumberList.{numbers_text, numbers_in, AreNumbers}
 use Rattle.mama_edge.specs.Decimal.{decimal, int_decimal}
 use Rattle.mama_edge.specs.Quoted.{quoted}
 
@@ -31,10 +34,11 @@ type_text types.Text = codes "text"
 type_text types.Bytes = codes "bytes"
 type_text types.Price = codes "price"
 type_text types.Moment = codes "moment"
+type_text types.Numbers = codes "nums"
 
--- the type that a word is for
-unfoldable pub type_in : List ℕ → Option ValueType
-type_in word =
+-- the type that a word is for in some text
+unfoldable pub any_type_in : List ℕ → Option ValueType
+any_type_in word =
     if bytes_eq word (codes "bool") then Some types.Bool
     else (if bytes_eq word (codes "char") then Some types.Char
     else (if bytes_eq word (codes "i8") then Some types.I8
@@ -48,7 +52,21 @@ type_in word =
     else (if bytes_eq word (codes "text") then Some types.Text
     else (if bytes_eq word (codes "bytes") then Some types.Bytes
     else (if bytes_eq word (codes "price") then Some types.Price
-    else (if bytes_eq word (codes "moment") then Some types.Moment else None)))))))))))))
+    else (if bytes_eq word (codes "moment") then Some types.Moment
+    else (if bytes_eq word (codes "nums") then Some types.Numbers else None))))))))))))))
+
+-- the types that a text knows: all, or all but nums
+abbrev pub is_known : Nums → ValueType → Bool
+is_known Unknown types.Numbers = false
+is_known _ _ = true
+
+abbrev pub if_known : Nums → Option ValueType → Option ValueType
+if_known nums None = None
+if_known nums (Some t) = if is_known nums t then Some t else None
+
+-- the type that a word is for
+abbrev pub type_in : Nums → List ℕ → Option ValueType
+type_in nums word = if_known nums (any_type_in word)
 
 -- the type of a value
 abbrev pub type_of : Value → ValueType
@@ -66,6 +84,7 @@ type_of (values.Text t) = types.Text
 type_of (values.Bytes bs) = types.Bytes
 type_of (values.Price p) = types.Price
 type_of (values.Moment n) = types.Moment
+type_of (values.Numbers zs) = types.Numbers
 
 -- two hexadecimal digits, in lower case
 abbrev pub hex_pair : ℕ → List ℕ
@@ -99,6 +118,7 @@ value_text (values.Text t) = quoted t
 value_text (values.Bytes bs) = bytes_text bs
 value_text (values.Price p) = price_text p
 value_text (values.Moment n) = decimal n
+value_text (values.Numbers zs) = numbers_text zs
 
 abbrev pub bool_in : List ℕ → Option Bool
 bool_in text = if bytes_eq text (codes "true") then Some true else (if bytes_eq text (codes "false") then Some false else None)
@@ -157,6 +177,7 @@ value_in types.Text text = option_map (λ t. values.Text t) (text_in text)
 value_in types.Bytes text = option_map (λ bs. values.Bytes bs) (bytes_in text)
 value_in types.Price text = option_map (λ p. values.Price p) (price_in text)
 value_in types.Moment text = option_map (λ n. values.Moment n) (number_in text)
+value_in types.Numbers text = option_map (λ zs. values.Numbers zs) (numbers_in text)
 
 -- a value as its type has it
 abbrev pub IsValue : Value → Type 0
@@ -174,3 +195,4 @@ IsValue (values.Text t) = IsText t
 IsValue (values.Bytes bs) = (length bs ≤ 255) × (list_all (λ b. nat_lt b (2 ^ 8)) bs ≡ true)
 IsValue (values.Price p) = (is_within (2 ^ 63) p.mantissa ≡ true) × (p.decimals ≤ 18)
 IsValue (values.Moment n) = n < 2 ^ 64
+IsValue (values.Numbers zs) = AreNumbers zs

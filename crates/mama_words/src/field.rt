@@ -6,6 +6,7 @@ ghost use Rattle.mama_words.specs.Lower.{lower};
 
 use crate::error::ReadError;
 use crate::number::read_below;
+use crate::nums::Nums;
 use crate::parting::cut_at;
 use crate::value::{put_value, read_value, type_of};
 use crate::value_type::{put_type, read_type};
@@ -21,17 +22,17 @@ fn read_name(text: &[u8]) -> Option<Name>
 }
 
 /// The field that a word spells. Fault 6 where it has not three colons or its name is none, 7 where its fid, its type
-/// or its value is none, and 8 where its fid is 0 and it has no name.
+/// or its value is none, and 8 where its fid is 0 and it has no name. The type `nums` is one where it is known.
 #[tactic(auto, unfolding(crate::specs::Field::field_in))]
-pub fn read_field(alloc: Global, word: &[u8]) -> Result<Field, ReadError>
-    ensures { Gives (λ x. x) result (fields.field_in word.now) }
+pub fn read_field(alloc: Global, nums: Nums, word: &[u8]) -> Result<Field, ReadError>
+    ensures { Gives (λ x. x) result (fields.field_in nums word.now) }
 {
     let (fid, rest) = cut_at(b':', word).ok_or(ReadError::Fault(6))?;
     let (name, rest) = cut_at(b':', rest).ok_or(ReadError::Fault(6))?;
     let (kind, value) = cut_at(b':', rest).ok_or(ReadError::Fault(6))?;
     let name = read_name(name).ok_or(ReadError::Fault(6))?;
     let fid = read_below(1 << 16, fid).ok_or(ReadError::Fault(7))?;
-    let kind = read_type(kind).ok_or(ReadError::Fault(7))?;
+    let kind = read_type(nums, kind).ok_or(ReadError::Fault(7))?;
     let value = read_value(alloc, kind, value)?;
     Field::new(fid as u16, name, value).ok_or(ReadError::Fault(8))
 }
@@ -47,13 +48,13 @@ fn lower(least: Option<u8>, fault: u8) -> u8
 }
 
 // The fields that the words spell, or the lowest fault of all the words.
-fn read_field_list(alloc: Global, words: &[&[u8]]) -> Result<Vec<Field>, ReadError>
-    ensures { Gives (λ v. v.items) result (fields.fields_in (map (λ w. w.now) words.now)) }
+fn read_field_list(alloc: Global, nums: Nums, words: &[&[u8]]) -> Result<Vec<Field>, ReadError>
+    ensures { Gives (λ v. v.items) result (fields.fields_in nums (map (λ w. w.now) words.now)) }
 {
     let mut found = Vec::with_capacity(alloc, words.len())?;
     let mut least = None;
     for word in words {
-        match read_field(alloc, word) {
+        match read_field(alloc, nums, word) {
             Ok(field) => found.push(field)?,
             Err(ReadError::Memory) => return Err(ReadError::Memory),
             Err(ReadError::Fault(fault)) => least = Some(lower(least, fault)),
@@ -78,10 +79,10 @@ fn message_of(found: Vec<Field>) -> Result<Msg, ReadError>
 
 /// The message that the words spell, a field for each. Otherwise the lowest fault of all the words, and fault 8 where
 /// two fields have one key. A message of any number of fields is read.
-pub fn read_message(alloc: Global, words: &[&[u8]]) -> Result<Msg, ReadError>
-    ensures { Gives (λ m. m) result (fields.message_in (map (λ w. w.now) words.now)) }
+pub fn read_message(alloc: Global, nums: Nums, words: &[&[u8]]) -> Result<Msg, ReadError>
+    ensures { Gives (λ m. m) result (fields.message_in nums (map (λ w. w.now) words.now)) }
 {
-    let found = read_field_list(alloc, words)?;
+    let found = read_field_list(alloc, nums, words)?;
     message_of(found)
 }
 

@@ -2,7 +2,7 @@ ghost use Rattle.std.specs.Prelude.{◌≡◌, ◌++◌, OnOk, OnErr};
 ghost use Rattle.mama_words.specs.Kind as kinds;
 ghost use Rattle.mama_words.specs.KindIn.{msg_kind_in, quality_in};
 
-use mama_event::{MsgKind, Quality, SubKind};
+use mama_event::{MsgKind, Quality, Strategy, SubKind};
 use mama_memory::OutOfMemory;
 
 /// The kind of subscription that a word names.
@@ -82,6 +82,31 @@ pub fn print_quality(quality: Quality, out: &mut Vec<u8>) -> Result<(), OutOfMem
     match quality {
         Quality::Ok => out.extend_from_slice(b"ok")?,
         Quality::Stale => out.extend_from_slice(b"stale")?,
+    }
+    Ok(())
+}
+
+/// The strategy that a word names.
+pub fn read_strategy(word: &[u8]) -> Option<Strategy>
+    ensures { result ≡ kinds.strategy_in word.now }
+{
+    if word == b"1".as_slice() {
+        Some(Strategy::One)
+    } else if word == b"2".as_slice() {
+        Some(Strategy::Two)
+    } else {
+        None
+    }
+}
+
+/// Appends the word for a strategy. Where no memory is found, nothing is appended.
+pub fn print_strategy(strategy: Strategy, out: &mut Vec<u8>) -> Result<(), OutOfMemory>
+    ensures ok { OnOk result (out.new.items ≡ out.old.items ++ kinds.strategy_text strategy) }
+    ensures err { OnErr result (out.new.items ≡ out.old.items) }
+{
+    match strategy {
+        Strategy::One => out.extend_from_slice(b"1")?,
+        Strategy::Two => out.extend_from_slice(b"2")?,
     }
     Ok(())
 }

@@ -5,16 +5,18 @@ ghost use Rattle.mama_edge.specs.Quoted.{quoted, IsPrintable};
 ghost use Rattle.mama_event.specs.declared.market.SubKind.{SubKind};
 ghost use Rattle.mama_event.specs.declared.market.MsgKind.{MsgKind};
 ghost use Rattle.mama_event.specs.declared.market.Quality.{Quality};
+ghost use Rattle.mama_event.specs.declared.shape.Strategy.{Strategy};
 ghost use Rattle.mama_msg.specs.Field.{FieldData};
 ghost use Rattle.mama_words.specs.declared.id.IdWord.{IdWord};
 ghost use Rattle.mama_words.specs.declared.order.OrderWord.{OrderWord};
+ghost use Rattle.mama_words.specs.declared.nums.Nums.{Nums};
 ghost use Rattle.std.specs.List.{flat_map};
 ghost use Rattle.mama_words.specs.Parting.{words, parted_in, cut_at, pieces};
 ghost use Rattle.mama_words.specs.Sentence.{spaced, sentence};
 ghost use Rattle.mama_words.specs.WordForm.{IsWord, AreWords};
 ghost use Rattle.mama_words.specs.Number.{number_in, int_in, is_within};
 ghost use Rattle.mama_words.specs.Quote.{quoted_in};
-ghost use Rattle.mama_words.specs.Kind.{sub_kind_in, sub_kind_text, msg_kind_text, quality_text};
+ghost use Rattle.mama_words.specs.Kind.{sub_kind_in, sub_kind_text, msg_kind_text, quality_text, strategy_in, strategy_text};
 ghost use Rattle.mama_words.specs.KindIn.{msg_kind_in, quality_in};
 ghost use Rattle.mama_words.specs.Id.{id_in, id_text};
 ghost use Rattle.mama_words.specs.Field.{field_in, field_text, IsField, fields_text, message_in, IsMessage};
@@ -34,7 +36,7 @@ pub fn texts_are_spelled()
     ensures again { (text : List ℕ) → IsPrintable text → quoted_in (quoted text) ≡ Some text }
 {}
 
-/// Kinds and qualities.
+/// Kinds, qualities and strategies.
 pub fn kinds_are_spelled()
     ensures sub_kind_found { (word : List ℕ) (k : SubKind) → sub_kind_in word ≡ Some k → word ≡ sub_kind_text k }
     ensures sub_kind_again { (k : SubKind) → sub_kind_in (sub_kind_text k) ≡ Some k }
@@ -42,6 +44,8 @@ pub fn kinds_are_spelled()
     ensures msg_kind_again { (k : MsgKind) → msg_kind_in (msg_kind_text k) ≡ Some k }
     ensures quality_found { (word : List ℕ) (q : Quality) → quality_in word ≡ Some q → word ≡ quality_text q }
     ensures quality_again { (q : Quality) → quality_in (quality_text q) ≡ Some q }
+    ensures strategy_found { (word : List ℕ) (s : Strategy) → strategy_in word ≡ Some s → word ≡ strategy_text s }
+    ensures strategy_again { (s : Strategy) → strategy_in (strategy_text s) ≡ Some s }
 {}
 
 /// Ids, with any letter.
@@ -50,12 +54,12 @@ pub fn ids_are_spelled()
     ensures again { (letter : ℕ) (id : IdWord) → IsId id → id_in letter (id_text letter id) ≡ Some id }
 {}
 
-/// Fields, and messages as lists of words.
+/// Fields, and messages as lists of words, where the type `nums` is known and where it is not.
 pub fn fields_are_spelled()
-    ensures found { (word : List ℕ) (f : FieldData) → field_in word ≡ Ok f → IsField f × (word ≡ field_text f) }
-    ensures again { (f : FieldData) → IsField f → field_in (field_text f) ≡ Ok f }
-    ensures message_found { (words : List (List ℕ)) (fs : List FieldData) → message_in words ≡ Ok fs → IsMessage fs × (words ≡ map field_text fs) }
-    ensures message_again { (fs : List FieldData) → IsMessage fs → message_in (map field_text fs) ≡ Ok fs }
+    ensures found { (nums : Nums) (word : List ℕ) (f : FieldData) → field_in nums word ≡ Ok f → IsField nums f × (word ≡ field_text f) }
+    ensures again { (nums : Nums) (f : FieldData) → IsField nums f → field_in nums (field_text f) ≡ Ok f }
+    ensures message_found { (nums : Nums) (words : List (List ℕ)) (fs : List FieldData) → message_in nums words ≡ Ok fs → IsMessage nums fs × (words ≡ map field_text fs) }
+    ensures message_again { (nums : Nums) (fs : List FieldData) → IsMessage nums fs → message_in nums (map field_text fs) ≡ Ok fs }
 {}
 
 /// Orders as lists of words.
@@ -84,10 +88,11 @@ pub fn spellings_are_words()
     ensures sub_kind { (k : SubKind) → IsWord (sub_kind_text k) }
     ensures msg_kind { (k : MsgKind) → IsWord (msg_kind_text k) }
     ensures quality { (q : Quality) → IsWord (quality_text q) }
+    ensures strategy { (s : Strategy) → IsWord (strategy_text s) }
     ensures sub_id { (id : IdWord) → IsId id → IsWord (id_text 115 id) }
     ensures timer_id { (id : IdWord) → IsId id → IsWord (id_text 116 id) }
     ensures inbox_id { (id : IdWord) → IsId id → IsWord (id_text 105 id) }
-    ensures message { (fs : List FieldData) → IsMessage fs → AreWords (map field_text fs) }
+    ensures message { (nums : Nums) (fs : List FieldData) → IsMessage nums fs → AreWords (map field_text fs) }
     ensures message_row { (fs : List FieldData) → fields_text fs ≡ flat_map spaced (map field_text fs) }
     ensures order { (o : OrderWord) → IsOrder o → AreWords (order_words o) }
     ensures order_row { (o : OrderWord) → order_text o ≡ sentence (order_words o) }

@@ -8,6 +8,7 @@ ghost use Rattle.mama_words.specs.Value as values;
 
 use crate::error::ReadError;
 use crate::number::{read_below, read_int, read_number};
+use crate::number_list::{put_numbers, read_numbers};
 use crate::parting::cut_at;
 use crate::quote::read_quoted_word;
 use crate::value_type::ValueType;
@@ -184,6 +185,7 @@ pub fn read_value(alloc: Global, kind: ValueType, text: &[u8]) -> Result<Value, 
         ValueType::Bytes => Ok(Value::Bytes(read_bytes(alloc, text)?)),
         ValueType::Price => Ok(Value::Price(read_price(text).ok_or(ReadError::Fault(7))?)),
         ValueType::Moment => Ok(Value::Moment(read_number(text).ok_or(ReadError::Fault(7))?)),
+        ValueType::Numbers => Ok(Value::Numbers(read_numbers(alloc, text)?)),
     }
 }
 
@@ -206,6 +208,7 @@ pub fn type_of(value: &Value) -> ValueType
         Value::Bytes(_) => ValueType::Bytes,
         Value::Price(_) => ValueType::Price,
         Value::Moment(_) => ValueType::Moment,
+        Value::Numbers(_) => ValueType::Numbers,
     }
 }
 
@@ -280,5 +283,6 @@ pub(crate) fn put_value(value: &Value, out: &mut Vec<u8>) -> Result<(), OutOfMem
         Value::Bytes(bytes) => put_bytes(bytes, out),
         Value::Price(price) => put_price(price, out),
         Value::Moment(n) => print_u64(*n, out),
+        Value::Numbers(numbers) => put_numbers(numbers, out),
     }
 }

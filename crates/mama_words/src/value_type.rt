@@ -1,5 +1,6 @@
 ghost use Rattle.std.specs.Prelude.{◌≡◌, ◌++◌, OnOk};
 
+use crate::nums::Nums;
 use mama_memory::OutOfMemory;
 
 /// The type of a value.
@@ -19,13 +20,14 @@ pub enum ValueType {
     Bytes,
     Price,
     Moment,
+    Numbers,
 }
 
 ghost use Rattle.mama_words.specs.Named.{named_in};
-ghost use Rattle.mama_words.specs.Value.{type_in, type_text};
+ghost use Rattle.mama_words.specs.Value.{any_type_in, type_in, type_text, is_known};
 
 impl ValueType {
-    const ALL: [ValueType; 14] = [
+    const ALL: [ValueType; 15] = [
         ValueType::Bool,
         ValueType::Char,
         ValueType::I8,
@@ -40,6 +42,7 @@ impl ValueType {
         ValueType::Bytes,
         ValueType::Price,
         ValueType::Moment,
+        ValueType::Numbers,
     ];
 
     // The word for a type.
@@ -61,6 +64,17 @@ impl ValueType {
             ValueType::Bytes => b"bytes",
             ValueType::Price => b"price",
             ValueType::Moment => b"moment",
+            ValueType::Numbers => b"nums",
+        }
+    }
+
+    // Whether a text knows it.
+    fn is_known(self, nums: Nums) -> bool
+        ensures { result ≡ is_known nums self }
+    {
+        match (nums, self) {
+            (Nums::Unknown, ValueType::Numbers) => false,
+            _ => true,
         }
     }
 }
@@ -78,12 +92,24 @@ fn named(word: &[u8], kinds: &[ValueType]) -> Option<ValueType>
     None
 }
 
-// The type that a word names.
+// The type that a word names in some text.
 #[tactic(auto, using(crate::proofs::KindLaws::type_named))]
-pub(crate) fn read_type(word: &[u8]) -> Option<ValueType>
-    ensures { result ≡ type_in word.now }
+fn read_any_type(word: &[u8]) -> Option<ValueType>
+    ensures { result ≡ any_type_in word.now }
 {
     named(word, &ValueType::ALL)
+}
+
+// The type that a word names.
+pub(crate) fn read_type(nums: Nums, word: &[u8]) -> Option<ValueType>
+    ensures { result ≡ type_in nums word.now }
+{
+    let kind = read_any_type(word)?;
+    if kind.is_known(nums) {
+        Some(kind)
+    } else {
+        None
+    }
 }
 
 // Appends the word for a type.

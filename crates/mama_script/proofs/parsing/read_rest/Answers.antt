@@ -10,7 +10,7 @@ use Rattle.mama_script.proofs.parsing.read_rest.Goals as goal
 
 pub returns-in-Err-clause-exact : goal.returns-in-Err-clause-exact
 returns-in-Err-clause-exact c =
-    fails_more c.loop-line.lines.items (seen c.loop-line.context) c.loop-line.number c.loop-line.rest.now c.in-Some.line.now c.in-Some.after.now c.in-Err.fault (read_from start 2 (pieces 10 c.args.text.now))
+    fails_more c.loop-line.lines.items (seen c.loop-line.context) c.loop-line.number c.loop-line.rest.now c.in-Some.line.now c.in-Some.after.now c.in-Err.fault (read_from (start c.args.version) 2 (pieces 10 c.args.text.now))
     c.in-Some.ensures c.in-Err.ensures.exact c.loop-line.invariant.told
 
 pub loop-line-smaller : goal.loop-line-smaller
@@ -20,7 +20,7 @@ pub loop-line-preserved : goal.loop-line-preserved
 loop-line-preserved c =
     let more = c.in-Some.after.now in
     let line = c.in-Ok.line in
-    let total = read_from start 2 (pieces 10 c.args.text.now) in
+    let total = read_from (start c.args.version) 2 (pieces 10 c.args.text.now) in
     let front : c.push.new.self.items ≡ c.loop-line.lines.items ++ line ∷ [] = c.in_ok-push-in-Ok.ensures.items in
     let shorter : length more < length c.loop-line.rest.now = cut_is_shorter c.loop-line.rest.now c.in-Some.line.now more c.in-Some.ensures in
     let told : with_front (c.loop-line.lines.items ++ line ∷ []) (read_from (after (seen c.loop-line.context) line) (c.loop-line.number + 1) (pieces 10 more)) ≡ total =
@@ -35,7 +35,7 @@ loop-line-preserved c =
 
 pub returns-in-Some-end_fault-clause-exact : goal.returns-in-Some-end_fault-clause-exact
 returns-in-Some-end_fault-clause-exact c =
-    let total = read_from start 2 (pieces 10 c.args.text.now) in
+    let total = read_from (start c.args.version) 2 (pieces 10 c.args.text.now) in
     let fault = c.in-Some-end_fault.fault in
     let wrong : Some fault ≡ end_fault c.loop-line.context.place c.loop-line.number c.loop-line.rest.now =
     c.in-Some-end_fault.ensures ∙ ap (λ (p : Place). end_fault p c.loop-line.number c.loop-line.rest.now) c.place.ensures in

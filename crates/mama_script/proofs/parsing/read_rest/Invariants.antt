@@ -8,7 +8,7 @@ use Rattle.mama_script.proofs.parsing.read_rest.Given as goal
 
 abbrev pub invariant-loop-line : goal.invariant-loop-line
 invariant-loop-line l = record {
-  told : with_front l.lines.items (read_from (seen l.context) l.number (pieces 10 l.rest)) ≡ read_from start 2 (pieces 10 l.fn.text);
+  told : with_front l.lines.items (read_from (seen l.context) l.number (pieces 10 l.rest)) ≡ read_from (start l.fn.version) 2 (pieces 10 l.fn.text);
   counted : l.number + length l.rest ≤ length l.fn.text + 2;
   few : length l.lines.items + length l.rest ≤ length l.fn.text;
 }

@@ -1,11 +1,14 @@
 use Rattle.std.specs.Prelude.{position}
-use Rattle.std.proofs.Common.{List, Bool, ℕ, ◌≡◌, ◌∙◌, ◌==◌, ◌++◌, sym, ap, subst, false, [], map}
+use Rattle.std.proofs.Common.{List, Bool, ℕ, ◌≡◌, ◌∙◌, ◌==◌, ◌++◌, sym, ap, subst, false, [], ◌∷◌, map}
 use Rattle.mama_link.specs.Link.{standing_after}
 use Rattle.mama_event.specs.declared.ids.InboxId.{InboxId}
 use Rattle.mama_event.specs.declared.ids.ObjectId.TheVariants.{Sub}
 use Rattle.mama_event.specs.declared.market.MsgKind.TheVariants.{Initial}
 use Rattle.mama_event.specs.declared.to_publisher.ToPublisher.TheVariants as asked
 use Rattle.mama_event.specs.declared.to_queue.Make.TheVariants as make
+use Rattle.mama_event.specs.declared.to_queue.ToQueue.TheVariants as queued
+use Rattle.mama_event.specs.declared.shape.Strategy.{Strategy}
+use Rattle.mama_bridge.specs.declared.out.BridgeOut.TheVariants as out
 use Rattle.mama_rules_services.specs.Bridge.{wants_image}
 use Rattle.mama_laws_bridge.specs.Table.{has_joined, slot_for, sub_slots, inbox_slots, ended_now, new_sub}
 use Rattle.mama_slots.specs.Slots.{SlotData, in_use, IsNext}
@@ -49,8 +52,10 @@ returns-clause-ok g c table s sound =
         settled = last.settled ∙ rest.settled ∙ s.settled;
         byes = last.byes ∙ rest.byes ∙ s.byes;
       };
-      adds = rw new (adds_created g.L.Tagged.tagged c.args.out.now.items c.ready_sub.new.out.items c.push_reserved.new.self.items c.want_image.new.out.items c.args.terms.queue c.in-Ok.slot (slot_for c.args.terms.queue table) (Sub c.args.sub) (make.Sub c.args.terms.kind c.args.terms.cache) c.args.listener outs (wants_image c.args.shape.now c.args.sub c.args.terms.kind c.args.terms.topic)
-          slot c.ready_sub.ensures.out c.push_reserved.ensures.items c.want_image.ensures (says_image g.L.Tagged.tagged c.args.shape.now c.args.sub c.args.terms.kind c.args.terms.topic));
+      adds = rw new (adds_created g.L.Tagged.tagged c.args.out.now.items c.ready_sub.new.out.items c.push_reserved.new.self.items c.want_image.new.out.items c.args.terms.queue c.in-Ok.slot (slot_for c.args.terms.queue table) (Sub c.args.sub) (make.Sub c.args.terms.kind c.args.terms.cache c.args.shape.now.strategy) c.args.listener outs (wants_image c.args.shape.now c.args.sub c.args.terms.kind c.args.terms.topic)
+          slot c.ready_sub.ensures.out
+          (c.push_reserved.ensures.items ∙ ap (λ (t : Strategy). c.ready_sub.new.out.items ++ out.Queue c.args.terms.queue (queued.Create c.in-Ok.slot (Sub c.args.sub) (make.Sub c.args.terms.kind c.args.terms.cache t) c.args.listener) ∷ []) c.strategy-strategy.ensures)
+          c.want_image.ensures (says_image g.L.Tagged.tagged c.args.shape.now c.args.sub c.args.terms.kind c.args.terms.topic));
     })
 
 pub hold_unless-requires : goal.hold_unless-requires

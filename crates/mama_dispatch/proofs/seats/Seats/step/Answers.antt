@@ -6,6 +6,7 @@ use Rattle.mama_dq.specs.Context.{ContextData, new_context}
 use Rattle.mama_event.specs.declared.market.SubKind.TheVariants.{Basic}
 use Rattle.mama_dq.specs.Strategy.{callbacks_of}
 use Rattle.mama_event.specs.Listener.{told}
+use Rattle.mama_event.specs.declared.shape.Strategy.TheVariants.{One}
 use Rattle.mama_dispatch.specs.Seats.{SeatData, stepped, with_context}
 use Rattle.mama_dispatch.specs.Rows.{row_data}
 use Rattle.mama_dispatch.proofs.CacheBound.{stays_small}
@@ -21,5 +22,5 @@ returns-clause-ok g c = on_ok_weaker c.step_at.result (λ row. (changed (row_dat
 
 pub returns-clause-pending : goal.returns-clause-pending
 returns-clause-pending g c =
-    let was = ap (λ (s : Option SeatData). option_map_or (λ (x : SeatData). x.context) s (new_context Basic 0)) (row_there (row_data (told g.L.Tagged.tagged g.L.Listener.calls g.L.Listener.heard g.L.Listener.given g.L.Listener.plan)) c.self.inside.rows.items c.live_place-place.result c.index_mut.result.now c.args.object.now c.args.self.now c.self.view_is c.live_place-place.ensures c.index_mut.ensures.value) in
+    let was = ap (λ (s : Option SeatData). option_map_or (λ (x : SeatData). x.context) s (new_context One Basic 0)) (row_there (row_data (told g.L.Tagged.tagged g.L.Listener.calls g.L.Listener.heard g.L.Listener.given g.L.Listener.plan)) c.self.inside.rows.items c.live_place-place.result c.index_mut.result.now c.args.object.now c.args.self.now c.self.view_is c.live_place-place.ensures c.index_mut.ensures.value) in
     on_ok_weaker c.step_at.result (λ more. more ∙ ap (λ (x : ContextData). c.args.pending.now ++ callbacks_of x c.args.msg.now) (sym was)) c.step_at.ensures.pending

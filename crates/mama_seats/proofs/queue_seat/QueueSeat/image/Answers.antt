@@ -1,4 +1,4 @@
-use Rattle.std.proofs.Common.{ℕ, List, ap, ◌∙◌}
+use Rattle.std.proofs.Common.{◌≡◌, ℕ, List, ap, ◌∙◌}
 use Rattle.std.proofs.lemmas.Result.{IfOk-weaker}
 use Rattle.mama_journal.specs.Journal.{first_said}
 use Rattle.mama_event.specs.declared.ids.ObjectId.{ObjectId}
@@ -18,7 +18,7 @@ returns c =
     let orders : ObjectId → ℕ → List Order = orders_in c.self.inside.plans.now in
     let journal : List (ℕ × QueueNote) = c.self.inside.serving.journal in
     let sub = c.args.sub in
-    IfOk-weaker c.image_of.result _ _
+    IfOk-weaker c.image_of.result _ (λ found. found_image sub found ≡ image_of c.args.self.now.objects c.args.self.now.journal sub)
     (λ found is.
     ap (found_image sub) (is orders (c.planned_orders_fit.ensures orders c.self.invariant))
     ∙ found_as sub (context_after orders journal sub) (context_waits (first_said (λ (e : ℕ × QueueNote). make_in (Sub sub) e.1) journal) (messages_of sub (deeds orders journal)))
