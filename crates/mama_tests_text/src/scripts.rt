@@ -83,7 +83,9 @@ fn a_subscription_has_its_terms(rt: HostRuntime) -> Result<(), Fail> {
 // The line, the fault, and a text that has it.
 const REFUSED: &str = r#"1 1 
 1 1 mama script 1
-1 1 mama script 2|queues 1|client|
+1 1 mama script 3|queues 1|client|
+2 3 mama script 2|queues 1|client|
+2 3 mama script 1|strategy 1|queues 1|client|
 2 3 mama script 1|
 3 3 mama script 1|queues 1|
 3 2 mama script 1|queues 1|client
