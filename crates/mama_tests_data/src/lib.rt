@@ -1,5 +1,5 @@
-//! Tests of plain data and of what moves it: outboxes, slots, sources and sinks, messages and their payloads, links,
-//! events, publishers and clients.
+//! Tests of plain data and of what moves it: outboxes, slots, sources and sinks, messages, their payloads and packets,
+//! links, events, publishers and clients.
 //!
 //! Each table is one text, and each of its lines a row.
 #![tactic(auto)]
@@ -14,6 +14,8 @@ mod events;
 mod links;
 #[cfg(test)]
 mod messages;
+#[cfg(test)]
+mod packets;
 #[cfg(test)]
 mod payloads;
 #[cfg(test)]

@@ -77,7 +77,7 @@ fn payloads_are_read_and_written(rt: HostRuntime) -> Result<(), Fail> {
 }
 
 // A message of so many flags, with the fids from 1 on.
-fn flags(alloc: Global, count: u16) -> Result<Msg, Fail> {
+pub fn flags(alloc: Global, count: u16) -> Result<Msg, Fail> {
     let mut msg = Msg::new(alloc);
     for before in 0..count {
         let fid = before.saturating_add(1);
