@@ -78,7 +78,7 @@ impl<L: Listener> PublisherPost<L> {
         requires taker { taker.taken ≡ [] }
         requires port { port.put ≡ [] }
         ensures seat { IfOk result (λ seat. IsPublisherOf part.now number seat) }
-        ensures ends { IfOk result (λ seat. (seat.inlet.taker ≡ taker) × (seat.port ≡ port)) }
+        ensures value { IfOk result (λ seat. seat ≡ record { progress = record { publisher = record { number = number; held = part.now.base; seq = 0 }; journal = []; line = 0; pause = 0; over = false }; inlet = record { taker = taker; kept = [] }; port = port; left = [] }) }
     {
         Ok(PublisherPost {
             alloc,
