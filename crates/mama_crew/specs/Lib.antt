@@ -1,3 +1,5 @@
 pub mod Hall
 pub mod Client
 pub mod Seat
+pub mod Crew
+pub mod New

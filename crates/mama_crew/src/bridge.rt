@@ -1,14 +1,20 @@
-ghost use Rattle.std.specs.Prelude.{◌≡◌, ◌↔◌, true, [], Ok};
+ghost use Rattle.std.specs.Prelude.{◌≡◌, ◌↔◌, true, [], map, Ok, IfOk};
 ghost use mathlib.Core.List.{IsPrefix};
+ghost use Rattle.mama_event.specs.Ports.{timers_port_of_bridge, queue_port_of_bridge};
+ghost use Rattle.mama_lane.specs.Values.{new_port, new_taker};
 ghost use Rattle.mama_posts.specs.Bridge.{is_over};
 ghost use Rattle.mama_posts.specs.Service.{HasEnded, IsIdle, MadeStep};
+ghost use Rattle.mama_crew.specs.Hall.{AreLanesOf};
 ghost use Rattle.mama_crew.specs.Seat.{IsBridgeIn};
+ghost use Rattle.mama_crew.specs.New.{HasNotBridged};
 
+use crate::ends::BridgeEnds;
 use crate::hall::Hall;
 use mama_carry::Listener;
 use mama_memory::OutOfMemory;
 use mama_posts::{BridgePost, Pace};
 use mama_script::Script;
+use std::alloc::Global;
 use std::marker::Model;
 use std::sync::Wait;
 
@@ -33,6 +39,34 @@ impl<L: Listener> Model for BridgeSeat<L> {
 }
 
 impl<L: Listener> BridgeSeat<L> {
+    // The bridge's seat, with the ends of its lanes, by which nothing was taken or put. The error is want of memory.
+    pub(crate) fn new(
+        alloc: Global,
+        script: &Script,
+        _hall: &Hall<L>,
+        ends: BridgeEnds<L>,
+    ) -> Result<BridgeSeat<L>, OutOfMemory>
+        requires lanes { AreLanesOf script.now.shape _hall.now }
+        requires taker { ends.taker ≡ new_taker _hall.now.to_bridge }
+        requires publishers { ends.to_publishers.items ≡ map (λ lane. new_port lane 0) _hall.now.to_publishers }
+        requires queues { ends.to_queues.items ≡ map (λ lane. new_port lane queue_port_of_bridge) _hall.now.to_queues }
+        requires timers { ends.to_timers ≡ new_port _hall.now.to_timers (timers_port_of_bridge script.now.shape) }
+        ensures seat { IfOk result (λ seat. IsBridgeIn script.now _hall.now seat) }
+        ensures new { IfOk result (λ seat. HasNotBridged seat) }
+    {
+        let shape = script.shape();
+        let mut post = BridgePost::new(
+            alloc,
+            shape,
+            ends.taker,
+            ends.to_publishers,
+            ends.to_queues,
+            ends.to_timers,
+        )?;
+        let ended = post.ended();
+        Ok(BridgeSeat { post, ended })
+    }
+
     // Whether it has ended.
     pub(crate) fn ended(&self) -> bool
         ensures { (result ≡ true) ↔ HasEnded (is_over self.now.service.shape) self.now.service }

@@ -1,14 +1,19 @@
 ghost use Rattle.std.specs.Prelude.{◌≡◌, ◌↔◌, ◌<◌, true, [], Ok};
 ghost use mathlib.Core.List.{IsPrefix};
+ghost use Rattle.mama_event.specs.Ports.{clients_of, bridge_port_of_client, timers_port_of_client};
+ghost use Rattle.mama_lane.specs.Values.{new_port};
 ghost use Rattle.mama_posts.specs.Client.{HasEnded, MadeStep};
 ghost use Rattle.mama_crew.specs.Client.{reads_now};
-ghost use Rattle.mama_crew.specs.Seat.{IsClientIn};
+ghost use Rattle.mama_crew.specs.Hall.{AreLanesOf};
+ghost use Rattle.mama_crew.specs.Seat.{IsClientIn, HasNotWalked};
 
 use crate::hall::Hall;
-use mama_carry::Listener;
+use mama_carry::{Carried, Listener, ToBridge, ToTimers};
+use mama_ends::Port;
 use mama_memory::OutOfMemory;
-use mama_posts::{ClientPost, Pace};
+use mama_posts::{ClientListeners, ClientPost, Pace};
 use mama_script::Script;
+use std::alloc::Global;
 use std::marker::Model;
 use std::sync::Wait;
 
@@ -36,6 +41,28 @@ fn is_reading<L: Listener>(post: &ClientPost<L>, script: &Script, number: u32) -
 }
 
 impl<L: Listener> ClientSeat<L> {
+    // The seat of the client of this number, with its listeners and its ports, by which nothing was put. It takes no memory.
+    pub(crate) fn new(
+        alloc: Global,
+        script: &Script,
+        _hall: &Hall<L>,
+        number: u32,
+        listeners: ClientListeners<L>,
+        to_bridge: Port<ToBridge<Carried<L>>>,
+        to_timers: Port<ToTimers<Carried<L>>>,
+    ) -> ClientSeat<L>
+        requires lanes { AreLanesOf script.now.shape _hall.now }
+        requires there { number < clients_of script.now.shape }
+        requires bridge { to_bridge ≡ new_port _hall.now.to_bridge (bridge_port_of_client script.now.shape number) }
+        requires timers { to_timers ≡ new_port _hall.now.to_timers (timers_port_of_client script.now.shape number) }
+        ensures seat { IsClientIn script.now _hall.now number result }
+        ensures new { HasNotWalked result.post }
+    {
+        let post = ClientPost::new(alloc, number, script, listeners, to_bridge, to_timers);
+        let reads = is_reading(&post, script, number);
+        ClientSeat { post, reads }
+    }
+
     // Whether it has ended.
     pub(crate) fn ended(&self) -> bool
         ensures { (result ≡ true) ↔ HasEnded self.now.post }

@@ -6,7 +6,11 @@
 
 mod bridge;
 mod client;
+mod crew;
+mod ends;
 mod hall;
+mod listeners;
+mod opening;
 mod publisher;
 mod queue;
 mod seat;
@@ -14,8 +18,9 @@ mod timers;
 
 pub use bridge::BridgeSeat;
 pub use client::ClientSeat;
+pub use crew::{Crew, open_crew};
 pub use hall::Hall;
-pub use mama_carry::Listener;
+pub use mama_carry::{Listener, Maker};
 pub use mama_edge::GateActor;
 pub use mama_memory::OutOfMemory;
 pub use mama_posts::Pace;

@@ -1,15 +1,22 @@
-ghost use Rattle.std.specs.Prelude.{◌≡◌, ◌↔◌, ◌<◌, true, [], length, Some, Ok};
+ghost use Rattle.std.specs.Prelude.{◌≡◌, ◌↔◌, ◌<◌, true, [], length, map, Some, Ok, IfOk};
 ghost use Rattle.std.specs.List.{slice_get};
 ghost use mathlib.Core.List.{IsPrefix};
+ghost use Rattle.mama_event.specs.Ports.{publishers_of, bridge_port_of_publisher};
+ghost use Rattle.mama_lane.specs.Values.{new_port, new_taker};
 ghost use Rattle.mama_script.specs.declared.publisher.PublisherPart.{PublisherPart as PublisherPartData};
 ghost use Rattle.mama_posts.specs.Publisher.{HasEnded, MadeStep, IsCaughtUp};
+ghost use Rattle.mama_crew.specs.Hall.{AreLanesOf};
 ghost use Rattle.mama_crew.specs.Seat.{IsPublisherIn};
+ghost use Rattle.mama_crew.specs.New.{HasNotSent};
 
 use crate::hall::Hall;
-use mama_carry::Listener;
+use mama_carry::{Carried, Listener, ToBridge};
+use mama_ends::{Port, Taker};
+use mama_event::ToPublisher;
 use mama_memory::OutOfMemory;
 use mama_posts::{Pace, PublisherPost};
 use mama_script::{PublisherPart, Script};
+use std::alloc::Global;
 use std::marker::Model;
 use std::sync::Wait;
 
@@ -41,6 +48,30 @@ fn section(script: &Script, number: u32) -> &PublisherPart
 }
 
 impl<L: Listener> PublisherSeat<L> {
+    // The seat of the publisher of this number, with the ends of its lanes, by which nothing was taken or put. The error is
+    // want of memory.
+    pub(crate) fn new(
+        alloc: Global,
+        script: &Script,
+        _hall: &Hall<L>,
+        number: u32,
+        taker: Taker<ToPublisher>,
+        port: Port<ToBridge<Carried<L>>>,
+    ) -> Result<PublisherSeat<L>, OutOfMemory>
+        requires lanes { AreLanesOf script.now.shape _hall.now }
+        requires there { number < publishers_of script.now.shape }
+        requires taker { slice_get (map new_taker _hall.now.to_publishers) number ≡ Some taker }
+        requires port { port ≡ new_port _hall.now.to_bridge (bridge_port_of_publisher script.now.shape number) }
+        ensures seat { IfOk result (λ seat. IsPublisherIn script.now _hall.now number seat) }
+        ensures new { IfOk result (λ seat. HasNotSent seat) }
+    {
+        let _shape = script.shape();
+        let part = section(script, number);
+        let mut post = PublisherPost::new(alloc, number, part, taker, port)?;
+        let ended = post.ended();
+        Ok(PublisherSeat { post, ended })
+    }
+
     // Whether it has ended.
     pub(crate) fn ended(&self) -> bool
         ensures { (result ≡ true) ↔ HasEnded self.now }

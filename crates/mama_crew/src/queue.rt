@@ -1,14 +1,42 @@
-ghost use Rattle.std.specs.Prelude.{◌≡◌, ◌↔◌, ◌<◌, [], Ok};
+ghost use Rattle.std.specs.Prelude.{◌≡◌, ◌↔◌, ◌<◌, [], map, Some, Ok};
+ghost use Rattle.std.specs.List.{slice_get};
 ghost use mathlib.Core.List.{IsPrefix};
+ghost use Rattle.mama_event.specs.Ports.{queues_of, bridge_port_of_queue, timers_port_of_queue};
+ghost use Rattle.mama_lane.specs.Values.{new_port, new_taker};
 ghost use Rattle.mama_posts.specs.Queue.{HasEnded, MadeStep, IsCaughtUp};
+ghost use Rattle.mama_crew.specs.Hall.{AreLanesOf};
 ghost use Rattle.mama_crew.specs.Seat.{IsQueueIn};
+ghost use Rattle.mama_crew.specs.New.{HasNotDispatched};
 
 use crate::hall::Hall;
-use mama_carry::Listener;
+use mama_carry::{Carried, Listener, ToBridge, ToQueue, ToTimers};
+use mama_ends::{Port, Taker};
 use mama_memory::OutOfMemory;
 use mama_posts::{Pace, QueuePost};
 use mama_script::Script;
+use std::alloc::Global;
 use std::sync::Wait;
+
+/// The seat of the queue of this number, with the ends of its lanes, by which nothing was taken or put. It takes no memory.
+pub(crate) fn new_queue<L: Listener>(
+    alloc: Global,
+    _script: &Script,
+    _hall: &Hall<L>,
+    number: u32,
+    taker: Taker<ToQueue<Carried<L>>>,
+    to_bridge: Port<ToBridge<Carried<L>>>,
+    to_timers: Port<ToTimers<Carried<L>>>,
+) -> QueuePost<L>
+    requires lanes { AreLanesOf _script.now.shape _hall.now }
+    requires there { number < queues_of _script.now.shape }
+    requires taker { slice_get (map new_taker _hall.now.to_queues) number ≡ Some taker }
+    requires bridge { to_bridge ≡ new_port _hall.now.to_bridge (bridge_port_of_queue _script.now.shape number) }
+    requires timers { to_timers ≡ new_port _hall.now.to_timers (timers_port_of_queue _script.now.shape number) }
+    ensures seat { IsQueueIn _script.now _hall.now number result }
+    ensures new { HasNotDispatched result }
+{
+    QueuePost::new(alloc, number, taker, to_bridge, to_timers)
+}
 
 /// A turn of the seat of the queue of this number.
 pub(crate) fn turn_queue<L: Listener, Rt: Wait + Copy>(

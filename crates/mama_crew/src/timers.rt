@@ -1,14 +1,20 @@
-ghost use Rattle.std.specs.Prelude.{◌≡◌, ◌↔◌, true, [], Ok};
+ghost use Rattle.std.specs.Prelude.{◌≡◌, ◌↔◌, true, [], map, Ok, IfOk};
 ghost use mathlib.Core.List.{IsPrefix};
+ghost use Rattle.mama_event.specs.Ports.{queue_port_of_timers};
+ghost use Rattle.mama_lane.specs.Values.{new_port, new_taker};
 ghost use Rattle.mama_posts.specs.Timers.{is_over};
 ghost use Rattle.mama_posts.specs.Service.{HasEnded, IsIdle, MadeStep};
+ghost use Rattle.mama_crew.specs.Hall.{AreLanesOf};
 ghost use Rattle.mama_crew.specs.Seat.{IsTimersIn};
+ghost use Rattle.mama_crew.specs.New.{HasNotFired};
 
+use crate::ends::TimersEnds;
 use crate::hall::Hall;
 use mama_carry::Listener;
 use mama_memory::OutOfMemory;
 use mama_posts::{Pace, TimersPost};
 use mama_script::Script;
+use std::alloc::Global;
 use std::marker::Model;
 use std::sync::Wait;
 
@@ -33,6 +39,25 @@ impl<L: Listener> Model for TimersSeat<L> {
 }
 
 impl<L: Listener> TimersSeat<L> {
+    // The timer service's seat, with the ends of its lanes, by which nothing was taken or put. The error is want of memory.
+    pub(crate) fn new(
+        alloc: Global,
+        script: &Script,
+        _hall: &Hall<L>,
+        ends: TimersEnds<L>,
+    ) -> Result<TimersSeat<L>, OutOfMemory>
+        requires lanes { AreLanesOf script.now.shape _hall.now }
+        requires taker { ends.taker ≡ new_taker _hall.now.to_timers }
+        requires queues { ends.to_queues.items ≡ map (λ lane. new_port lane queue_port_of_timers) _hall.now.to_queues }
+        ensures seat { IfOk result (λ seat. IsTimersIn script.now _hall.now seat) }
+        ensures new { IfOk result (λ seat. HasNotFired seat) }
+    {
+        let shape = script.shape();
+        let mut post = TimersPost::new(alloc, shape, ends.taker, ends.to_queues)?;
+        let ended = post.ended();
+        Ok(TimersSeat { post, ended })
+    }
+
     // Whether it has ended.
     pub(crate) fn ended(&self) -> bool
         ensures { (result ≡ true) ↔ HasEnded (is_over self.now.service.shape) self.now.service }
