@@ -15,7 +15,7 @@ use Rattle.mama_rules_services.specs.Timers as timing
 use Rattle.mama_rules_services.specs.Ports.{queue_putter}
 use Rattle.mama_script.specs.Script.{ScriptData}
 use Rattle.mama_record.specs.RunData.{RunData}
-use Rattle.mama_rules_rounds.specs.World.{is_empty}
+use Rattle.mama_rules_rounds.specs.World.{is_empty, no_section}
 use Rattle.mama_rules_rounds.specs.World as world
 use Rattle.mama_rules_rounds.specs.Round.{setting_of}
 use Rattle.mama_rules_legal.specs.Edges.{client_puts, put_on_bridge, put_on_timers, put_on_queue, AreEdges}
@@ -26,7 +26,9 @@ use Rattle.mama_laws_legal.proofs.Heard.{settled_client}
 use Rattle.mama_laws_legal.proofs.Endings.{ending_settles}
 use Rattle.mama_laws_legal.proofs.LastEvents.{some_client}
 use Rattle.mama_rules_services.proofs.PutterPorts.{by_bridge_port, by_timers_port, by_queue_port}
+use Rattle.mama_laws_allowed.specs.Allowed.{StoppedPublishersSentOut}
 use Rattle.mama_laws_gather.specs.Gathered.{AreGathered, HaveEnded, GatheredIsLegal}
+use Rattle.mama_laws_gather.specs.Done.{GatheredDoLines}
 use Rattle.mama_laws_gather.proofs.TimersFins.{ended_by}
 use Rattle.mama_laws_gather.proofs.Endings.{last_of_client, last_of_publisher, last_of_timing_client, last_of_bridge}
 
@@ -64,7 +66,7 @@ module _ (script : ScriptData) (run : RunData) (orderly : IsOrderly script) (tak
   first_queue : 0 < queues_of script.shape
   first_queue = some_client orderly.within.queues_some
 
-  bridge_ended : bridging.has_ending script.shape (bridging.heard script.shape run.bridge) ≡ true
+  pub bridge_ended : bridging.has_ending script.shape (bridging.heard script.shape run.bridge) ≡ true
   bridge_ended =
       sym ((fins_tell script.shape run.bridge nothing_at_first).to_queues 0 first_queue)
       ∙ ap (list_any queue.is_last) (sym (parts_agree 0 (bridge_puts script.shape run.bridge)))
@@ -104,4 +106,12 @@ gathered script run orderly shaped lines taken ended calls = record {
   lines = lines;
   edges = edges_whole script run orderly taken ended;
   calls = calls;
+}
+
+pub lines_done : StoppedPublishersSentOut → GatheredDoLines
+lines_done law script run orderly did taken ended = record {
+  clients = did.clients;
+  publishers = λ p small.
+      law script run orderly.shaped (edges_whole script run orderly taken ended) (bridge_ended script run orderly taken ended) p small
+      (slice_index_or (setting_of script).publishers p no_section).lines (did.own p small) (did.stops p small);
 }
