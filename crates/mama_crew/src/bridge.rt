@@ -98,4 +98,12 @@ impl<L: Listener> BridgeSeat<L> {
         self.ended = ended;
         pace
     }
+
+    /// The bridge with the ends of its lanes. It takes no memory.
+    pub fn into_post(self) -> BridgePost<L>
+        ensures { result ≡ self }
+    {
+        let BridgeSeat { post, ended: _ } = self;
+        post
+    }
 }

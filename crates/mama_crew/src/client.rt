@@ -101,4 +101,12 @@ impl<L: Listener> ClientSeat<L> {
         self.reads = reads;
         pace
     }
+
+    /// The client with its ports. It takes no memory.
+    pub fn into_post(self) -> ClientPost<L>
+        ensures { result ≡ self.post }
+    {
+        let ClientSeat { post, reads: _ } = self;
+        post
+    }
 }

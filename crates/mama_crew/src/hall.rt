@@ -25,6 +25,16 @@ impl<L: Listener> Model for Hall<L> {
     ghost view = { λ h. record { objects = h.plans; to_bridge = h.to_bridge; to_timers = h.to_timers; to_publishers = h.to_publishers.items; to_queues = h.to_queues.items } };
 }
 
+/// What a hall has where it is taken apart: the plans, and the lanes of publishers and queues in the order of their numbers.
+#[derive(Drop)]
+pub struct HallParts<L: Listener> {
+    pub plans: Plans,
+    pub to_bridge: Lane<ToBridge<Carried<L>>>,
+    pub to_timers: Lane<ToTimers<Carried<L>>>,
+    pub to_publishers: Vec<Lane<ToPublisher>>,
+    pub to_queues: Vec<Lane<ToQueue<Carried<L>>>>,
+}
+
 impl<L: Listener> Hall<L> {
     // The hall with these plans and lanes.
     pub(crate) fn new(
@@ -94,5 +104,25 @@ impl<L: Listener> Hall<L> {
         ensures { slice_get self.now.to_queues number ≡ Some result.now }
     {
         &self.to_queues()[number as usize]
+    }
+
+    /// The plans and the lanes. It takes no memory.
+    pub fn into_parts(self) -> HallParts<L>
+        ensures { self ≡ record { objects = result.plans; to_bridge = result.to_bridge; to_timers = result.to_timers; to_publishers = result.to_publishers.items; to_queues = result.to_queues.items } }
+    {
+        let Hall {
+            plans,
+            to_bridge,
+            to_timers,
+            to_publishers,
+            to_queues,
+        } = self;
+        HallParts {
+            plans,
+            to_bridge,
+            to_timers,
+            to_publishers,
+            to_queues,
+        }
     }
 }

@@ -19,7 +19,7 @@ mod timers;
 pub use bridge::BridgeSeat;
 pub use client::ClientSeat;
 pub use crew::{Crew, open_crew};
-pub use hall::Hall;
+pub use hall::{Hall, HallParts};
 pub use mama_carry::{Listener, Maker};
 pub use mama_edge::GateActor;
 pub use mama_memory::OutOfMemory;

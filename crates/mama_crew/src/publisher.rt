@@ -103,4 +103,12 @@ impl<L: Listener> PublisherSeat<L> {
         self.ended = ended;
         pace
     }
+
+    /// The publisher with the ends of its lanes. It takes no memory.
+    pub fn into_post(self) -> PublisherPost<L>
+        ensures { result ≡ self }
+    {
+        let PublisherSeat { post, ended: _ } = self;
+        post
+    }
 }

@@ -87,4 +87,12 @@ impl<L: Listener> TimersSeat<L> {
         self.ended = ended;
         pace
     }
+
+    /// The timer service with the ends of its lanes. It takes no memory.
+    pub fn into_post(self) -> TimersPost<L>
+        ensures { result ≡ self }
+    {
+        let TimersSeat { post, ended: _ } = self;
+        post
+    }
 }
