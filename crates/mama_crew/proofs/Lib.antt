@@ -1,3 +1,4 @@
 pub mod SeatLemmas
 pub mod OpeningLemmas
 pub mod NewLemmas
+pub mod InformingLemmas

@@ -3,3 +3,5 @@ pub mod Client
 pub mod Seat
 pub mod Crew
 pub mod New
+pub mod Informed
+pub mod Placed

@@ -1,16 +1,22 @@
-ghost use Rattle.std.specs.Prelude.{◌≡◌, ◌↔◌, true, [], map, Ok, IfOk};
+ghost use Rattle.std.specs.Prelude.{◌≡◌, ◌↔◌, ◌<◌, true, [], length, map, Some, Ok, IsOk, IfOk, IfSome};
+ghost use Rattle.std.specs.List.{slice_get};
 ghost use mathlib.Core.List.{IsPrefix};
 ghost use Rattle.mama_event.specs.Ports.{timers_port_of_bridge, queue_port_of_bridge};
-ghost use Rattle.mama_lane.specs.Values.{new_port, new_taker};
+ghost use Rattle.mama_script.specs.Script.{ScriptData};
+ghost use Rattle.mama_lane.specs.Values.{new_port, new_taker, note_of_port};
+ghost use Rattle.mama_posts.specs.Ports.{lanes_of, ids_of};
 ghost use Rattle.mama_posts.specs.Bridge.{is_over};
 ghost use Rattle.mama_posts.specs.Service.{HasEnded, IsIdle, MadeStep};
 ghost use Rattle.mama_crew.specs.Hall.{AreLanesOf};
 ghost use Rattle.mama_crew.specs.Seat.{IsBridgeIn};
 ghost use Rattle.mama_crew.specs.New.{HasNotBridged};
+ghost use Rattle.mama_crew.specs.Informed.{bridge_told};
 
 use crate::ends::BridgeEnds;
 use crate::hall::Hall;
-use mama_carry::Listener;
+use mama_carry::{Carried, Listener, ToBridge, ToQueue, ToTimers};
+use mama_ends::PutNote;
+use mama_event::ToPublisher;
 use mama_memory::OutOfMemory;
 use mama_posts::{BridgePost, Pace};
 use mama_script::Script;
@@ -72,6 +78,69 @@ impl<L: Listener> BridgeSeat<L> {
         ensures { (result ≡ true) ↔ HasEnded (is_over self.now.service.shape) self.now.service }
     {
         self.ended
+    }
+
+    // From now on the bridge knows what the note names. It takes no memory.
+    pub(crate) fn learn<Rt: Copy>(
+        &mut self,
+        rt: Rt,
+        hall: &Hall<L>,
+        told: Option<PutNote<ToBridge<Carried<L>>>>,
+    )
+        requires lane { self.old.service.inlet.taker.lane ≡ hall.now.to_bridge.id }
+        requires note { IfSome told (λ note. note.lane ≡ hall.now.to_bridge.id) }
+        ensures seat { (script : ScriptData) → IsBridgeIn script hall.now self.old → IsBridgeIn script hall.now self.new }
+        ensures told { self.new ≡ bridge_told told self.old }
+    {
+        if let Some(note) = told {
+            self.post.learn(rt, hall.to_bridge(), note);
+        }
+    }
+
+    // A note of what it has put to the timer service so far. It takes no memory, and always succeeds.
+    pub(crate) fn tell_timers<Rt: Copy>(
+        &mut self,
+        rt: Rt,
+        hall: &Hall<L>,
+    ) -> Result<PutNote<ToTimers<Carried<L>>>, OutOfMemory>
+        requires { self.old.ports.timers.lane ≡ hall.now.to_timers.id }
+        ensures ok { IsOk result }
+        ensures note { IfOk result (λ note. note ≡ note_of_port self.old.ports.timers) }
+        ensures same { self.new ≡ self.old }
+    {
+        self.post.tell_timers(rt, hall.to_timers())
+    }
+
+    // The same of the publisher of this number.
+    pub(crate) fn tell_publisher<Rt: Copy>(
+        &mut self,
+        rt: Rt,
+        hall: &Hall<L>,
+        number: u32,
+    ) -> Result<PutNote<ToPublisher>, OutOfMemory>
+        requires lanes { lanes_of self.old.ports.publishers ≡ ids_of hall.now.to_publishers }
+        requires there { number < length hall.now.to_publishers }
+        ensures ok { IsOk result }
+        ensures note { IfOk result (λ note. slice_get (map note_of_port self.old.ports.publishers) number ≡ Some note) }
+        ensures same { self.new ≡ self.old }
+    {
+        self.post.tell_publisher(rt, hall.to_publishers(), number)
+    }
+
+    // The same of the queue of this number.
+    pub(crate) fn tell_queue<Rt: Copy>(
+        &mut self,
+        rt: Rt,
+        hall: &Hall<L>,
+        number: u32,
+    ) -> Result<PutNote<ToQueue<Carried<L>>>, OutOfMemory>
+        requires lanes { lanes_of self.old.ports.queues ≡ ids_of hall.now.to_queues }
+        requires there { number < length hall.now.to_queues }
+        ensures ok { IsOk result }
+        ensures note { IfOk result (λ note. slice_get (map note_of_port self.old.ports.queues) number ≡ Some note) }
+        ensures same { self.new ≡ self.old }
+    {
+        self.post.tell_queue(rt, hall.to_queues(), number)
     }
 
     // A turn of the bridge's seat.

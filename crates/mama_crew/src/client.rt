@@ -1,7 +1,7 @@
-ghost use Rattle.std.specs.Prelude.{◌≡◌, ◌↔◌, ◌<◌, true, [], Ok};
+ghost use Rattle.std.specs.Prelude.{◌≡◌, ◌↔◌, ◌<◌, true, [], Ok, IsOk, IfOk};
 ghost use mathlib.Core.List.{IsPrefix};
 ghost use Rattle.mama_event.specs.Ports.{clients_of, bridge_port_of_client, timers_port_of_client};
-ghost use Rattle.mama_lane.specs.Values.{new_port};
+ghost use Rattle.mama_lane.specs.Values.{new_port, note_of_port};
 ghost use Rattle.mama_posts.specs.Client.{HasEnded, MadeStep};
 ghost use Rattle.mama_crew.specs.Client.{reads_now};
 ghost use Rattle.mama_crew.specs.Hall.{AreLanesOf};
@@ -9,7 +9,7 @@ ghost use Rattle.mama_crew.specs.Seat.{IsClientIn, HasNotWalked};
 
 use crate::hall::Hall;
 use mama_carry::{Carried, Listener, ToBridge, ToTimers};
-use mama_ends::Port;
+use mama_ends::{Port, PutNote};
 use mama_memory::OutOfMemory;
 use mama_posts::{ClientListeners, ClientPost, Pace};
 use mama_script::Script;
@@ -75,6 +75,34 @@ impl<L: Listener> ClientSeat<L> {
         ensures { result ≡ self.now.reads }
     {
         self.reads
+    }
+
+    // A note of what it has put to the bridge so far. It takes no memory, and always succeeds.
+    pub(crate) fn tell_bridge<Rt: Copy>(
+        &mut self,
+        rt: Rt,
+        hall: &Hall<L>,
+    ) -> Result<PutNote<ToBridge<Carried<L>>>, OutOfMemory>
+        requires { self.old.post.ports.to_bridge.lane ≡ hall.now.to_bridge.id }
+        ensures ok { IsOk result }
+        ensures note { IfOk result (λ note. note ≡ note_of_port self.old.post.ports.to_bridge) }
+        ensures same { self.new ≡ self.old }
+    {
+        self.post.tell_bridge(rt, hall.to_bridge())
+    }
+
+    // The same of the timer service.
+    pub(crate) fn tell_timers<Rt: Copy>(
+        &mut self,
+        rt: Rt,
+        hall: &Hall<L>,
+    ) -> Result<PutNote<ToTimers<Carried<L>>>, OutOfMemory>
+        requires { self.old.post.ports.to_timers.lane ≡ hall.now.to_timers.id }
+        ensures ok { IsOk result }
+        ensures note { IfOk result (λ note. note ≡ note_of_port self.old.post.ports.to_timers) }
+        ensures same { self.new ≡ self.old }
+    {
+        self.post.tell_timers(rt, hall.to_timers())
     }
 
     // A turn of the seat of the client of this number.

@@ -1,7 +1,8 @@
 //! The crew of a script: the seats of all its actors, and the hall with their lanes. Threads may turn the seats in any order.
 //!
 //! A [`Seat`] keeps the state of its actor and the actor's ends of lanes; script and hall are shared, and handed to each turn.
-//! What a seat keeps from turn to turn is `IsSeatOf` of `specs/Seat.antt`. [`Seat::turn`] makes one step.
+//! What a seat keeps from turn to turn is `IsSeatOf` of `specs/Seat.antt`. [`Seat::turn`] makes one step. [`Seat::inform`] lets
+//! another seat know what was put to it, which its turn then finds.
 #![tactic(auto)]
 
 mod bridge;
@@ -9,6 +10,7 @@ mod client;
 mod crew;
 mod ends;
 mod hall;
+mod informing;
 mod listeners;
 mod opening;
 mod publisher;

@@ -1,17 +1,19 @@
-ghost use Rattle.std.specs.Prelude.{◌≡◌, ◌↔◌, ◌<◌, true, [], length, map, Some, Ok, IfOk};
+ghost use Rattle.std.specs.Prelude.{◌≡◌, ◌↔◌, ◌<◌, true, [], length, map, Some, Ok, IsOk, IfOk, IfSome};
 ghost use Rattle.std.specs.List.{slice_get};
 ghost use mathlib.Core.List.{IsPrefix};
 ghost use Rattle.mama_event.specs.Ports.{publishers_of, bridge_port_of_publisher};
-ghost use Rattle.mama_lane.specs.Values.{new_port, new_taker};
+ghost use Rattle.mama_lane.specs.Values.{new_port, new_taker, note_of_port};
+ghost use Rattle.mama_script.specs.Script.{ScriptData};
 ghost use Rattle.mama_script.specs.declared.publisher.PublisherPart.{PublisherPart as PublisherPartData};
 ghost use Rattle.mama_posts.specs.Publisher.{HasEnded, MadeStep, IsCaughtUp};
-ghost use Rattle.mama_crew.specs.Hall.{AreLanesOf};
+ghost use Rattle.mama_crew.specs.Hall.{AreLanesOf, IsLaneAt};
 ghost use Rattle.mama_crew.specs.Seat.{IsPublisherIn};
 ghost use Rattle.mama_crew.specs.New.{HasNotSent};
+ghost use Rattle.mama_crew.specs.Informed.{publisher_told};
 
 use crate::hall::Hall;
 use mama_carry::{Carried, Listener, ToBridge};
-use mama_ends::{Port, Taker};
+use mama_ends::{Port, PutNote, Taker};
 use mama_event::ToPublisher;
 use mama_memory::OutOfMemory;
 use mama_posts::{Pace, PublisherPost};
@@ -77,6 +79,38 @@ impl<L: Listener> PublisherSeat<L> {
         ensures { (result ≡ true) ↔ HasEnded self.now }
     {
         self.ended
+    }
+
+    // A note of what it has put to the bridge so far. It takes no memory, and always succeeds.
+    pub(crate) fn tell_bridge<Rt: Copy>(
+        &mut self,
+        rt: Rt,
+        hall: &Hall<L>,
+    ) -> Result<PutNote<ToBridge<Carried<L>>>, OutOfMemory>
+        requires { self.old.port.lane ≡ hall.now.to_bridge.id }
+        ensures ok { IsOk result }
+        ensures note { IfOk result (λ note. note ≡ note_of_port self.old.port) }
+        ensures same { self.new ≡ self.old }
+    {
+        self.post.tell_bridge(rt, hall.to_bridge())
+    }
+
+    // From now on the publisher of this number knows what the note names. It takes no memory.
+    pub(crate) fn learn<Rt: Copy>(
+        &mut self,
+        rt: Rt,
+        hall: &Hall<L>,
+        number: u32,
+        told: Option<PutNote<ToPublisher>>,
+    )
+        requires lane { IsLaneAt hall.now.to_publishers number self.old.inlet.taker.lane }
+        requires note { IfSome told (λ note. IsLaneAt hall.now.to_publishers number note.lane) }
+        ensures seat { (script : ScriptData) → IsPublisherIn script hall.now number self.old → IsPublisherIn script hall.now number self.new }
+        ensures told { self.new ≡ publisher_told told self.old }
+    {
+        if let Some(note) = told {
+            self.post.learn(rt, hall.to_publisher(number), note);
+        }
     }
 
     // A turn of the seat of the publisher of this number.

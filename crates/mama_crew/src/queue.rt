@@ -1,16 +1,18 @@
-ghost use Rattle.std.specs.Prelude.{◌≡◌, ◌↔◌, ◌<◌, [], map, Some, Ok};
+ghost use Rattle.std.specs.Prelude.{◌≡◌, ◌↔◌, ◌<◌, [], map, Some, Ok, IfSome};
 ghost use Rattle.std.specs.List.{slice_get};
 ghost use mathlib.Core.List.{IsPrefix};
 ghost use Rattle.mama_event.specs.Ports.{queues_of, bridge_port_of_queue, timers_port_of_queue};
+ghost use Rattle.mama_script.specs.Script.{ScriptData};
 ghost use Rattle.mama_lane.specs.Values.{new_port, new_taker};
 ghost use Rattle.mama_posts.specs.Queue.{HasEnded, MadeStep, IsCaughtUp};
-ghost use Rattle.mama_crew.specs.Hall.{AreLanesOf};
+ghost use Rattle.mama_crew.specs.Hall.{AreLanesOf, IsLaneAt};
 ghost use Rattle.mama_crew.specs.Seat.{IsQueueIn};
 ghost use Rattle.mama_crew.specs.New.{HasNotDispatched};
+ghost use Rattle.mama_crew.specs.Informed.{queue_told};
 
 use crate::hall::Hall;
 use mama_carry::{Carried, Listener, ToBridge, ToQueue, ToTimers};
-use mama_ends::{Port, Taker};
+use mama_ends::{Port, PutNote, Taker};
 use mama_memory::OutOfMemory;
 use mama_posts::{Pace, QueuePost};
 use mama_script::Script;
@@ -59,4 +61,22 @@ pub(crate) fn turn_queue<L: Listener, Rt: Wait + Copy>(
     let timers = hall.to_timers();
     let plans = hall.plans();
     post.turn(rt, lane, bridge, timers, plans, number)
+}
+
+/// From now on the queue of this number knows what the note names. It takes no memory.
+pub(crate) fn queue_learns<L: Listener, Rt: Copy>(
+    post: &mut QueuePost<L>,
+    rt: Rt,
+    hall: &Hall<L>,
+    number: u32,
+    told: Option<PutNote<ToQueue<Carried<L>>>>,
+)
+    requires lane { IsLaneAt hall.now.to_queues number post.old.inlet.taker.lane }
+    requires note { IfSome told (λ note. IsLaneAt hall.now.to_queues number note.lane) }
+    ensures seat { (script : ScriptData) → IsQueueIn script hall.now number post.old → IsQueueIn script hall.now number post.new }
+    ensures told { post.new ≡ queue_told told post.old }
+{
+    if let Some(note) = told {
+        post.learn(rt, hall.to_queue(number), note);
+    }
 }

@@ -1,16 +1,21 @@
-ghost use Rattle.std.specs.Prelude.{◌≡◌, ◌↔◌, true, [], map, Ok, IfOk};
+ghost use Rattle.std.specs.Prelude.{◌≡◌, ◌↔◌, ◌<◌, true, [], length, map, Some, Ok, IsOk, IfOk, IfSome};
+ghost use Rattle.std.specs.List.{slice_get};
 ghost use mathlib.Core.List.{IsPrefix};
 ghost use Rattle.mama_event.specs.Ports.{queue_port_of_timers};
-ghost use Rattle.mama_lane.specs.Values.{new_port, new_taker};
+ghost use Rattle.mama_script.specs.Script.{ScriptData};
+ghost use Rattle.mama_lane.specs.Values.{new_port, new_taker, note_of_port};
+ghost use Rattle.mama_posts.specs.Ports.{lanes_of, ids_of};
 ghost use Rattle.mama_posts.specs.Timers.{is_over};
 ghost use Rattle.mama_posts.specs.Service.{HasEnded, IsIdle, MadeStep};
 ghost use Rattle.mama_crew.specs.Hall.{AreLanesOf};
 ghost use Rattle.mama_crew.specs.Seat.{IsTimersIn};
 ghost use Rattle.mama_crew.specs.New.{HasNotFired};
+ghost use Rattle.mama_crew.specs.Informed.{timers_told};
 
 use crate::ends::TimersEnds;
 use crate::hall::Hall;
-use mama_carry::Listener;
+use mama_carry::{Carried, Listener, ToQueue, ToTimers};
+use mama_ends::PutNote;
 use mama_memory::OutOfMemory;
 use mama_posts::{Pace, TimersPost};
 use mama_script::Script;
@@ -63,6 +68,39 @@ impl<L: Listener> TimersSeat<L> {
         ensures { (result ≡ true) ↔ HasEnded (is_over self.now.service.shape) self.now.service }
     {
         self.ended
+    }
+
+    // From now on the service knows what the note names. It takes no memory.
+    pub(crate) fn learn<Rt: Copy>(
+        &mut self,
+        rt: Rt,
+        hall: &Hall<L>,
+        told: Option<PutNote<ToTimers<Carried<L>>>>,
+    )
+        requires lane { self.old.service.inlet.taker.lane ≡ hall.now.to_timers.id }
+        requires note { IfSome told (λ note. note.lane ≡ hall.now.to_timers.id) }
+        ensures seat { (script : ScriptData) → IsTimersIn script hall.now self.old → IsTimersIn script hall.now self.new }
+        ensures told { self.new ≡ timers_told told self.old }
+    {
+        if let Some(note) = told {
+            self.post.learn(rt, hall.to_timers(), note);
+        }
+    }
+
+    // A note of what it has put to the queue of this number so far. It takes no memory, and always succeeds.
+    pub(crate) fn tell_queue<Rt: Copy>(
+        &mut self,
+        rt: Rt,
+        hall: &Hall<L>,
+        number: u32,
+    ) -> Result<PutNote<ToQueue<Carried<L>>>, OutOfMemory>
+        requires lanes { lanes_of self.old.queues ≡ ids_of hall.now.to_queues }
+        requires there { number < length hall.now.to_queues }
+        ensures ok { IsOk result }
+        ensures note { IfOk result (λ note. slice_get (map note_of_port self.old.queues) number ≡ Some note) }
+        ensures same { self.new ≡ self.old }
+    {
+        self.post.tell_queue(rt, hall.to_queues(), number)
     }
 
     // A turn of the timer service's seat.

@@ -1,0 +1,28 @@
+use Rattle.std.proofs.Common.{◌≡◌, ◌↔◌, true, Some, length, map, ◌∙◌, ap, sym, subst, arith}
+use Rattle.std.specs.List.{slice_get}
+use Rattle.mama_lane.specs.Values.{note_of_port}
+use Rattle.mama_posts.specs.Ports.{lanes_of, ids_of}
+use Rattle.mama_posts.specs.Timers.{TimersPostValue, is_over}
+use Rattle.mama_posts.specs.Service.{HasEnded}
+use Rattle.mama_posts.proofs.PortsLemmas.{if_ok}
+use Rattle.mama_crew.proofs.InformingLemmas.{as_many_lanes}
+use Rattle.mama_crew.proofs.timers.TimersSeat.tell_queue.Goals as goal
+
+pub tell_queue-requires-clause-queues : goal.tell_queue-requires-clause-queues
+tell_queue-requires-clause-queues g c = ap (λ (v : TimersPostValue). lanes_of v.queues) c.self.view_is ∙ c.requires.lanes ∙ ap ids_of (sym c.to_queues.ensures)
+
+pub tell_queue-requires-clause-there : goal.tell_queue-requires-clause-there
+tell_queue-requires-clause-there g c =
+    let count = ap (λ (v : TimersPostValue). length v.queues) c.self.view_is ∙ as_many_lanes c.args.self.now.queues c.args.hall.now.to_queues c.requires.lanes in
+    omega (arith, c.requires.there)
+
+pub invariant_of-self : goal.invariant_of-self
+invariant_of-self g c = subst (λ (v : TimersPostValue). (c.self.inside.ended ≡ true) ↔ HasEnded (is_over v.service.shape) v.service) (sym c.tell_queue.ensures.same) c.self.invariant
+
+pub returns-clause-note : goal.returns-clause-note
+returns-clause-note g c =
+    if_ok (λ note. slice_get (map note_of_port c.self.inside.post.queues) c.args.number ≡ Some note) (λ note. slice_get (map note_of_port c.args.self.now.queues) c.args.number ≡ Some note) c.tell_queue.result
+    (λ note is. ap (λ (v : TimersPostValue). slice_get (map note_of_port v.queues) c.args.number) (sym c.self.view_is) ∙ is) c.tell_queue.ensures.note
+
+pub returns-clause-same : goal.returns-clause-same
+returns-clause-same g c = c.tell_queue.ensures.same ∙ c.self.view_is
