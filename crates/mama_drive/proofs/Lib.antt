@@ -17,3 +17,4 @@ pub mod GrownLemmas
 pub mod TurnsLemmas
 pub mod PlaceLemmas
 pub mod PartsLemmas
+pub mod LawfulLemmas

@@ -2,6 +2,7 @@ pub mod Entry
 pub mod Seat
 pub mod Scene
 pub mod Held
+pub mod Lawful
 pub mod Heard
 pub mod Start
 pub mod Record

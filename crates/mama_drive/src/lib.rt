@@ -6,11 +6,13 @@
 //! A turn of an actor takes the memory that it needs before anything changes that a reader of the run can see: what the
 //! actor puts is held by the run ([`held`]) until there is room for it on its lanes. So a [`SerialRun`] always stands
 //! between two turns, and goes on from there after want of memory. `IsGoneOn` of `specs/Course.antt` and `HasGrown` of
-//! `specs/Grown.antt` say what a call that goes on with it keeps.
+//! `specs/Grown.antt` say what a call that goes on with it keeps. `IsLawfulRun` of `specs/Lawful.antt` is what a run keeps so
+//! that what waits for a queue may come.
 #![tactic(auto)]
 
 mod bridge_seat;
 mod held;
+mod laws;
 mod place;
 mod playing;
 mod putting;

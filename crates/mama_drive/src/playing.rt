@@ -1,11 +1,10 @@
 ghost use Rattle.std.specs.Prelude.{◌≡◌, IfOk};
-ghost use Rattle.mama_rules_rounds.specs.Round.{setting_of, IsRound};
+ghost use Rattle.mama_rules_rounds.specs.Round.{IsRound};
 ghost use Rattle.mama_seats.specs.Moments.{AreHeard};
 
 use crate::serial_run::SerialRun;
 use mama_edge::Clock;
 use mama_memory::OutOfMemory;
-use mama_plans::{Plans, plans_of};
 use mama_record::RunRecord;
 use mama_script::Script;
 use std::alloc::Global;
@@ -21,22 +20,7 @@ pub fn serial<C: Clock>(
     ensures rounds { IfOk result (λ run. IsRound script.now run) }
     ensures clock { IfOk result (λ run. AreHeard (C.left clock.old) (C.left clock.new) script.now.clients run.clients) }
 {
-    let plans = plans_of(alloc, script)?;
-    play(alloc, script, &plans, clock)
-}
-
-/// The same, with the plans of the script's objects.
-fn play<C: Clock>(
-    alloc: Global,
-    script: &Script,
-    plans: &Plans,
-    clock: &mut C,
-) -> Result<RunRecord, OutOfMemory>
-    requires { plans.now ≡ (setting_of script.now).objects }
-    ensures rounds { IfOk result (λ run. IsRound script.now run) }
-    ensures clock { IfOk result (λ run. AreHeard (C.left clock.old) (C.left clock.new) script.now.clients run.clients) }
-{
-    let mut run = SerialRun::new(alloc, script, plans)?;
+    let mut run = SerialRun::new(alloc, script)?;
     run.go(clock)?;
     match run.into_record() {
         Ok(record) => Ok(record),

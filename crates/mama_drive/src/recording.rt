@@ -112,7 +112,7 @@ impl<'a> System<'a> {
     fn images(&self) -> Result<Vec<(SubId, ImageHead, Msg)>, OutOfMemory>
         ensures { IfOk result (λ found. images_of found.items ≡ flat_map (images_by self.now.objects (map journal_in self.now.servers)) self.now.objects) }
     {
-        all_images(self.alloc, self.plans, self.queues.as_slice())
+        all_images(self.alloc, &self.plans, self.queues.as_slice())
     }
 }
 
@@ -155,8 +155,8 @@ fn all_events(
     requires enough { length seats.items ≤ vec_capacity room }
     requires no_calls { room_for_calls.items ≡ [] }
     requires enough_calls { length seats.items ≤ vec_capacity room_for_calls }
-    ensures journals { events_of result.0.items ≡ map journal_in seats.entry.items }
-    ensures calls { HaveGiven seats.entry.items result.1.items }
+    ensures journals { events_of result.0.items ≡ map journal_in seats.items }
+    ensures calls { HaveGiven seats.items result.1.items }
 {
     let mut events = room;
     let mut given = room_for_calls;

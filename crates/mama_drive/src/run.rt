@@ -8,6 +8,7 @@ ghost use Rattle.mama_drive.specs.Heard.{Hears, StepRead};
 ghost use Rattle.mama_drive.specs.Scene.{setting_in, world_in, Moves, Advances, Stepped};
 
 use crate::held::{Held, settle};
+use crate::laws::lawful_runs_serve;
 use crate::system::System;
 use mama_edge::Clock;
 use mama_memory::OutOfMemory;
@@ -25,10 +26,13 @@ pub struct Run<'a> {
 impl<'a> Model for Run<'a> {
     ghost use Rattle.mama_drive.specs.Scene.{Scene};
     ghost use Rattle.mama_drive.specs.Held.{seen};
+    ghost use Rattle.mama_drive.specs.Lawful.{IsLawfulRun};
 
     ghost Value = { Scene };
 
     ghost view = { λ r. seen r.held r.system };
+
+    ghost invariant = { λ r. IsLawfulRun (seen r.held r.system) };
 }
 
 impl<'a> Run<'a> {
@@ -73,6 +77,7 @@ impl<'a> Run<'a> {
         ensures err { OnErr result (self.new ≡ self.old) }
     {
         settle(&mut self.system, &mut self.held)?;
+        lawful_runs_serve();
         let held = self.system.queue_turn(number)?;
         self.held = held;
         Ok(())

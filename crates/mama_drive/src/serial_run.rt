@@ -1,6 +1,6 @@
 ghost use Rattle.std.specs.Prelude.{◌≡◌, Option, List, ℕ, true, false, IfOk, IfErr, OnOk, OnErr};
 ghost use Rattle.mama_script.specs.Script.{ScriptData};
-ghost use Rattle.mama_rules_rounds.specs.Round.{setting_of, IsRound};
+ghost use Rattle.mama_rules_rounds.specs.Round.{IsRound};
 ghost use Rattle.mama_seats.specs.Moments.{AreHeard};
 ghost use Rattle.mama_drive.specs.declared.place.Place.TheVariants as places;
 ghost use Rattle.mama_drive.specs.Scene.{IsPlayed};
@@ -13,7 +13,6 @@ use crate::recording::Parts;
 use crate::run::Run;
 use mama_edge::Clock;
 use mama_memory::OutOfMemory;
-use mama_plans::Plans;
 use mama_record::RunRecord;
 use mama_script::Script;
 use std::alloc::Global;
@@ -42,17 +41,12 @@ impl<'a> Model for SerialRun<'a> {
 }
 
 impl<'a> SerialRun<'a> {
-    /// The run of a script at its beginning. These are the plans of its objects.
-    pub fn new(
-        alloc: Global,
-        script: &'a Script,
-        plans: &'a Plans,
-    ) -> Result<SerialRun<'a>, OutOfMemory>
-        requires { plans.now ≡ (setting_of script.now).objects }
+    /// The run of a script at its beginning.
+    pub fn new(alloc: Global, script: &'a Script) -> Result<SerialRun<'a>, OutOfMemory>
         ensures beginning { IfOk result (λ run. run ≡ begun script.now) }
         ensures under_way { IfOk result (λ run. (told : Option (List ℕ)) → IsUnderWay script.now told told run) }
     {
-        let first = Run::new(alloc, script, plans)?;
+        let first = Run::new(alloc, script)?;
         Ok(SerialRun {
             run: first,
             place: Place::Rounds,

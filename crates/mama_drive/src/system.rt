@@ -12,6 +12,7 @@ use mama_plans::Plans;
 use mama_seats::{ClientSeat, PublisherSeat, QueueSeat};
 use std::alloc::Global;
 use std::marker::Model;
+use std::sync::Arc;
 
 /// All actors of a script on one thread, with what waits on the lanes between them. The marks say whether events may
 /// wait on the lanes of publishers, and on those of queues: while none does, a pass does not look at each of them.
@@ -19,10 +20,10 @@ use std::marker::Model;
 pub struct System<'a> {
     pub(crate) alloc: Global,
     pub(crate) shape: &'a Shape,
-    pub(crate) plans: &'a Plans,
+    pub(crate) plans: Arc<Plans>,
     pub(crate) clients: Vec<ClientSeat<'a>>,
     pub(crate) publishers: Vec<PublisherSeat<'a>>,
-    pub(crate) queues: Vec<QueueSeat<'a>>,
+    pub(crate) queues: Vec<QueueSeat>,
     pub(crate) bridge: BridgeSeat,
     pub(crate) timers: TimersSeat,
     pub(crate) publishers_wait: bool,
@@ -30,13 +31,14 @@ pub struct System<'a> {
 }
 
 impl<'a> Model for System<'a> {
+    ghost use Rattle.std.specs.Arc.{arc_value};
     ghost use Rattle.mama_drive.specs.Scene.{Scene, IsSystem};
 
     ghost Value = { Scene };
 
-    ghost view = { λ s. record { shape = s.shape.now; objects = s.plans.now; clients = s.clients.items; senders = s.publishers.items; servers = s.queues.items; bridge = s.bridge.journal; timers = s.timers.journal; to_bridge = s.bridge.lane; to_timers = s.timers.lane } };
+    ghost view = { λ s. record { shape = s.shape.now; objects = arc_value s.plans; clients = s.clients.items; senders = s.publishers.items; servers = s.queues.items; bridge = s.bridge.journal; timers = s.timers.journal; to_bridge = s.bridge.lane; to_timers = s.timers.lane } };
 
-    ghost invariant = { λ s. IsSystem s.shape.now s.bridge.shape s.timers.shape s.plans.now s.clients.items s.publishers.items s.queues.items s.publishers_wait s.queues_wait };
+    ghost invariant = { λ s. IsSystem s.shape.now s.bridge.shape s.timers.shape (arc_value s.plans) s.clients.items s.publishers.items s.queues.items s.publishers_wait s.queues_wait };
 }
 
 impl<'a> System<'a> {

@@ -1,9 +1,10 @@
-ghost use Rattle.std.specs.Prelude.{◌≡◌, ◌^◌, ◌<◌, length, IfOk, OnErr};
+ghost use Rattle.std.specs.Prelude.{◌≡◌, ◌^◌, ◌<◌, length, true, IfOk, OnErr};
 ghost use Rattle.mama_event.specs.Ports.{bridge_port_of_queue};
 ghost use Rattle.mama_rules_rounds.specs.World as world;
 ghost use Rattle.mama_rules_rounds.specs.Stage as stage;
 ghost use Rattle.mama_drive.specs.Heard.{Hears, StepRead};
 ghost use Rattle.mama_drive.specs.Held.{seen};
+ghost use Rattle.mama_drive.specs.Lawful.{comes_first};
 ghost use Rattle.mama_drive.specs.Scene.{setting_in, world_in, Moves, Advances, Stepped};
 
 use crate::held::Held;
@@ -51,7 +52,8 @@ impl<'a> System<'a> {
 
     /// A queue takes the first event of its lane, in the same way, and makes its callbacks.
     pub(crate) fn queue_turn(&mut self, number: u32) -> Result<Held, OutOfMemory>
-        requires { number < length self.old.servers }
+        requires number { number < length self.old.servers }
+        requires comes { comes_first number (world_in self.old) ≡ true }
         ensures turn { IfOk result (λ held. Moves self.old (seen held self.new) (world.queue_turn (setting_in self.old) number (world_in self.old))) }
         ensures err { OnErr result (self.new ≡ self.old) }
     {

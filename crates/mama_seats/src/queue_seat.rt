@@ -1,13 +1,15 @@
-ghost use Rattle.std.specs.Prelude.{◌≡◌, ◌++◌, ◌∷◌, [], OnOk, OnErr, IfOk, IfErr, map};
+ghost use Rattle.std.specs.Prelude.{◌≡◌, ◌++◌, ◌∷◌, [], true, OnOk, OnErr, IfOk, IfErr, map};
+ghost use Rattle.std.specs.Arc.{arc_value};
 ghost use Rattle.mama_event.specs.ToQueue.{note_of};
 ghost use Rattle.mama_rules_queue.specs.Queue.{deeds, calls_of, queue_puts_at};
 ghost use Rattle.mama_event.specs.declared.ids.ObjectId.{ObjectId};
 ghost use Rattle.mama_dispatch.specs.Hearing.{ArePlanned};
 ghost use Rattle.mama_dispatch.specs.Callbacks.{calls_to};
+ghost use Rattle.mama_dispatch.specs.Journals.{may_come};
 ghost use Rattle.mama_rules_rounds.specs.World.{is_empty};
 ghost use Rattle.mama_rules_rounds.specs.Round.{noted};
 ghost use Rattle.mama_plans.specs.Put.{own_tag, notes_of};
-ghost use Rattle.mama_seats.specs.Server.{served, served_puts};
+ghost use Rattle.mama_seats.specs.Server.{first_may_come, served, served_puts};
 ghost use Rattle.mama_plans.specs.Orders.{orders_in};
 ghost use Rattle.mama_plans.specs.Image.{found_image, image_of};
 
@@ -21,17 +23,19 @@ use mama_plans::Plans;
 use std::alloc::Global;
 use std::collections::VecDeque;
 use std::marker::Model;
+use std::sync::Arc;
 
-/// A queue with its journal, and what waits on its lane.
+/// A queue with its journal, and what waits on its lane. It shares the plans of its script's objects.
 #[derive(Drop)]
-pub struct QueueSeat<'a> {
+pub struct QueueSeat {
     alloc: Global,
-    plans: &'a Plans,
+    plans: Arc<Plans>,
     serving: Serving<PlanListener>,
     lane: VecDeque<(u32, ToQueue<ObjectId>)>,
 }
 
-impl<'a> Model for QueueSeat<'a> {
+impl Model for QueueSeat {
+    ghost use Rattle.std.specs.Arc.{arc_value};
     ghost use Rattle.mama_seats.specs.Server.{Server};
 
     ghost Value = { Server };
@@ -40,15 +44,15 @@ impl<'a> Model for QueueSeat<'a> {
     ghost use Rattle.mama_plans.specs.Orders.{orders_in};
     ghost use Rattle.mama_seats.specs.Lane.{lane_notes};
 
-    ghost view = { λ s. record { objects = s.plans.now; journal = s.serving.journal; lane = lane_notes s.lane.items } };
+    ghost view = { λ s. record { objects = arc_value s.plans; journal = s.serving.journal; lane = lane_notes s.lane.items } };
 
-    ghost invariant = { λ s. ArePlanned (orders_in s.plans.now) s.serving.seats };
+    ghost invariant = { λ s. ArePlanned (orders_in (arc_value s.plans)) s.serving.seats };
 }
 
-impl<'a> QueueSeat<'a> {
+impl QueueSeat {
     /// A queue that has done nothing yet.
-    pub fn new(alloc: Global, plans: &'a Plans) -> QueueSeat<'a>
-        ensures { result ≡ record { objects = plans.now; journal = []; lane = [] } }
+    pub fn new(alloc: Global, plans: Arc<Plans>) -> QueueSeat
+        ensures { result ≡ record { objects = arc_value plans; journal = []; lane = [] } }
     {
         QueueSeat {
             alloc,
@@ -79,9 +83,10 @@ impl<'a> QueueSeat<'a> {
         }
     }
 
-    /// Takes the first event of the lane, if there is one, makes its callbacks, and gives what they put. The error is
-    /// want of memory, or an event that may not come, which no run has; then all is as before.
+    /// Takes the first event of the lane, if there is one, makes its callbacks, and gives what they put. Where no memory is
+    /// found all is as before.
     pub fn turn(&mut self) -> Result<Outbox<ToService<ObjectId>>, OutOfMemory>
+        requires { first_may_come self.old.journal self.old.lane ≡ true }
         ensures seat { OnOk result (self.new ≡ served self.old self.old.lane) }
         ensures puts { IfOk result (λ out. notes_of out.items ≡ served_puts self.old self.old.lane) }
         ensures objects { self.new.objects ≡ self.old.objects }
@@ -90,7 +95,7 @@ impl<'a> QueueSeat<'a> {
         let Some((port, event)) = self.lane.pop_front() else {
             return Ok(Outbox::new(self.alloc));
         };
-        match serve(self.alloc, self.plans, &mut self.serving, port, event) {
+        match serve(self.alloc, &self.plans, &mut self.serving, port, event) {
             Ok(out) => Ok(out),
             Err(event) => {
                 // There is room for it since it was taken.
@@ -110,8 +115,8 @@ impl<'a> QueueSeat<'a> {
 
     /// The journal, and the callbacks of its objects, to be moved out object by object. It takes no memory.
     pub fn into_parts(self) -> (Vec<(u32, QueueNote)>, Callbacks)
-        ensures journal { result.0.items ≡ self.entry.journal }
-        ensures calls { (o : ObjectId) → calls_to o result.1 ≡ map noted (calls_of o (deeds (orders_in self.entry.objects) self.entry.journal)) }
+        ensures journal { result.0.items ≡ self.journal }
+        ensures calls { (o : ObjectId) → calls_to o result.1 ≡ map noted (calls_of o (deeds (orders_in self.objects) self.journal)) }
     {
         self.serving.planned_orders_fit();
         let QueueSeat {
@@ -133,7 +138,8 @@ fn serve(
     port: u32,
     event: ToQueue<ObjectId>,
 ) -> Result<Outbox<ToService<ObjectId>>, ToQueue<ObjectId>>
-    requires { ArePlanned (orders_in plans.now) serving.old.seats }
+    requires planned { ArePlanned (orders_in plans.now) serving.old.seats }
+    requires comes { may_come serving.old.journal (note_of own_tag event) ≡ true }
     ensures journal { OnOk result (serving.new.journal ≡ serving.old.journal ++ (port, note_of own_tag event) ∷ []) }
     ensures planned { ArePlanned (orders_in plans.now) serving.new.seats }
     ensures puts { IfOk result (λ out. notes_of out.items ≡ queue_puts_at (orders_in plans.now) serving.old.journal (port, note_of own_tag event)) }
@@ -141,9 +147,6 @@ fn serve(
     ensures back { IfErr result (λ given. note_of own_tag given ≡ note_of own_tag event) }
 {
     let event = with_plan(alloc, plans, event)?;
-    if !serving.may_take(&event) {
-        return Err(without_plan(event));
-    }
     let mut out = Outbox::new(alloc);
     match serving.turn(port, event, &mut out) {
         Ok(_) => {

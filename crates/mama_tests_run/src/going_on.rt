@@ -8,7 +8,6 @@ use mama_drive::SerialRun;
 use mama_edge::MemoryClock;
 use mama_log_read::{LogFault, parse_log};
 use mama_memory::OutOfMemory;
-use mama_plans::plans_of;
 use mama_record::{RunRecord, print_log};
 use mama_script::{Script, ScriptFault, parse};
 use std::alloc::{AllocError, Global};
@@ -71,8 +70,7 @@ fn record_of(run: SerialRun, moments: Vec<u64>) -> Option<RunRecord> {
 // Whether a run of the driver gives this log.
 fn gives(alloc: Global, text: &str, moments: Vec<u64>, log: &[u8]) -> Result<bool, Fail> {
     let script = parsed(alloc, text)?;
-    let plans = plans_of(alloc, &script)?;
-    let run = SerialRun::new(alloc, &script, &plans)?;
+    let run = SerialRun::new(alloc, &script)?;
     match record_of(run, moments) {
         Some(record) => Ok(print_log(alloc, script.shape(), &record)?.as_slice() == log),
         None => Ok(false),

@@ -1,5 +1,6 @@
 use Rattle.std.specs.Prelude.{map}
 use Rattle.std.proofs.Common.{ℕ, List, ◌++◌, ap, ◌∙◌, sym, subst}
+use Rattle.mama_dispatch.specs.Journals.{may_come}
 use Rattle.mama_event.specs.declared.ids.ObjectId.{ObjectId}
 use Rattle.mama_event.specs.declared.order.Order.{Order}
 use Rattle.mama_event.specs.declared.to_queue.QueueNote.{QueueNote}
@@ -15,16 +16,19 @@ use Rattle.mama_dispatch.proofs.KeepLemmas.{comes_at}
 use Rattle.mama_seats.specs.Listening.{tag_of, data_of}
 use Rattle.mama_seats.proofs.queue_seat.serve.Goals as goal
 
+pub turn-requires : goal.turn-requires
+turn-requires c = ap (may_come c.args.serving.now.journal) c.in_ok-event.ensures.noted ∙ c.requires.comes
+
 pub returns-in-Ok-clause-planned : goal.returns-in-Ok-clause-planned
-returns-in-Ok-clause-planned c = λ o. c.in-Ok.ensures.planned o (orders_in c.args.plans.now o) 0 (comes_at (orders_in c.args.plans.now) (brought data_of c.in_ok-event.event) c.in_ok-event.ensures.planned o) (c.requires o)
+returns-in-Ok-clause-planned c = λ o. c.in-Ok.ensures.planned o (orders_in c.args.plans.now o) 0 (comes_at (orders_in c.args.plans.now) (brought data_of c.in_ok-event.event) c.in_ok-event.ensures.planned o) (c.requires.planned o)
 
 pub returns-in-Ok-clause-puts : goal.returns-in-Ok-clause-puts
 returns-in-Ok-clause-puts c =
     let orders : ObjectId → ℕ → List Order = orders_in c.args.plans.now in
     let journal : List (ℕ × QueueNote) = c.args.serving.now.journal in
-    c.in-Ok.ensures.puts orders (c.planned_orders_fit.ensures orders (λ o. c.in-Ok.ensures.planned o (orders o) 0 (comes_at (orders_in c.args.plans.now) (brought data_of c.in_ok-event.event) c.in_ok-event.ensures.planned o) (c.requires o)))
+    c.in-Ok.ensures.puts orders (c.planned_orders_fit.ensures orders (λ o. c.in-Ok.ensures.planned o (orders o) 0 (comes_at (orders_in c.args.plans.now) (brought data_of c.in_ok-event.event) c.in_ok-event.ensures.planned o) (c.requires.planned o)))
     ∙ ap (λ (os : List (ToService ObjectId)). map (put_note own_tag) os ++ queue_puts_at orders journal (c.args.port, note_of tag_of c.in_ok-event.event)) c.new-out.ensures
     ∙ ap (λ (n : QueueNote). queue_puts_at orders journal (c.args.port, n)) c.in_ok-event.ensures.noted
 
 pub returns-in-Err-clause-planned : goal.returns-in-Err-clause-planned
-returns-in-Err-clause-planned c = subst (λ (s : Served). ArePlanned (orders_in c.args.plans.now) s.seats) (sym c.in-Err.ensures.err) c.requires
+returns-in-Err-clause-planned c = subst (λ (s : Served). ArePlanned (orders_in c.args.plans.now) s.seats) (sym c.in-Err.ensures.err) c.requires.planned

@@ -1,8 +1,10 @@
-use Rattle.std.proofs.Common.{sym, subst, ◌<◌, length}
+use Rattle.std.proofs.Common.{sym, subst, ◌<◌, length, ◌∙◌, ap}
 use Rattle.mama_rules_rounds.specs.World.{publisher_turn}
 use Rattle.mama_drive.specs.Scene.{Scene}
 use Rattle.mama_drive.proofs.RunLemmas.{turn_then}
 use Rattle.mama_drive.proofs.HeldLemmas.{settled}
+use Rattle.mama_drive.proofs.LawfulLemmas.{lawful_same, lawful_settled, publisher_lawful}
+use Rattle.mama_drive.specs.Held.{seen}
 use Rattle.mama_drive.proofs.run.Run.publisher_turn.Goals as goal
 
 pub publisher_turn-requires : goal.publisher_turn-requires
@@ -10,3 +12,14 @@ publisher_turn-requires c = subst (λ (s : Scene). c.args.number < length s.send
 
 pub returns-clause-turn : goal.returns-clause-turn
 returns-clause-turn c = turn_then (λ setting w. publisher_turn setting c.args.number w) c.settle.new.held c.settle.new.system _ c.args.self.now _ c.self.view_is c.settle.ensures.same c.in_ok-settle.ensures.clear c.in_ok-held.ensures.turn
+
+pub invariant_of-self : goal.invariant_of-self
+invariant_of-self c = lawful_same _ _ c.settle.ensures.same c.self.invariant
+
+pub invariant_of-self-in_err-held : goal.invariant_of-self-in_err-held
+invariant_of-self-in_err-held c = lawful_same _ _ (ap (seen c.settle.new.held) c.in_err-held.ensures.err ∙ c.settle.ensures.same) c.self.invariant
+
+pub invariant_of-self-2 : goal.invariant_of-self-2
+invariant_of-self-2 c = publisher_lawful c.args.number _ _
+    (subst (λ (s : Scene). c.args.number < length s.senders) (sym (settled c.settle.new.held c.settle.new.system _ c.args.self.now c.self.view_is c.settle.ensures.same c.in_ok-settle.ensures.clear)) c.requires)
+    c.in_ok-held.ensures.turn (lawful_settled c.settle.new.held c.settle.new.system _ c.settle.ensures.same c.in_ok-settle.ensures.clear c.self.invariant)

@@ -1,4 +1,6 @@
 use Rattle.mama_drive.proofs.RunLemmas.{rests_plays, rests_hear, rests_keep}
+use Rattle.std.proofs.Common.{refl}
+use Rattle.mama_drive.proofs.LawfulLemmas.{played_lawful}
 use Rattle.mama_drive.proofs.run.Run.rests.Goals as goal
 
 pub returns-clause-rounds : goal.returns-clause-rounds
@@ -11,3 +13,9 @@ returns-clause-clock c = λ t o. rests_hear c.self.inside.held c.self.inside.sys
 
 pub returns-clause-journals : goal.returns-clause-journals
 returns-clause-journals c = rests_keep c.self.inside.held c.self.inside.system c.rest.new.self c.args.self.now c.self.view_is (c.is_empty.ensures c.if-not-is_empty.false) c.rest.ensures.journals
+
+pub invariant_of-self : goal.invariant_of-self
+invariant_of-self c =
+    played_lawful _ _
+    (rests_plays c.self.inside.held c.self.inside.system c.rest.new.self _ c.pause-rounds.result refl (c.is_empty.ensures c.if-not-is_empty.false) c.rest.ensures.rounds)
+    c.self.invariant

@@ -1,8 +1,7 @@
-use Rattle.std.proofs.Common.{◌∙◌, ap, false, List}
-use Rattle.mama_rules_rounds.specs.Client.{Planned}
+use Rattle.std.proofs.Common.{refl, ap, false}
+use Rattle.mama_rules_rounds.specs.Round.{setting_of}
 use Rattle.mama_drive.specs.declared.place.Place.TheVariants as place
 use Rattle.mama_drive.specs.Scene.{Scene}
-use Rattle.mama_drive.specs.Start.{started}
 use Rattle.mama_drive.specs.Course.{Course}
 use Rattle.mama_drive.proofs.PlaceLemmas.{begins}
 use Rattle.mama_drive.proofs.serial_run.SerialRun.new.Goals as goal
@@ -10,7 +9,7 @@ use Rattle.mama_drive.proofs.serial_run.SerialRun.new.Goals as goal
 pub returns-clause-beginning : goal.returns-clause-beginning
 returns-clause-beginning c =
     let at_first : Scene → Course = λ s. record { scene = s; at = place.Rounds; over = false } in
-    ap at_first (c.in_ok-first.ensures ∙ ap (λ (l : List Planned). started l c.args.script.now) c.requires)
+    ap at_first c.in_ok-first.ensures
 
 pub returns-clause-under_way : goal.returns-clause-under_way
-returns-clause-under_way c = λ told. begins c.args.script.now c.args.plans.now c.in_ok-first.first c.requires c.in_ok-first.ensures told
+returns-clause-under_way c = λ told. begins c.args.script.now (setting_of c.args.script.now).objects c.in_ok-first.first refl c.in_ok-first.ensures told

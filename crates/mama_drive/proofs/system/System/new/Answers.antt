@@ -1,4 +1,5 @@
 use Rattle.std.proofs.Common.{◌≡◌, ap, length, ◌∙◌, sym, subst, arith, List, ◌<◌, ◌≤◌, ◌^◌}
+use Rattle.std.specs.Arc.{arc_value}
 use Rattle.std.specs.List.{AllByRecursion}
 use Rattle.std.proofs.lemmas.List.{length-map}
 use Rattle.mama_script.specs.declared.publisher.PublisherPart.{PublisherPart}
@@ -15,7 +16,7 @@ use Rattle.mama_drive.proofs.system.System.new.Goals as goal
 pub invariant_of-result : goal.invariant_of-result
 invariant_of-result c =
     let shape = c.shape-shape.ensures in
-    new_system _ _ _ c.args.plans.now c.in_ok-clients.clients.items c.in_ok-publishers.publishers.items c.in_ok-queues.queues.items
+    new_system _ _ _ (arc_value c.args.plans) c.in_ok-clients.clients.items c.in_ok-publishers.publishers.items c.in_ok-queues.queues.items
     (subst (λ (s : Shape). bridge_ports s < 2 ^ 32) (sym shape.value) (few_ports c.args.script.now shape.script shape.within))
     (ap (λ (b : ServiceSeat BridgeNote). b.shape) c.in_ok-bridge.ensures) (ap (λ (t : ServiceSeat TimersNote). t.shape) c.in_ok-timers.ensures)
     (ap length c.in_ok-clients.ensures ∙ stands_length _ 0 c.clients.result.now ∙ ap length c.clients.ensures ∙ sym shape.script.shaped.clients ∙ sym (ap clients_of shape.value))

@@ -1,3 +1,4 @@
+use Rattle.std.specs.Arc.{arc_value}
 use Rattle.std.specs.Prelude.{vec_capacity}
 use Rattle.std.proofs.Common.{◌≡◌, ◌≤◌, arith, length, sym, ap, ◌∙◌, subst}
 use Rattle.std.proofs.lemmas.List.{length-map}
@@ -14,7 +15,7 @@ returns c = record {
   no_entries = c.in_ok-entries.ensures.items;
   no_events = c.in_ok-events.ensures.items;
   calls_fit = subst (λ (s : Scene). length s.objects ≤ vec_capacity c.in_ok-calls.calls) c.self.view_is
-      (let as_many : length c.objects.result.now ≡ length c.self.inside.plans.now = sym (length-map c.objects.result.now planned_object) ∙ ap length c.objects.ensures in
+      (let as_many : length c.objects.result.now ≡ length (arc_value c.self.inside.plans) = sym (length-map c.objects.result.now planned_object) ∙ ap length (c.objects.ensures ∙ c.deref.ensures) in
       omega (arith, c.in_ok-calls.ensures.exact, as_many));
   given_fit = subst (λ (s : Scene). length s.servers ≤ vec_capacity c.in_ok-given.given) c.self.view_is (omega (arith, c.len.ensures, c.in_ok-given.ensures.exact, c.self.inside.queues.ok.0));
   moments_fit = subst (λ (s : Scene). length s.clients ≤ vec_capacity c.in_ok-moments.moments) c.self.view_is (omega (arith, c.len-2.ensures, c.in_ok-moments.ensures.exact, c.self.inside.clients.ok.0));

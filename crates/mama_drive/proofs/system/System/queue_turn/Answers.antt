@@ -2,18 +2,24 @@ use Rattle.std.proofs.Common.{arith, refl, ◌+◌, sym, subst, ◌<◌, length}
 use Rattle.mama_plans.specs.Put.{notes_of}
 use Rattle.mama_drive.specs.Scene.{Scene}
 use Rattle.mama_drive.proofs.HeldTurnLemmas.{queue_turned, all_wait}
+use Rattle.mama_drive.proofs.LawfulLemmas.{first_at}
 use Rattle.mama_drive.proofs.SystemLemmas.{with_server}
 use Rattle.mama_drive.proofs.system.System.queue_turn.Goals as goal
 
 pub overflow_add-timers_port : goal.overflow_add-timers_port
 overflow_add-timers_port c =
-    let within : c.args.number < length c.self.inside.queues.items = subst (λ (s : Scene). c.args.number < length s.servers) (sym c.self.view_is) c.requires in
+    let within : c.args.number < length c.self.inside.queues.items = subst (λ (s : Scene). c.args.number < length s.servers) (sym c.self.view_is) c.requires.number in
     omega (arith, within, c.self.invariant.ports, c.self.invariant.server_count)
 
 pub port_of_queue-bridge_port-requires : goal.port_of_queue-bridge_port-requires
 port_of_queue-bridge_port-requires c =
-    let within : c.args.number < length c.self.inside.queues.items = subst (λ (s : Scene). c.args.number < length s.servers) (sym c.self.view_is) c.requires in
+    let within : c.args.number < length c.self.inside.queues.items = subst (λ (s : Scene). c.args.number < length s.servers) (sym c.self.view_is) c.requires.number in
     omega (arith, within, c.self.invariant.ports, c.self.invariant.server_count)
+
+pub turn-requires : goal.turn-requires
+turn-requires c =
+    first_at _ c.args.self.now c.args.number c.index_mut-seat.result.now c.self.view_is
+    (subst (λ (s : Scene). c.args.number < length s.servers) (sym c.self.view_is) c.requires.number) c.index_mut-seat.ensures.value c.requires.comes
 
 pub invariant_of-self : goal.invariant_of-self
 invariant_of-self c = with_server _ _ _ _ _ _ _ _ _ c.self.invariant c.args.number c.index_mut-seat.result.now c.turn.new.self c.index_mut-seat.ensures.value c.turn.ensures.objects
@@ -24,5 +30,5 @@ invariant_of-self-2 c = with_server _ _ _ _ _ _ _ _ _ c.self.invariant c.args.nu
 pub returns-clause-turn : goal.returns-clause-turn
 returns-clause-turn c =
     queue_turned _ c.args.self.now c.args.number c.port_of_queue-bridge_port.result (c.self.inside.shape.now.clients + c.args.number) c.index_mut-seat.result.now c.turn.new.self
-    (notes_of c.in_ok-outs.outs.items) _ c.self.view_is (subst (λ (s : Scene). c.args.number < length s.servers) (sym c.self.view_is) c.requires) c.index_mut-seat.ensures.value
+    (notes_of c.in_ok-outs.outs.items) _ c.self.view_is (subst (λ (s : Scene). c.args.number < length s.servers) (sym c.self.view_is) c.requires.number) c.index_mut-seat.ensures.value
     c.self.invariant.shared c.in_ok-outs.ensures.seat c.in_ok-outs.ensures.puts c.port_of_queue-bridge_port.ensures refl (all_wait notes_of c.all.result c.in_ok-outs.outs.items c.all.ensures)

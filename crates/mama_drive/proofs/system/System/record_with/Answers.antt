@@ -1,3 +1,4 @@
+use Rattle.std.specs.Arc.{arc_value}
 use Rattle.std.specs.Prelude.{vec_capacity}
 use Rattle.std.proofs.Common.{◌≡◌, ◌≤◌, length, map, arith, ap, sym, ◌∙◌, subst}
 use Rattle.std.proofs.lemmas.List.{length-map}
@@ -23,17 +24,17 @@ all_events-events-requires-clause-enough_calls c = subst (λ (s : Scene). length
 
 pub all_calls-requires-clause-enough : goal.all_calls-requires-clause-enough
 all_calls-requires-clause-enough c =
-    let fits : length c.self.inside.plans.now ≤ vec_capacity c.args.parts.calls = subst (λ (s : Scene). length s.objects ≤ vec_capacity c.args.parts.calls) (sym c.self.view_is) c.requires.calls_fit in
-    let as_many : length c.objects.result.now ≡ length c.self.inside.plans.now = sym (length-map c.objects.result.now planned_object) ∙ ap length c.objects.ensures in
+    let fits : length (arc_value c.self.inside.plans) ≤ vec_capacity c.args.parts.calls = subst (λ (s : Scene). length s.objects ≤ vec_capacity c.args.parts.calls) (sym c.self.view_is) c.requires.calls_fit in
+    let as_many : length c.objects.result.now ≡ length (arc_value c.self.inside.plans) = sym (length-map c.objects.result.now planned_object) ∙ ap length (c.objects.ensures ∙ c.deref-2.ensures) in
     omega (arith, fits, as_many)
 
 pub all_calls-requires-clause-apart : goal.all_calls-requires-clause-apart
-all_calls-requires-clause-apart c = subst AreApart (sym c.objects.ensures) c.are_apart.ensures
+all_calls-requires-clause-apart c = subst AreApart (sym (c.objects.ensures ∙ c.deref-2.ensures)) (subst AreApart c.deref.ensures c.are_apart.ensures)
 
 pub returns : goal.returns
 returns c = record_parts _ c.args.self c.new.result _ _ _ _ _ _ _ c.self.view_is c.new.ensures
     c.all_moments.ensures c.all_entries.ensures c.into_journal.ensures c.into_journal-2.ensures c.all_events-events.ensures.journals
-    (c.all_calls.ensures ∙ ap (map (calls_given c.all_events-events.result.1.items)) c.objects.ensures
-    ∙ given_calls c.self.inside.plans.now c.self.inside.queues.items c.all_events-events.result.1.items c.self.inside.plans.now c.all_events-events.ensures.calls c.self.invariant.shared
+    (c.all_calls.ensures ∙ ap (map (calls_given c.all_events-events.result.1.items)) (c.objects.ensures ∙ c.deref-2.ensures)
+    ∙ given_calls (arc_value c.self.inside.plans) c.self.inside.queues.items c.all_events-events.result.1.items (arc_value c.self.inside.plans) c.all_events-events.ensures.calls c.self.invariant.shared
     ∙ ap (λ (s : Scene). map (calls_by s.objects (map journal_in s.servers)) s.objects) c.self.view_is)
     c.requires.images

@@ -1,4 +1,5 @@
 use Rattle.std.proofs.Common.{◌≡◌, ℕ, List, ap, ◌∙◌}
+use Rattle.std.specs.Arc.{arc_value}
 use Rattle.std.proofs.lemmas.Result.{IfOk-weaker}
 use Rattle.mama_journal.specs.Journal.{first_said}
 use Rattle.mama_event.specs.declared.ids.ObjectId.{ObjectId}
@@ -15,7 +16,7 @@ use Rattle.mama_seats.proofs.queue_seat.QueueSeat.image.Goals as goal
 
 pub returns : goal.returns
 returns c =
-    let orders : ObjectId → ℕ → List Order = orders_in c.self.inside.plans.now in
+    let orders : ObjectId → ℕ → List Order = orders_in (arc_value c.self.inside.plans) in
     let journal : List (ℕ × QueueNote) = c.self.inside.serving.journal in
     let sub = c.args.sub in
     IfOk-weaker c.image_of.result _ (λ found. found_image sub found ≡ image_of c.args.self.now.objects c.args.self.now.journal sub)

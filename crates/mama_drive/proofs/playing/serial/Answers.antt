@@ -2,7 +2,7 @@ use Rattle.std.proofs.Common.{List, ℕ}
 use Rattle.std.specs.Prelude.{Option}
 use Rattle.mama_drive.specs.Heard.{left_behind}
 use Rattle.mama_drive.proofs.ClockLemmas.{answered_own, heard_own}
-use Rattle.mama_drive.proofs.playing.play.Goals as goal
+use Rattle.mama_drive.proofs.playing.serial.Goals as goal
 
 pub returns-clause-rounds : goal.returns-clause-rounds
 returns-clause-rounds g c =
