@@ -295,7 +295,7 @@ impl<L: Listener> BridgePost<L> {
         ensures served { OnOk result (self.new.service.inlet.kept ≡ []) }
         ensures back { OnErr result (self.new ≡ record self.old { service = holding self.old.service port (bridge_note_of (λ c. L.tagged c.listener) event) }) }
     {
-        let mut out = Outbox::new(self.alloc);
+        let mut out = self.left.lend(self.alloc);
         match self.bridge.take(port, event, &mut out) {
             Ok(took) => {
                 self.over = is_end(took);

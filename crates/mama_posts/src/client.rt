@@ -15,7 +15,7 @@ use mama_carry::{Carried, Listener, ToBridge, ToTimers};
 use mama_edge::Clock;
 use mama_ends::{Lane, Port, PutNote};
 use mama_laws_allowed::client_puts_are_lawful;
-use mama_memory::{OutOfMemory, Outbox};
+use mama_memory::OutOfMemory;
 use mama_script::{ClientLine, Script};
 use mama_seats::ClientState;
 use std::alloc::Global;
@@ -254,7 +254,7 @@ impl<L: Listener> ClientPost<L> {
         ensures did { OnOk result (DidLine script.now number moment self.old.walk self.new.walk) }
         ensures err { OnErr result (self.new ≡ self.old) }
     {
-        let mut out = Outbox::new(self.alloc);
+        let mut out = self.left.lend(self.alloc);
         let mut clock = OneMoment { moment };
         self.state
             .step(lines_in(script, number), &mut clock, &mut out)?;

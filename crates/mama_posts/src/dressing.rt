@@ -55,6 +55,14 @@ impl<L: Listener> Dressing<L> {
         }
     }
 
+    /// An empty outbox, with the room that events which are gone have left. What is left is as before.
+    pub(crate) fn lend(&mut self, alloc: Global) -> Outbox<ToService<ObjectId>>
+        ensures empty { result.items ≡ [] }
+        ensures same { self.new ≡ self.old }
+    {
+        self.events.lend(alloc)
+    }
+
     /// Where nothing is left, these are left now.
     pub(crate) fn lay(&mut self, events: Outbox<ToService<ObjectId>>)
         requires { waits self.old ≡ [] }

@@ -347,7 +347,7 @@ impl<L: Listener> PublisherPost<L> {
         ensures err { OnErr result (self.new ≡ self.old) }
     {
         let settles = is_settle(&event);
-        let mut out = Outbox::new(self.alloc);
+        let mut out = self.left.lend(self.alloc);
         self.state.take(event, &mut out)?;
         self.settled = self.settled || settles;
         self.left = Waiting::all(out);
@@ -384,7 +384,7 @@ impl<L: Listener> PublisherPost<L> {
         ensures grows { IsPrefix self.old.progress.journal self.new.progress.journal }
         ensures did { OnOk result (DidLine part.now self.old self.new) }
     {
-        let mut out = Outbox::new(self.alloc);
+        let mut out = self.left.lend(self.alloc);
         self.state.step(part, &mut out)?;
         self.left = Waiting::all(out);
         Ok(())

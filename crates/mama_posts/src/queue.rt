@@ -361,7 +361,7 @@ impl<L: Listener> QueuePost<L> {
             return Err(event);
         }
         lawful_may_come();
-        let mut out = Outbox::new(self.alloc);
+        let mut out = self.left.lend(self.alloc);
         let turn = self.serving.turn(port, event, &mut out)?;
         self.serving.planned_orders_fit();
         callbacks_are_streams();

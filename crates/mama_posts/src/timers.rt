@@ -216,7 +216,7 @@ impl<L: Listener> TimersPost<L> {
         ensures served { OnOk result (self.new.service.inlet.kept ≡ []) }
         ensures back { OnErr result (self.new ≡ record self.old { service = holding self.old.service port (timers_note_of (λ c. L.tagged c.listener) event) }) }
     {
-        let mut out = Outbox::new(self.alloc);
+        let mut out = self.left.lend(self.alloc);
         match self.timers.take(port, event, &mut out) {
             Ok(took) => {
                 self.over = is_end(took);

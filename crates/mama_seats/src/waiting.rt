@@ -2,7 +2,9 @@ ghost use Rattle.std.specs.Prelude.{◌≡◌, [], ◌∷◌, true, Some, None, 
 ghost use Rattle.mama_seats.specs.Waiting.{waits};
 
 use mama_memory::Outbox;
+use std::alloc::Global;
 use std::marker::Model;
+use std::mem;
 
 /// Events that wait to be put on their lanes, in order. The first is apart where its lane found no room for it.
 #[derive(Drop)]
@@ -38,6 +40,18 @@ impl<T> Waiting<T> {
             Some(_) => false,
             None => self.rest.is_empty(),
         }
+    }
+
+    /// An empty outbox, with the room that events which are gone have left, so that the next ones want no new room. What waits
+    /// is as before.
+    pub fn lend(&mut self, alloc: Global) -> Outbox<T>
+        ensures empty { result.items ≡ [] }
+        ensures same { self.new ≡ self.old }
+    {
+        if !self.rest.is_empty() {
+            return Outbox::new(alloc);
+        }
+        mem::replace(&mut self.rest, Outbox::new(alloc))
     }
 
     /// Takes the first event out. Then none is apart.

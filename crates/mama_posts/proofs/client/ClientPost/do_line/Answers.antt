@@ -19,7 +19,7 @@ returns-clause-seat g c =
     (subst (λ (ls : List ClientLine). IsStep (stand_of ls c.self.inside.state) (stand_of ls c.step.new.self) step.0) c.lines_in.ensures step.2) in
     line_seat script number c.args.self.now c.step.new.self c.rest_whole.new.state step.0 (waits c.lay.new.self) c.self.inside.ports c.requires.seat stepped c.rest_whole.ensures.state c.requires.left
     (ap (λ (v : ClientPostValue). v.ports) c.self.view_is)
-    (c.lay.ensures ∙ step.1 ∙ ap (λ (xs : List (ToService ObjectId)). notes_of xs ++ step.0) c.new-out.ensures)
+    (c.lay.ensures ∙ step.1 ∙ ap (λ (xs : List (ToService ObjectId)). notes_of xs ++ step.0) c.lend-out.ensures.empty)
 
 pub returns-clause-did : goal.returns-clause-did
 returns-clause-did g c =

@@ -22,4 +22,4 @@ returns-clause-seat g c =
     let stepped = subst (λ (p : Progress). IsSenderStep (sender_of part p) (sender_of part c.step.new.self) step.0) (ap (λ (v : PublisherPostValue). v.progress) c.self.view_is) step.2 in
     line_seat part c.args._number c.args.self.now c.step.new.self _ _ step.0 _ c.requires.seat c.requires.going c.requires.left stepped c.step.ensures.seated
     (ap (λ (v : PublisherPostValue). v.port) c.self.view_is) (ap (λ (v : PublisherPostValue). v.inlet) c.self.view_is)
-    (lays_all _ c.all.result c.step.new.out.items _ step.0 c.all.ensures step.1 c.new-out.ensures)
+    (lays_all _ c.all.result c.step.new.out.items _ step.0 c.all.ensures step.1 c.lend-out.ensures.empty)

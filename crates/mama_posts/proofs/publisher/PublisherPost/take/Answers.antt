@@ -22,5 +22,5 @@ returns-clause-seat g c =
     (c.in_ok-take.ensures.state ∙ ap (λ (p : Progress). record p { journal = p.journal ++ Took note ∷ [] }) same)
     (c.in_ok-take.ensures.seated part (subst (IsSeatedAt part) (sym same) seat.seated))
     (ap (λ (v : PublisherPostValue). v.port) c.self.view_is) (ap (λ (v : PublisherPostValue). v.inlet) c.self.view_is) c.requires.kept
-    (lays_all _ c.all.result c.take.new.out.items _ (publisher_puts_at script c.self.inside.state.journal (Took note)) c.all.ensures (c.in_ok-take.ensures.puts script here.stands) c.new-out.ensures
+    (lays_all _ c.all.result c.take.new.out.items _ (publisher_puts_at script c.self.inside.state.journal (Took note)) c.all.ensures (c.in_ok-take.ensures.puts script here.stands) c.lend-out.ensures.empty
     ∙ ap (λ (p : Progress). publisher_puts_at script p.journal (Took note)) same)

@@ -38,7 +38,7 @@ returns-clause-seat g c =
     event_seat objects number _ port note comes (told_back view (handed_back c.in_ok-turn.turn)) c.turn.new.self c.self.inside.inlet c.self.inside.ports _ (told_back view c.add_back.new.back.items) seat
     (ap (λ (v : QueuePostValue). v.left) c.self.view_is ∙ c.requires.left) (ap (λ (v : QueuePostValue). v.inlet.kept) c.self.view_is ∙ c.requires.kept)
     brings_it fresh turn.queue turn.journal turn.heard turn.planned refl refl
-    (lays _ c.all.result c.turn.new.out.items _ (queue_puts_at (orders_in objects) journal (port, note)) c.all.ensures (turn.puts (orders_in objects) fits) c.new-out.ensures)
+    (lays _ c.all.result c.turn.new.out.items _ (queue_puts_at (orders_in objects) journal (port, note)) c.all.ensures (turn.puts (orders_in objects) fits) c.lend-out.ensures.empty)
     (ap (told_back view) (c.add_back.ensures ∙ ap (λ (bs : List (ObjectId × L)). bs ++ handed_back c.in_ok-turn.turn) c.make_room.ensures.items)
     ∙ map-append _ c.self.inside.back.items (handed_back c.in_ok-turn.turn))
     returned.objects returned.back c.callbacks_are_streams.ensures c.lawful_may_come.ensures.journal

@@ -8,4 +8,4 @@ pub returns-in-Ok-clause-seat : goal.returns-in-Ok-clause-seat
 returns-in-Ok-clause-seat g c =
     event_taken c.args.self.now.service.shape _ c.args.self.now _ c.args.port _ c.self.view_is c.requires.seat c.requires.kept c.requires.left
     (ap (λ (r : Service). r.shape) c.in-Ok.ensures.journal) (ap (λ (r : Service). r.journal) c.in-Ok.ensures.journal) refl
-    (lays_all _ c.all.result c.take.new.out.items _ _ c.all.ensures c.in-Ok.ensures.puts c.new-out.ensures) refl
+    (lays_all _ c.all.result c.take.new.out.items _ _ c.all.ensures c.in-Ok.ensures.puts c.lend-out.ensures.empty) refl
