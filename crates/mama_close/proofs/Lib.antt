@@ -1,0 +1,11 @@
+pub mod Lists
+pub mod Edges
+pub mod Gathering
+pub mod Sorting
+pub mod Placing
+pub mod LaneEnds
+pub mod Ends
+pub mod Parting
+pub mod Record
+pub mod Whole
+pub mod Imaging

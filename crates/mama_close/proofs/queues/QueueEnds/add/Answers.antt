@@ -1,0 +1,12 @@
+use Rattle.mama_event.specs.Listener.{told}
+use Rattle.mama_close.proofs.Parting.{own_calls, own_listeners}
+use Rattle.mama_close.proofs.queues.QueueEnds.add.Goals as goal
+
+pub returns-clause-calls : goal.returns-clause-calls
+returns-clause-calls g c = λ calls same were.
+    c.in_ok-put_calls.ensures calls (own_calls c.args.plans.now c.args.number c.args.post c.into_parts-taker.result.notes.calls.items calls c.requires.keeps c.into_parts-taker.ensures.calls same) were
+
+pub returns-clause-listeners : goal.returns-clause-listeners
+returns-clause-listeners g c = λ calls same were.
+    let view = told g.L.Tagged.tagged g.L.Listener.calls g.L.Listener.heard g.L.Listener.given g.L.Listener.plan in
+    c.in_ok-put_listeners.ensures calls (own_listeners view c.args.plans.now c.args.number c.args.post c.into_parts-taker.result.listeners.items calls c.requires.keeps c.into_parts-taker.ensures.listeners same) were
