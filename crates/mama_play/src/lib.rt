@@ -1,0 +1,18 @@
+//! A script played on threads: `play`.
+//!
+//! [`play`] opens the crew of a script, gives its seats to threads in groups ([`groups`]), and when all have ended sets them in
+//! the order of their actors again ([`order`]) and closes the crew. Whatever the threads did in whichever order, the record is
+//! legal for the script.
+#![tactic(auto)]
+
+mod groups;
+mod order;
+mod playing;
+
+pub use mama_carry::{Listener, Maker};
+pub use mama_crew::Script;
+pub use mama_edge::{Clock, Gate, GateActor};
+pub use mama_event::ObjectId;
+pub use mama_memory::OutOfMemory;
+pub use mama_record::RunRecord;
+pub use playing::play;

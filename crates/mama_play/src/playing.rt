@@ -1,0 +1,90 @@
+ghost use Rattle.std.specs.Prelude.{◌≡◌, ◌≤◌, map, IfOk};
+ghost use Rattle.std.specs.List.{All};
+ghost use Rattle.mama_event.specs.Listener.{told};
+ghost use Rattle.mama_rules_legal.specs.Legal.{IsLegal};
+ghost use Rattle.mama_check.specs.Verdict.{IsTrue};
+ghost use Rattle.mama_crew.specs.Crew.{actors_of};
+ghost use Rattle.mama_crew.specs.Seat.{actor_of, IsSeatOf, HasEnded};
+ghost use Rattle.mama_close.specs.Back.{AreBack};
+
+use crate::groups::in_groups;
+use crate::order::in_order;
+use mama_carry::{Listener, Maker};
+use mama_check::legal_records_are_true;
+use mama_close::close_crew;
+use mama_crew::{Crew, Hall, Script, Seat, open_crew};
+use mama_edge::{Clock, Gate};
+use mama_event::ObjectId;
+use mama_memory::OutOfMemory;
+use mama_record::RunRecord;
+use mama_work::{Turned, turn_groups};
+use std::alloc::Global;
+use std::sync::Wait;
+use std::thread::Threads;
+
+/// Plays a script on threads: one turns the bridge, one the timer service, at most `workers` the queues, and at most as many
+/// the clients and publishers. It returns when all have ended, or when one of them found no memory; that it returns is not
+/// promised.
+///
+/// The record is legal for the script, whichever thread turned which actor when. So what is promised of legal records is
+/// true of it: each object is told what is meant for it, and nothing after its destroy notice; and an image that is ok is its
+/// sender's record. The listeners come back in the order of the objects: each has counted its callbacks in the record, and
+/// what it has heard, where it tells that, is they. The clock is read where a client's line is `now clock`, and the gate is
+/// called before each turn, which no clause tells. `workers` is from 1 to 64.
+///
+/// The error is want of memory. Then there is no record, and the maker may have made listeners.
+pub fn play<
+    L: Listener + Send,
+    M: Maker<L>,
+    C: Clock + Send,
+    G: Gate + Sync,
+    Rt: Threads + Wait + Copy + Sync,
+>(
+    rt: &Rt,
+    alloc: Global,
+    script: &Script,
+    maker: &mut M,
+    clock: &mut C,
+    gate: &G,
+    workers: u32,
+) -> Result<(RunRecord, Vec<(ObjectId, L)>), OutOfMemory>
+    requires { (1 ≤ workers) × (workers ≤ 64) }
+    ensures legal { IfOk result (λ r. IsLegal script.now r.0) }
+    ensures promised { IfOk result (λ r. IsTrue script.now r.0) }
+    ensures listeners { IfOk result (λ r. AreBack (told L.tagged L.calls L.heard L.given L.plan) r.0.calls r.1.items) }
+{
+    let Crew { hall, seats } = open_crew(*rt, alloc, script, maker)?;
+    let seats = all_turned(rt, alloc, script, &hall, clock, gate, workers, seats)?;
+    let _shape = script.shape();
+    legal_records_are_true();
+    close_crew(*rt, alloc, script, hall, seats)
+}
+
+// Turns all seats of a crew on threads until they have ended, and gives them back in the order of their actors.
+fn all_turned<
+    L: Listener + Send,
+    C: Clock + Send,
+    G: Gate + Sync,
+    Rt: Threads + Wait + Copy + Sync,
+>(
+    rt: &Rt,
+    alloc: Global,
+    script: &Script,
+    hall: &Hall<L>,
+    clock: &mut C,
+    gate: &G,
+    workers: u32,
+    seats: Vec<Seat<L>>,
+) -> Result<Vec<Seat<L>>, OutOfMemory>
+    requires { All (IsSeatOf script.now hall.now) seats.items }
+    ensures actors { IfOk result (λ r. map actor_of r.items ≡ actors_of script.now.shape) }
+    ensures seats { IfOk result (λ r. All (IsSeatOf script.now hall.now) r.items) }
+    ensures ended { IfOk result (λ r. All HasEnded r.items) }
+{
+    let groups = in_groups(alloc, script, hall, workers, seats)?;
+    let Turned { seats, ended } = turn_groups(rt, alloc, script, hall, clock, gate, groups)?;
+    if !ended {
+        return Err(OutOfMemory);
+    }
+    in_order(script, hall, seats)
+}
