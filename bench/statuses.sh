@@ -30,6 +30,7 @@ wrote() {
 }
 
 serial() { "$program" serial < "$1"; }
+played_by() { "$program" play "$1" < "$2"; }
 check() { { cat "$1"; echo log; cat "$2"; } | "$program" check; }
 of_text() { printf "$2" | "$program" "$1"; }
 full() { serial "$1" > /dev/full; }
@@ -49,10 +50,18 @@ for script in "$examples"/*.script; do
   wrote "${script%.script}.log"
   told 0 '' check "$script" "${script%.script}.log"
   wrote "$scratch/legal"
+  for workers in 1 3 64; do
+    told 0 '' played_by "$workers" "$script"
+    cp "$scratch/out" "$scratch/played.log"
+    told 0 '' check "$script" "$scratch/played.log"
+    [ "$(head -1 "$scratch/out")" = legal ] || differs "play $workers of $script: $(head -1 "$scratch/out")"
+  done
 done
 told 1 'mama_run: not legal' check "$examples/gap.script" "$examples/damaged.log"
 wrote "$scratch/late"
 told 2 'mama_run: bad words' play_0
+told 2 'mama_run: bad words' "$program" play 65
+told 2 'mama_run: bad words' "$program" play 04
 told 2 'mama_run: bad words' "$program" gen 05
 told 0 '' "$program" gen 5
 cp "$scratch/out" "$scratch/five.script"

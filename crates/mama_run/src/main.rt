@@ -1,24 +1,28 @@
-//! Plays scripts of publishers, subscribers and link faults, and writes what every actor took and called back; judges
-//! whether such a log is that of a legal run; and writes the scripts of seeds.
+//! Plays scripts of publishers, subscribers and link faults, on one thread or on many, and writes what every actor took and
+//! called back; judges whether such a log is that of a legal run; and writes the scripts of seeds.
 //!
-//! The program is [`run_plain`] over standard input and output and the clock; it tells on standard error how it ended, and
-//! by its exit status.
+//! The program is [`run`] over standard input and output, the clock and an open gate; it tells on standard error how it ended,
+//! and by its exit status.
 #![tactic(auto)]
 
 ghost use Rattle.std.specs.Prelude.{◌≡◌};
 ghost use Rattle.std.specs.Process.{exit_status};
 ghost use Rattle.mama_plain.specs.Status.{exit_number};
 
-use mama_edge::{RealClock, StdSink, StdSource};
-use mama_plain::{Status, run_plain};
+use mama_commands::run;
+use mama_edge::{OpenGate, RealClock, StdSink, StdSource};
+use mama_plain::Status;
 use std::process::ExitCode;
 use std::{env, io};
 
 const HELP: &str = "usage: mama_run serial
+       mama_run play W
        mama_run check
        mama_run gen SEED
 
 serial     reads a script from standard input, plays it on one thread, and writes its log to standard output
+play       does the same on threads, so that each run may have another log: one for the bridge, one for the timer service, at
+           most W for the queues, and at most W for the clients and publishers; W is a decimal number from 1 to 64
 check      reads a script, a line that is just log, and a log from standard input, and writes to standard output whether
            the log is that of a legal run of the script: 'legal' and a line 'causal yes' or 'causal no', or
            'not legal L', the number of the first rule that is broken, and the first actor that breaks it
@@ -64,7 +68,18 @@ fn main(rt: HostRuntime) -> io::Result<ExitCode> {
             return Ok(end(&rt, written(println!(rt; "mama_run 1").is_ok())));
         }
     }
-    let status = serve(&rt, words);
+    let mut source = StdSource::new(rt.stdin());
+    let mut sink = StdSink::new(rt.stdout());
+    let mut clock = RealClock::new(&rt);
+    let status = run(
+        &rt,
+        rt.alloc(),
+        words,
+        &mut source,
+        &mut sink,
+        &mut clock,
+        &OpenGate,
+    );
     Ok(end(&rt, status))
 }
 
@@ -94,11 +109,4 @@ fn end(rt: &HostRuntime, status: Status) -> ExitCode
         let _ = eprintln!(rt; "mama_run: {status}");
     }
     status.exit()
-}
-
-fn serve(rt: &HostRuntime, words: &[String]) -> Status {
-    let mut source = StdSource::new(rt.stdin());
-    let mut sink = StdSink::new(rt.stdout());
-    let mut clock = RealClock::new(rt);
-    run_plain(rt.alloc(), words, &mut source, &mut sink, &mut clock)
 }

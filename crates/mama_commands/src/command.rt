@@ -1,0 +1,149 @@
+ghost use Rattle.std.specs.Prelude.{List, ℕ, ◌≡◌, ◌≢◌, ◌<◌, ◌↔◌, ◌⊎◌, Some, Bool, true, false, map, take, length, string_bytes, Err};
+ghost use Rattle.mama_edge.specs.Count.{Rose};
+ghost use Rattle.mama_edge.specs.Told.{Appended, Lost, LostAtMost};
+ghost use Rattle.mama_script.specs.Reading.{script_in};
+ghost use Rattle.mama_script.specs.declared.fault.ScriptFault.TheVariants as script;
+ghost use Rattle.mama_check.specs.declared.verdict.Actor.{Actor};
+ghost use Rattle.mama_check.specs.declared.verdict.Verdict.{Verdict};
+ghost use Rattle.mama_check.specs.declared.verdict.Verdict.TheVariants as verdicts;
+ghost use Rattle.mama_gen.specs.Generated.{generated};
+ghost use Rattle.mama_plain.specs.Command.{is_serial, is_check, seed_in};
+ghost use Rattle.mama_plain.specs.Parts.{script_part, log_part};
+ghost use Rattle.mama_plain.specs.Verdict.{IsChecked, IsVerdictOf, IsBadLog};
+ghost use Rattle.mama_plain.specs.Answers.{GaveAll, IsAccepted, IsLogOf, IsEndOfGen, OnUnplayed, OnSilent};
+ghost use Rattle.mama_plain.specs.Promises.{KeepsPromises, IsLawfulRun};
+ghost use Rattle.mama_commands.specs.Words.{is_play, is_form};
+ghost use Rattle.mama_commands.specs.Played.{IsPlayLogOf};
+
+use crate::play::play_input;
+use crate::words::workers_of;
+use mama_edge::{Clock, Gate, Sink, Source};
+use mama_plain::{Status, legal_records_keep_promises, logs_of_serial_are_lawful, run_plain};
+use std::alloc::Global;
+use std::sync::Wait;
+use std::thread::Threads;
+
+/// Serves the command that the words name. `play W`, with a number from 1 to 64, reads a script from the source, plays it on
+/// threads and writes its log to the sink: one thread turns the bridge, one the timer service, at most W the queues, and at
+/// most W the clients and publishers. All other words are those of `run_plain`, which serves them.
+///
+/// At `Ok` of `play W` the log is that of a legal record that keeps all promises of a run, and tells no other: `IsPlayLogOf`.
+/// That holds whichever thread turned which actor when. That it returns is not promised there; of the other commands it
+/// always does. The gate is called before each turn of an actor, which no clause says; the moments of such a record are the
+/// clock's, and no clause says that either. No clause ties want of memory to its cause.
+pub fn run<S: Source, K: Sink, C: Clock + Send, G: Gate + Sync, Rt: Threads + Wait + Copy + Sync>(
+    rt: &Rt,
+    alloc: Global,
+    words: &[String],
+    source: &mut S,
+    sink: &mut K,
+    clock: &mut C,
+    gate: &G,
+) -> Status
+    // The words are no command exactly where that is the answer, and then nothing was read.
+    ensures bad_words { (result ≡ Status.BadWords) ↔ (is_form (map string_bytes words.now) ≡ false) }
+    ensures unread { result ≡ Status.BadWords → source.new ≡ source.old }
+
+    // A read fault and a write fault come only where the count of that object rose.
+    ensures read_fault { result ≡ Status.ReadFault → Rose (S.faults source.old) (S.faults source.new) }
+    ensures write_fault { (written : ℕ) → result ≡ Status.WriteFault written → Rose (K.faults sink.old) (K.faults sink.new) }
+
+    // At a read fault and at want of memory no more than the limit was taken. The input is too long only where one byte
+    // more was.
+    ensures read_part { result ≡ Status.ReadFault → LostAtMost (S.left source.old) (S.left source.new) 67108864 }
+    ensures memory_part { result ≡ Status.OutOfMemory → LostAtMost (S.left source.old) (S.left source.new) 67108864 }
+    ensures too_long { (limit : ℕ) → result ≡ Status.OverLimit 0 limit → (limit ≡ 1) × Lost (S.left source.old) (S.left source.new) 67108865 }
+
+    // At every answer but Ok, that a log is not legal, and a write fault, nothing was written.
+    ensures silent { OnSilent result (sink.new ≡ sink.old) }
+
+    // Only play and serial call the clock, and only for a script that they play: whatever the answer is, the clock is as it was,
+    // or the source gave the text of an accepted script.
+    ensures still { is_play (map string_bytes words.now) ≡ false → is_serial (map string_bytes words.now) ≡ false → clock.new ≡ clock.old }
+    ensures unplayed { OnUnplayed result (clock.new ≡ clock.old) }
+    ensures called { (clock.new ≡ clock.old) ⊎ ((text : List ℕ) × GaveAll (S.left source.old) (S.left source.new) text × IsAccepted text) }
+
+    // PLAY
+
+    // A fault or a limit is that of the text that the source gave: its first line that has one, where an object that is
+    // not there is looked for last. An accepted script has neither, and is refused only where the input is too long.
+    ensures play_bad_script { is_play (map string_bytes words.now) ≡ true → (line fault : ℕ) → result ≡ Status.BadScript line fault
+        → (text : List ℕ) × GaveAll (S.left source.old) (S.left source.new) text × (script_in text ≡ Err (script.Bad line fault)) }
+    ensures play_over_limit { is_play (map string_bytes words.now) ≡ true → (line limit : ℕ) → result ≡ Status.OverLimit line limit → line ≢ 0
+        → (text : List ℕ) × GaveAll (S.left source.old) (S.left source.new) text × (script_in text ≡ Err (script.OverLimit line limit)) }
+    ensures play_accepted { is_play (map string_bytes words.now) ≡ true → (text : List ℕ) → S.left source.old ≡ Some text → IsAccepted text
+        → ((line fault : ℕ) → result ≢ Status.BadScript line fault) × ((line limit : ℕ) → result ≡ Status.OverLimit line limit → line ≡ 0) }
+
+    // At Ok the source gave the text of an accepted script and no more, and the log of a run of it was written whole. At
+    // a write fault a part of one was written, which is not the whole.
+    ensures play { is_play (map string_bytes words.now) ≡ true → result ≡ Status.Ok → (text log : List ℕ) × GaveAll (S.left source.old) (S.left source.new) text
+        × IsPlayLogOf text log × Appended (K.written sink.old) (K.written sink.new) log }
+    ensures play_part { is_play (map string_bytes words.now) ≡ true → (written : ℕ) → result ≡ Status.WriteFault written
+        → (text log : List ℕ) × GaveAll (S.left source.old) (S.left source.new) text × IsPlayLogOf text log
+        × (written < length log) × Appended (K.written sink.old) (K.written sink.new) (take written log) }
+
+    // SERIAL
+
+    // A fault or a limit is that of the text that the source gave: its first line that has one, where an object that is
+    // not there is looked for last. An accepted script has neither, and is refused only where the input is too long.
+    ensures bad_script { is_serial (map string_bytes words.now) ≡ true → (line fault : ℕ) → result ≡ Status.BadScript line fault
+        → (text : List ℕ) × GaveAll (S.left source.old) (S.left source.new) text × (script_in text ≡ Err (script.Bad line fault)) }
+    ensures over_limit { is_serial (map string_bytes words.now) ≡ true → (line limit : ℕ) → result ≡ Status.OverLimit line limit → line ≢ 0
+        → (text : List ℕ) × GaveAll (S.left source.old) (S.left source.new) text × (script_in text ≡ Err (script.OverLimit line limit)) }
+    ensures accepted { is_serial (map string_bytes words.now) ≡ true → (text : List ℕ) → S.left source.old ≡ Some text → IsAccepted text
+        → ((line fault : ℕ) → result ≢ Status.BadScript line fault) × ((line limit : ℕ) → result ≡ Status.OverLimit line limit → line ≡ 0) }
+
+    // At Ok the source gave the text of an accepted script and no more, and the log of a run of it was written whole. At
+    // a write fault a part of one was written, which is not the whole. The run of such a log keeps all promises.
+    ensures ok { is_serial (map string_bytes words.now) ≡ true → result ≡ Status.Ok → (text log : List ℕ) × GaveAll (S.left source.old) (S.left source.new) text
+        × IsLogOf (C.left clock.old) (C.left clock.new) text log × Appended (K.written sink.old) (K.written sink.new) log }
+    ensures part { is_serial (map string_bytes words.now) ≡ true → (written : ℕ) → result ≡ Status.WriteFault written
+        → (text log : List ℕ) × GaveAll (S.left source.old) (S.left source.new) text × IsLogOf (C.left clock.old) (C.left clock.new) text log
+        × (written < length log) × Appended (K.written sink.old) (K.written sink.new) (take written log) }
+    ensures promises { (text log : List ℕ) (l : IsLogOf (C.left clock.old) (C.left clock.new) text log) → IsLawfulRun l.script l.run }
+
+    // CHECK
+
+    // A fault or a limit is that of the script, which is what stands before the first line `log`.
+    ensures bad_script_part { is_check (map string_bytes words.now) ≡ true → (line fault : ℕ) → result ≡ Status.BadScript line fault
+        → (text : List ℕ) × GaveAll (S.left source.old) (S.left source.new) text × (script_in (script_part text) ≡ Err (script.Bad line fault)) }
+    ensures over_limit_part { is_check (map string_bytes words.now) ≡ true → (line limit : ℕ) → result ≡ Status.OverLimit line limit → line ≢ 0
+        → (text : List ℕ) × GaveAll (S.left source.old) (S.left source.new) text × (script_in (script_part text) ≡ Err (script.OverLimit line limit)) }
+
+    // A log is bad only for check, where the script is accepted, and the line is the first behind it that does not fit. It
+    // never is where the source tells an accepted script, the line `log`, and a log that the script can have; nor is that
+    // script refused then.
+    ensures bad_log { (line : ℕ) → result ≡ Status.BadLog line → (is_check (map string_bytes words.now) ≡ true)
+        × (text : List ℕ) × GaveAll (S.left source.old) (S.left source.new) text × IsBadLog (script_part text) (log_part text) line }
+    ensures fitting { (text : List ℕ) → S.left source.old ≡ Some text → IsChecked text → (line : ℕ) → result ≢ Status.BadLog line }
+    ensures fitting_script { is_check (map string_bytes words.now) ≡ true → (text : List ℕ) → S.left source.old ≡ Some text → IsChecked text
+        → ((line fault : ℕ) → result ≢ Status.BadScript line fault) × ((line limit : ℕ) → result ≡ Status.OverLimit line limit → line ≡ 0) }
+
+    // The verdict on what the source gave was written whole: that the log is legal at Ok, and which rule is broken and by
+    // whom where it is not. At a write fault a part of a verdict was written, which is not the whole. A log that is found
+    // legal keeps all promises.
+    ensures legal { is_check (map string_bytes words.now) ≡ true → result ≡ Status.Ok → (causal : Bool) × (text : List ℕ) × (out : List ℕ)
+        × GaveAll (S.left source.old) (S.left source.new) text × IsVerdictOf text (verdicts.Legal causal) out × Appended (K.written sink.old) (K.written sink.new) out }
+    ensures not_legal { (rule : ℕ) (actor : Actor) → result ≡ Status.NotLegal rule actor → (is_check (map string_bytes words.now) ≡ true) × (text : List ℕ) × (out : List ℕ)
+        × GaveAll (S.left source.old) (S.left source.new) text × IsVerdictOf text (verdicts.NotLegal rule actor) out × Appended (K.written sink.old) (K.written sink.new) out }
+    ensures verdict_part { is_check (map string_bytes words.now) ≡ true → (written : ℕ) → result ≡ Status.WriteFault written → (verdict : Verdict) × (text : List ℕ) × (out : List ℕ)
+        × GaveAll (S.left source.old) (S.left source.new) text × IsVerdictOf text verdict out × (written < length out) × Appended (K.written sink.old) (K.written sink.new) (take written out) }
+    ensures legal_promises { (causal : Bool) (text out : List ℕ) (v : IsVerdictOf text (verdicts.Legal causal) out) → KeepsPromises v.script v.run }
+
+    // GEN
+
+    // Nothing is read, and no answer comes but that all was written, that a part was, or want of memory. What is written
+    // is the text of the script of the seed, and at a write fault a part of it, which is not the whole.
+    ensures seed_only { (seed : ℕ) → seed_in (map string_bytes words.now) ≡ Some seed → (source.new ≡ source.old) × IsEndOfGen result }
+    ensures seed_ok { (seed : ℕ) → seed_in (map string_bytes words.now) ≡ Some seed → result ≡ Status.Ok
+        → Appended (K.written sink.old) (K.written sink.new) (generated seed) }
+    ensures seed_part { (seed : ℕ) → seed_in (map string_bytes words.now) ≡ Some seed → (written : ℕ) → result ≡ Status.WriteFault written
+        → (written < length (generated seed)) × Appended (K.written sink.old) (K.written sink.new) (take written (generated seed)) }
+{
+    legal_records_keep_promises();
+    logs_of_serial_are_lawful();
+    match workers_of(words) {
+        Some(workers) => play_input(rt, alloc, workers, source, sink, clock, gate),
+        None => run_plain(alloc, words, source, sink, clock),
+    }
+}
