@@ -2,7 +2,7 @@
 # Refuses each request for memory in turn: while the proved program plays a small script or judges its log, a script for every
 # kind of line; and while tests make single calls, each of which they make again where no memory was found.
 #
-# It wants the proved program (./mama --version builds it), the tests of mama_tests_run, mama_tests_queues and mama_lane (rt
+# It wants the proved program (./mama --version builds it), the tests of mama_tests_calls, mama_tests_queues and mama_lane (rt
 # test in their folders builds them), and a C compiler, for a library that is loaded before the C library and answers one
 # request of `malloc` or `realloc` with nothing. `rt try --fail-alloc` builds the program anew for each number, which is why it
 # is not used.
@@ -12,7 +12,7 @@
 # has to pass: the call left all as it was, and came to the same when it was made again. Ends with 1 where anything else comes.
 . "$(dirname "$0")/scratch.sh"
 proved_program
-for name in mama_tests_run mama_tests_queues mama_lane; do
+for name in mama_tests_calls mama_tests_queues mama_lane; do
     proved_tests "$name"
 done
 cat > "$scratch/refuse.c" <<'END'
@@ -77,10 +77,10 @@ SCRIPTS = {
 OUT_OF_MEMORY = (8, b"", b"mama_run: out of memory\n")
 # the tests of each call, with their crate
 TESTS = {
-    "`SerialRun::go`": ("mama_tests_run", ["going_on::a_run_goes_on"]),
-    "`parse_log`": ("mama_tests_run", ["going_on::a_log_is_read"]),
-    "`print_log`": ("mama_tests_run", ["going_on::a_record_is_printed"]),
-    "`check`": ("mama_tests_run", ["going_on::a_record_is_judged"]),
+    "`SerialRun::go`": ("mama_tests_calls", ["going_on::a_run_goes_on"]),
+    "`parse_log`": ("mama_tests_calls", ["going_on::a_log_is_read"]),
+    "`print_log`": ("mama_tests_calls", ["going_on::a_record_is_printed"]),
+    "`check`": ("mama_tests_calls", ["going_on::a_record_is_judged"]),
     "`Serving::turn`": (
         "mama_tests_queues",
         [

@@ -63,6 +63,11 @@ told 2 'mama_run: bad words' play_0
 told 2 'mama_run: bad words' "$program" play 65
 told 2 'mama_run: bad words' "$program" play 04
 told 2 'mama_run: bad words' "$program" gen 05
+told 2 'mama_run: bad words' "$program" soak 5
+told 2 'mama_run: bad words' "$program" soak 5 65
+told 0 '' "$program" soak 5 2
+printf 'sends 4000\nsubscriptions 64\nnotices 64\nlegal\n' > "$scratch/counts"
+wrote "$scratch/counts"
 told 0 '' "$program" gen 5
 cp "$scratch/out" "$scratch/five.script"
 told 0 '' serial "$scratch/five.script"

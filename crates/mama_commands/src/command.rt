@@ -12,11 +12,13 @@ ghost use Rattle.mama_plain.specs.Parts.{script_part, log_part};
 ghost use Rattle.mama_plain.specs.Verdict.{IsChecked, IsVerdictOf, IsBadLog};
 ghost use Rattle.mama_plain.specs.Answers.{GaveAll, IsAccepted, IsLogOf, IsEndOfGen, OnUnplayed, OnSilent};
 ghost use Rattle.mama_plain.specs.Promises.{KeepsPromises, IsLawfulRun};
-ghost use Rattle.mama_commands.specs.Words.{is_play, is_form};
+ghost use Rattle.mama_soak.specs.Soak.{IsSoak};
+ghost use Rattle.mama_commands.specs.Words.{is_play, soak_in, is_form};
 ghost use Rattle.mama_commands.specs.Played.{IsPlayLogOf};
 
 use crate::play::play_input;
-use crate::words::workers_of;
+use crate::soak::write_soak;
+use crate::words::{soak_of, workers_of};
 use mama_edge::{Clock, Gate, Sink, Source};
 use mama_plain::{Status, legal_records_keep_promises, logs_of_serial_are_lawful, run_plain};
 use std::alloc::Global;
@@ -25,11 +27,12 @@ use std::thread::Threads;
 
 /// Serves the command that the words name. `play W`, with a number from 1 to 64, reads a script from the source, plays it on
 /// threads and writes its log to the sink: one thread turns the bridge, one the timer service, at most W the queues, and at
-/// most W the clients and publishers. All other words are those of `run_plain`, which serves them.
+/// most W the clients and publishers. `soak SEED W` reads nothing, plays the script of the seed in the same way, judges its
+/// record, and writes what that counts. All other words are those of `run_plain`, which serves them.
 ///
 /// At `Ok` of `play W` the log is that of a legal record that keeps all promises of a run, and tells no other: `IsPlayLogOf`.
-/// That holds whichever thread turned which actor when. That it returns is not promised there; of the other commands it
-/// always does. The gate is called before each turn of an actor, which no clause says; the moments of such a record are the
+/// At `Ok` of `soak SEED W` the counts are those of a legal record of the seed's script: `IsSoak`. Both hold whichever thread
+/// turned which actor when. That it returns is not promised of these two; of the other commands it always does. The gate is called before each turn of an actor, which no clause says; the moments of such a record are the
 /// clock's, and no clause says that either. No clause ties want of memory to its cause.
 pub fn run<S: Source, K: Sink, C: Clock + Send, G: Gate + Sync, Rt: Threads + Wait + Copy + Sync>(
     rt: &Rt,
@@ -81,6 +84,16 @@ pub fn run<S: Source, K: Sink, C: Clock + Send, G: Gate + Sync, Rt: Threads + Wa
     ensures play_part { is_play (map string_bytes words.now) ≡ true → (written : ℕ) → result ≡ Status.WriteFault written
         → (text log : List ℕ) × GaveAll (S.left source.old) (S.left source.new) text × IsPlayLogOf text log
         × (written < length log) × Appended (K.written sink.old) (K.written sink.new) (take written log) }
+
+    // SOAK
+
+    // Nothing is read, and no answer comes but that all was written, that a part was, or want of memory. What is written
+    // are the counts of a legal run of the script of the seed, and at a write fault a part of them, which is not the whole.
+    ensures soak_only { (seed workers : ℕ) → soak_in (map string_bytes words.now) ≡ Some (seed, workers) → (source.new ≡ source.old) × IsEndOfGen result }
+    ensures soak_ok { (seed workers : ℕ) → soak_in (map string_bytes words.now) ≡ Some (seed, workers) → result ≡ Status.Ok
+        → (out : List ℕ) × IsSoak seed out × Appended (K.written sink.old) (K.written sink.new) out }
+    ensures soak_part { (seed workers : ℕ) → soak_in (map string_bytes words.now) ≡ Some (seed, workers) → (written : ℕ) → result ≡ Status.WriteFault written
+        → (out : List ℕ) × IsSoak seed out × (written < length out) × Appended (K.written sink.old) (K.written sink.new) (take written out) }
 
     // SERIAL
 
@@ -144,6 +157,9 @@ pub fn run<S: Source, K: Sink, C: Clock + Send, G: Gate + Sync, Rt: Threads + Wa
     logs_of_serial_are_lawful();
     match workers_of(words) {
         Some(workers) => play_input(rt, alloc, workers, source, sink, clock, gate),
-        None => run_plain(alloc, words, source, sink, clock),
+        None => match soak_of(words) {
+            Some((seed, workers)) => write_soak(rt, alloc, seed, workers, sink, gate),
+            None => run_plain(alloc, words, source, sink, clock),
+        },
     }
 }

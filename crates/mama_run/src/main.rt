@@ -1,5 +1,5 @@
 //! Plays scripts of publishers, subscribers and link faults, on one thread or on many, and writes what every actor took and
-//! called back; judges whether such a log is that of a legal run; and writes the scripts of seeds.
+//! called back; judges whether such a log is that of a legal run; writes the scripts of seeds, and plays and judges them at once.
 //!
 //! The program is [`run`] over standard input and output, the clock and an open gate; it tells on standard error how it ended,
 //! and by its exit status.
@@ -19,6 +19,7 @@ const HELP: &str = "usage: mama_run serial
        mama_run play W
        mama_run check
        mama_run gen SEED
+       mama_run soak SEED W
 
 serial     reads a script from standard input, plays it on one thread, and writes its log to standard output
 play       does the same on threads, so that each run may have another log: one for the bridge, one for the timer service, at
@@ -27,6 +28,8 @@ check      reads a script, a line that is just log, and a log from standard inpu
            the log is that of a legal run of the script: 'legal' and a line 'causal yes' or 'causal no', or
            'not legal L', the number of the first rule that is broken, and the first actor that breaks it
 gen        reads nothing, and writes to standard output the script of a seed, a decimal number from 0 to 2^64 - 1
+soak       plays the script of a seed on threads, as play does, judges its record, and writes what that counts: 'sends N',
+           'subscriptions N', 'notices N', and 'legal'
 --help     writes this text
 --version  writes the version
 

@@ -8,11 +8,7 @@ mod damaged;
 #[cfg(test)]
 mod failing;
 #[cfg(test)]
-mod going_on;
-#[cfg(test)]
 mod limits;
-#[cfg(test)]
-mod morning;
 #[cfg(test)]
 mod played;
 #[cfg(test)]

@@ -11,6 +11,9 @@ returns-in-Some-clause-play_accepted g c = λ play text given accepted.
 pub returns-in-Some-clause-promises : goal.returns-in-Some-clause-promises
 returns-in-Some-clause-promises g c = λ text log l. c.logs_of_serial_are_lawful.ensures _ _ text log l
 
+pub returns-in-Some-soak_of-clause-promises : goal.returns-in-Some-soak_of-clause-promises
+returns-in-Some-soak_of-clause-promises g c = λ text log l. c.logs_of_serial_are_lawful.ensures _ _ text log l
+
 pub returns-in-Some-clause-accepted : goal.returns-in-Some-clause-accepted
 returns-in-Some-clause-accepted g c = λ serial text given accepted. not_serial (map string_bytes c.args.words.now) c.in-Some.workers c.in-Some.ensures.value serial
 

@@ -1,0 +1,97 @@
+//! `play`, with two workers.
+
+ghost use Rattle.std.specs.Prelude.{IfOk};
+ghost use Rattle.mama_rules_legal.specs.Form.{IsFormed};
+
+use crate::meeting::{Host, Meeting};
+use crate::scripts::{FIRST, TWO_QUEUES};
+use mama_carry::{Maker, PlanListener, PlanMaker};
+use mama_check::{Verdict, check, legal_records_are_formed};
+use mama_edge::{MemoryClock, OpenGate};
+use mama_event::{CallNote, Listener, ObjectId, SubId};
+use mama_memory::OutOfMemory;
+use mama_play::play;
+use mama_record::RunRecord;
+use mama_script::{Script, ScriptFault, parse};
+use std::alloc::Global;
+use std::sync::{Arc, Wait};
+use std::test::Fail;
+use std::thread::Threads;
+
+// Calls whose answers are handed on unopened, but that a record may be judged.
+fn parsed(alloc: Global, text: &str) -> Result<Script, ScriptFault> {
+    parse(alloc, text.as_bytes())
+}
+
+fn played<L: Listener + Send, M: Maker<L>, R: Threads + Wait + Copy + Sync>(
+    rt: &R,
+    alloc: Global,
+    script: &Script,
+    maker: &mut M,
+) -> Result<(RunRecord, Vec<(ObjectId, L)>), OutOfMemory>
+    ensures { IfOk result (λ r. IsFormed script.now r.0) }
+{
+    legal_records_are_formed();
+    let mut clock = MemoryClock::new(Vec::new(alloc));
+    play(rt, alloc, script, maker, &mut clock, &OpenGate, 2)
+}
+
+// Whether a record is found legal and causal.
+fn is_causal(alloc: Global, script: &Script, run: &RunRecord) -> bool
+    requires { IsFormed script.now run.now }
+{
+    match check(alloc, script, run) {
+        Ok(verdict) => verdict == Verdict::Legal { causal: true },
+        Err(_) => false,
+    }
+}
+
+// Whether a listener has heard the callbacks of a record.
+fn has_heard(listener: &PlanListener, notes: &[CallNote]) -> bool {
+    let Some(heard) = listener.heard() else {
+        return false;
+    };
+    heard.len() == notes.len()
+        && heard
+            .iter()
+            .zip(notes.iter())
+            .all(|(call, note)| *call == note.call)
+}
+
+const SUB: ObjectId = ObjectId::Sub(SubId {
+    client: 0,
+    number: 0,
+});
+
+// Whether the one listener of a run came back with its callbacks.
+fn is_back(run: &RunRecord, listeners: &[(ObjectId, PlanListener)]) -> bool {
+    match (run.calls(), listeners) {
+        ([(object, notes)], [(back, listener)]) => {
+            *object == SUB && *back == SUB && has_heard(listener, notes.as_slice())
+        }
+        _ => false,
+    }
+}
+
+#[test]
+fn the_listener_comes_back_with_its_callbacks(rt: HostRuntime) -> Result<(), Fail> {
+    let script = parsed(rt.alloc(), FIRST)?;
+    let mut maker = PlanMaker::new();
+    let (run, listeners) = played(&rt, rt.alloc(), &script, &mut maker)?;
+    assert!(rt; is_causal(rt.alloc(), &script, &run));
+    assert!(rt; is_back(&run, &listeners));
+    Ok(())
+}
+
+#[test]
+fn callbacks_of_two_queues_run_at_the_same_time(rt: HostRuntime) -> Result<(), Fail> {
+    let script = parsed(rt.alloc(), TWO_QUEUES)?;
+    let meeting = Arc::new(rt.alloc(), Meeting::new())?;
+    let mut host = Host {
+        meeting: Arc::try_clone(&meeting)?,
+    };
+    let (run, _listeners) = played(&rt, rt.alloc(), &script, &mut host)?;
+    assert!(rt; is_causal(rt.alloc(), &script, &run));
+    assert!(rt; meeting.is_held());
+    Ok(())
+}

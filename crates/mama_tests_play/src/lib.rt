@@ -1,0 +1,17 @@
+//! Tests of runs on threads, by the call and through the top call.
+#![tactic(auto)]
+
+#[cfg(test)]
+mod call;
+#[cfg(test)]
+mod meeting;
+#[cfg(test)]
+mod morning;
+#[cfg(test)]
+mod roll;
+#[cfg(test)]
+mod scripts;
+#[cfg(test)]
+mod soaks;
+#[cfg(test)]
+mod words;

@@ -1,0 +1,27 @@
+//! The scripts that are played.
+
+/// One subscription, of which no message is lost.
+pub const FIRST: &str = r#"mama script 1
+queues 1
+topic "EQ.ABC"
+publisher 0 22:bid:u32:100
+update 22:bid:u32:101
+update 25:ask:u32:103
+update 22:bid:u32:102
+client
+sub 0 market 0 10 1000
+"#;
+
+/// How each log of it ends.
+pub const FIRST_IMAGE: &str = "images\ns0.0 ok 1 3 22:bid:u32:102 25:ask:u32:103\nend\n";
+
+/// Two queues with one subscription each.
+pub const TWO_QUEUES: &str = r#"mama script 1
+queues 2
+topic "EQ.ABC"
+publisher 0 22:bid:u32:100
+update 22:bid:u32:101
+client
+sub 0 market 0 10 1000
+sub 0 market 1 10 1000
+"#;
