@@ -1,23 +1,25 @@
 #!/bin/bash
-# Refuses each request for memory in turn: while the proved program plays a small script or judges its log, a script for every
-# kind of line; and while tests make single calls, each of which they make again where no memory was found.
+# Refuses each request for memory in turn: while the proved program plays a small script, on one thread or on many, or judges its
+# log, a script for every kind of line; and while tests make single calls, each of which they make again where no memory was found.
 #
-# It wants the proved program (./mama --version builds it), the tests of mama_tests_calls, mama_tests_queues and mama_lane (rt
-# test in their folders builds them), and a C compiler, for a library that is loaded before the C library and answers one
+# It wants the proved program (./mama --version builds it), the tests of mama_tests_calls and mama_tests_queues (rt test in their
+# folders builds them), and a C compiler, for a library that is loaded before the C library and answers one
 # request of `malloc` or `realloc` with nothing. `rt try --fail-alloc` builds the program anew for each number, which is why it
 # is not used.
 #
 # After a refusal the program has to say that no memory was found, by its line and its status, with nothing written; or else to
-# do what it does when nothing is refused. A test ends with that error where the refused request was not of its call; else it
+# do what it does when nothing is refused; on threads, whose logs differ, to write a log that is legal. A test ends with that error where the refused request was not of its call; else it
 # has to pass: the call left all as it was, and came to the same when it was made again. Ends with 1 where anything else comes.
 . "$(dirname "$0")/scratch.sh"
 proved_program
-for name in mama_tests_calls mama_tests_queues mama_lane; do
+for name in mama_tests_calls mama_tests_queues; do
     proved_tests "$name"
 done
 cat > "$scratch/refuse.c" <<'END'
 #include <stdio.h>
 #include <stdlib.h>
+#include <sys/syscall.h>
+#include <unistd.h>
 
 void *__libc_malloc(size_t);
 void *__libc_realloc(void *, size_t);
@@ -27,8 +29,7 @@ static long asked, refused = -1;
 // Whether this request is the one to refuse. Before the program's own start nothing is counted.
 static int refuses(void) {
   if (refused < 0) return 0;
-  asked += 1;
-  return asked == refused;
+  return __atomic_add_fetch(&asked, 1, __ATOMIC_SEQ_CST) == refused;
 }
 
 void *malloc(size_t size) { return refuses() ? NULL : __libc_malloc(size); }
@@ -40,6 +41,7 @@ __attribute__((constructor)) static void begin(void) {
   if (number) refused = atol(number);
 }
 
+// Tells how many requests there were. A program that may start threads ends by _exit, which calls no destructor.
 __attribute__((destructor)) static void end(void) {
   long count = asked;
   const char *name = getenv("ASKED");
@@ -49,6 +51,12 @@ __attribute__((destructor)) static void end(void) {
     fprintf(to, "%ld\n", count);
     fclose(to);
   }
+}
+
+void _exit(int status) {
+  end();
+  syscall(SYS_exit_group, status);
+  __builtin_unreachable();
 }
 END
 cc -O1 -shared -fPIC -o "$scratch/refuse.so" "$scratch/refuse.c" || exit 2
@@ -91,7 +99,6 @@ TESTS = {
         ],
     ),
     "`DqContext::step`": ("mama_tests_queues", ["strategies::each_cell_steps", "strategies::lists_of_messages_are_told", "strategies::kinds_differ"]),
-    "`Port::put`": ("mama_lane", ["tests::the_lane_of_a_timer_service"]),
 }
 # how a test ends where a request was refused that is not of its call
 APART = re.compile(rb"error: (AllocError|AllocFailed|OutOfMemory)|not played")
@@ -132,6 +139,23 @@ def tried(title, word, text):
     return whole[1], count, wrong
 
 
+def played(title, script):
+    """Refuses each request of a play on threads in turn, and has each log judged. Tells how many there were, and what went wrong."""
+    whole, count = ended([program, "play", "2"], script, 0)
+    wrong, refused, legal = 0, 0, 0
+    if whole.returncode or count is None:
+        print(f"{title}: play did not end by itself: status {whole.returncode}")
+        return 0, 1
+    for number in range(1, count + 1):
+        ran, _ = ended([program, "play", "2"], script, number)
+        refused += (ran.returncode, ran.stdout, ran.stderr) == OUT_OF_MEMORY
+        if ran.returncode == 0:
+            legal += subprocess.run([program, "check"], input=script + b"log\n" + ran.stdout, capture_output=True).returncode == 0
+    wrong = count - refused - legal
+    print(f"| {title}, `play 2` | {count} | {refused} | {legal} | {wrong} |", flush=True)
+    return count, wrong
+
+
 def tried_again(words):
     """Refuses each request of a test in turn. Tells how many there were, after how many it passed, and how many answers were wrong."""
     whole, count = ended(words, b"", 0)
@@ -160,6 +184,8 @@ for title, row in SCRIPTS.items():
         wrong += 1
         continue
     verdict, count, bad = tried(title, "check", script + b"log\n" + log.replace(b"M", b"1000000000000"))
+    asked, wrong = asked + count, wrong + bad
+    count, bad = played(title, script)
     asked, wrong = asked + count, wrong + bad
     if verdict != b"legal\ncausal yes\n":
         print(f"{title}: another verdict: {verdict[:200]!r}")
