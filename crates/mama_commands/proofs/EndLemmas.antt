@@ -26,6 +26,10 @@ module _ (old new before after : Option (List ℕ)) (status : Status) (end : IsE
   end_is : (other : Status) → status ≡ other → IsEndOfPlay old new before after other
   end_is other is = subst (λ (status : Status). IsEndOfPlay old new before after status) is end
 
+  -- play reads no log
+  pub no_log : (line : ℕ) → status ≡ s.BadLog line → ⊥
+  no_log line is = end_is (s.BadLog line) is
+
   -- an accepted script has no fault, and passes no limit at a line
   no_fault : (text given : List ℕ) → old ≡ Some text → IsAccepted text → GaveAll old new given → (line fault : ℕ) → script_in given ≡ Err (f.Bad line fault) → ⊥
   no_fault text given left accepted gave line fault is =

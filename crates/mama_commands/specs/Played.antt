@@ -4,7 +4,8 @@ use Rattle.mama_script.specs.Script.{ScriptData}
 use Rattle.mama_script.specs.Tree.{IsScript, script_text}
 use Rattle.mama_record.specs.RunData.{RunData}
 use Rattle.mama_record.specs.LogText.{log_text}
-use Rattle.mama_log_read.specs.Logged.{IsLogged}
+use Rattle.mama_words.specs.declared.version.Version.{Version}
+use Rattle.mama_log_read.specs.Logged.{HasLog, IsLogged}
 use Rattle.mama_rules_legal.specs.Legal.{IsLegal}
 use Rattle.mama_plain.specs.Promises.{KeepsPromises}
 
@@ -16,13 +17,13 @@ pub record IsPlay (script : ScriptData) (run : RunData) : Type 0 where
   pub logged : IsLogged script run
   pub promised : KeepsPromises script run
 
--- The text spells an accepted script. The log, its ports named by the script's shape, is that of the record of a run of it on
--- threads, and tells no other record.
+-- The text spells an accepted script. The log, in the version of the script and with its ports named by the script's shape, is that
+-- of the record of a run of it on threads, and tells no other record.
 pub record IsPlayLogOf (text log : List ℕ) : Type 0 where
   pub script : ScriptData
   pub accepted : IsScript script
   pub spelled : text ≡ script_text script
   pub run : RunData
   pub play : IsPlay script run
-  pub told : log ≡ log_text script.shape run
-  pub only : (other : RunData) → IsLogged script other → log ≡ log_text script.shape other → run ≡ other
+  pub told : log ≡ log_text script.version script.shape run
+  pub only : (v : Version) (other : RunData) → HasLog script v → IsLogged script other → log ≡ log_text v script.shape other → run ≡ other

@@ -7,10 +7,11 @@ ghost use Rattle.mama_check.specs.declared.verdict.Actor.{Actor};
 ghost use Rattle.mama_check.specs.declared.verdict.Verdict.{Verdict};
 ghost use Rattle.mama_check.specs.declared.verdict.Verdict.TheVariants as verdicts;
 ghost use Rattle.mama_gen.specs.Generated.{generated};
-ghost use Rattle.mama_plain.specs.Command.{is_serial, is_check, seed_in};
+ghost use Rattle.mama_plain.specs.Command.{is_serial, is_check, is_rewrite, seed_in};
 ghost use Rattle.mama_plain.specs.Parts.{script_part, log_part};
 ghost use Rattle.mama_plain.specs.Verdict.{IsChecked, IsVerdictOf, IsBadLog};
 ghost use Rattle.mama_plain.specs.Answers.{GaveAll, IsAccepted, IsLogOf, IsEndOfGen, OnUnplayed, OnSilent};
+ghost use Rattle.mama_plain.specs.Rewritten.{IsInTwo, IsTaken};
 ghost use Rattle.mama_plain.specs.Promises.{KeepsPromises, IsLawfulRun};
 ghost use Rattle.mama_soak.specs.Soak.{IsSoak};
 ghost use Rattle.mama_commands.specs.Words.{is_play, soak_in, is_form};
@@ -123,11 +124,12 @@ pub fn run<S: Source, K: Sink, C: Clock + Send, G: Gate + Sync, Rt: Threads + Wa
     ensures over_limit_part { is_check (map string_bytes words.now) ≡ true → (line limit : ℕ) → result ≡ Status.OverLimit line limit → line ≢ 0
         → (text : List ℕ) × GaveAll (S.left source.old) (S.left source.new) text × (script_in (script_part text) ≡ Err (script.OverLimit line limit)) }
 
-    // A log is bad only for check, where the script is accepted, and the line is the first behind it that does not fit. It
-    // never is where the source tells an accepted script, the line `log`, and a log that the script can have; nor is that
-    // script refused then.
-    ensures bad_log { (line : ℕ) → result ≡ Status.BadLog line → (is_check (map string_bytes words.now) ≡ true)
-        × (text : List ℕ) × GaveAll (S.left source.old) (S.left source.new) text × IsBadLog (script_part text) (log_part text) line }
+    // A log is bad only for check and rewrite. For check it is where the script is accepted, and the line is the first behind it
+    // that does not fit. It never is where the source tells an accepted script, the line `log`, and a log that the script can
+    // have; nor is that script refused by check then.
+    ensures bad_log_only { (line : ℕ) → result ≡ Status.BadLog line → (is_check (map string_bytes words.now) ≡ true) ⊎ (is_rewrite (map string_bytes words.now) ≡ true) }
+    ensures bad_log { is_check (map string_bytes words.now) ≡ true → (line : ℕ) → result ≡ Status.BadLog line
+        → (text : List ℕ) × GaveAll (S.left source.old) (S.left source.new) text × IsBadLog (script_part text) (log_part text) line }
     ensures fitting { (text : List ℕ) → S.left source.old ≡ Some text → IsChecked text → (line : ℕ) → result ≢ Status.BadLog line }
     ensures fitting_script { is_check (map string_bytes words.now) ≡ true → (text : List ℕ) → S.left source.old ≡ Some text → IsChecked text
         → ((line fault : ℕ) → result ≢ Status.BadScript line fault) × ((line limit : ℕ) → result ≡ Status.OverLimit line limit → line ≡ 0) }
@@ -142,6 +144,27 @@ pub fn run<S: Source, K: Sink, C: Clock + Send, G: Gate + Sync, Rt: Threads + Wa
     ensures verdict_part { is_check (map string_bytes words.now) ≡ true → (written : ℕ) → result ≡ Status.WriteFault written → (verdict : Verdict) × (text : List ℕ) × (out : List ℕ)
         × GaveAll (S.left source.old) (S.left source.new) text × IsVerdictOf text verdict out × (written < length out) × Appended (K.written sink.old) (K.written sink.new) (take written out) }
     ensures legal_promises { (causal : Bool) (text out : List ℕ) (v : IsVerdictOf text (verdicts.Legal causal) out) → KeepsPromises v.script v.run }
+
+    // REWRITE
+
+    // A fault or a limit is that of the script, as for check. A log is bad where there is a line `log`, the script is accepted,
+    // and the line is the first behind it that does not fit. None of these comes where the source tells an accepted script
+    // alone, or one with the line `log` and a log that it can have.
+    ensures rewrite_bad_script { is_rewrite (map string_bytes words.now) ≡ true → (line fault : ℕ) → result ≡ Status.BadScript line fault
+        → (text : List ℕ) × GaveAll (S.left source.old) (S.left source.new) text × (script_in (script_part text) ≡ Err (script.Bad line fault)) }
+    ensures rewrite_over_limit { is_rewrite (map string_bytes words.now) ≡ true → (line limit : ℕ) → result ≡ Status.OverLimit line limit → line ≢ 0
+        → (text : List ℕ) × GaveAll (S.left source.old) (S.left source.new) text × (script_in (script_part text) ≡ Err (script.OverLimit line limit)) }
+    ensures rewrite_bad_log { is_rewrite (map string_bytes words.now) ≡ true → (line : ℕ) → result ≡ Status.BadLog line
+        → (text log : List ℕ) × GaveAll (S.left source.old) (S.left source.new) text × (log_part text ≡ Some log) × IsBadLog (script_part text) (Some log) line }
+    ensures rewrite_fitting { is_rewrite (map string_bytes words.now) ≡ true → (text : List ℕ) → S.left source.old ≡ Some text → IsTaken text
+        → ((line : ℕ) → result ≢ Status.BadLog line) × ((line fault : ℕ) → result ≢ Status.BadScript line fault) × ((line limit : ℕ) → result ≡ Status.OverLimit line limit → line ≡ 0) }
+
+    // What was written is the text of the same script and record in version 2, and at a write fault a part of it, which is not
+    // the whole.
+    ensures rewritten { is_rewrite (map string_bytes words.now) ≡ true → result ≡ Status.Ok → (text out : List ℕ)
+        × GaveAll (S.left source.old) (S.left source.new) text × IsInTwo text out × Appended (K.written sink.old) (K.written sink.new) out }
+    ensures rewritten_part { is_rewrite (map string_bytes words.now) ≡ true → (written : ℕ) → result ≡ Status.WriteFault written → (text out : List ℕ)
+        × GaveAll (S.left source.old) (S.left source.new) text × IsInTwo text out × (written < length out) × Appended (K.written sink.old) (K.written sink.new) (take written out) }
 
     // GEN
 

@@ -8,7 +8,7 @@ ghost use Rattle.mama_commands.specs.Ending.{IsFaulty, IsRefusal, IsEndOfPlay};
 use mama_carry::PlanMaker;
 use mama_check::legal_records_are_formed;
 use mama_edge::{Clock, Gate, ReadAll, Sink, Source, read_all, write_all_counted};
-use mama_laws_logged::{legal_records_are_logged, logs_tell_one_record, moments_fit};
+use mama_laws_logged::{legal_records_are_logged, log_fits, logs_tell_one_record, moments_fit};
 use mama_memory::OutOfMemory;
 use mama_plain::{MOST_INPUT, Status, legal_records_keep_promises};
 use mama_record::{RunRecord, print_log};
@@ -109,7 +109,8 @@ fn log_of<C: Clock + Send, G: Gate + Sync, Rt: Threads + Wait + Copy + Sync>(
     let run = play(rt, alloc, script, clock, gate, workers)?;
     let shape = script.shape();
     logs_tell_one_record();
-    let log = print_log(alloc, shape, &run)?;
+    let log = print_log(alloc, shape, &run, script.version())?;
+    log_fits(log.as_slice());
     Ok(log)
 }
 

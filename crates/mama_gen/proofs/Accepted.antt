@@ -13,6 +13,8 @@ use Rattle.mama_msg.specs.Message.{apply}
 use Rattle.mama_msg.specs.Value.{IsText, is_printable}
 use Rattle.mama_words.specs.declared.nums.Nums.TheVariants.{Unknown}
 use Rattle.mama_words.specs.Field.{IsField, IsMessage}
+use Rattle.mama_words.specs.Value.{nums_of}
+use Rattle.mama_words.proofs.FieldLaws.{message_any}
 use Rattle.mama_script.specs.declared.head.Head.TheVariants as heads
 use Rattle.mama_script.specs.declared.head.Place.{Place}
 use Rattle.mama_script.specs.declared.head.Place.TheVariants as places
@@ -168,7 +170,7 @@ update_step n j b s h =
     let kept : IsHeld (apply b.held (field number v ∷ [])) = held_after number v b.held h.held in
     let most : number_at b.topic b.weights ≤ 2 * (250 * n + j) = number_at_most (2 * (250 * n + j)) b.topic b.weights c.weights_most in (
       record {
-        form = field_fits number v (value_small (next s));
+        form = message_any (nums_of b.version) (field number v ∷ []) (field_fits number v (value_small (next s)));
         place = rw h.place refl;
         sound = none_if (nat_lt 64 (length (apply b.held (field number v ∷ [])))) (Limit 8) None (ap (λ (fs : List FieldData). nat_lt 64 (length fs)) kept.is) refl;
       },
@@ -212,7 +214,7 @@ base_step : (n : ℕ) (b : Before) (s : ℕ) → n < 16 → AtPublishers n b →
 base_step n b s lt h =
     let c = h.counts in (
       record {
-        form = (omega arith, base_fits s);
+        form = (omega arith, message_any (nums_of b.version) (base s).0 (base_fits s));
         place = h.publisher;
         sound = none_first _ _ (topic_known n b (omega (arith, c.topics_are))) (none_if (nat_le 1024 b.publishers) (Limit 4) None (lt-leb 1024 b.publishers (omega (arith, c.publishers_are))) refl);
       },

@@ -10,7 +10,7 @@ use Rattle.mama_msg.proofs.Applying.{AreDistinct-apply}
 use Rattle.mama_msg.proofs.DistinctKeys.{AreDistinct-updated}
 use Rattle.mama_event.specs.FidList.{is_ascending_above}
 use Rattle.mama_event.specs.Publisher.{asked_fields}
-use Rattle.mama_words.specs.declared.nums.Nums.TheVariants.{Unknown}
+use Rattle.mama_words.specs.declared.nums.Nums.{Nums}
 use Rattle.mama_words.specs.Field.{IsField, are_distinct, IsMessage}
 use Rattle.mama_publisher.proofs.Asking.{asked_fields-some, asked_fields-none}
 use Rattle.mama_log_line.specs.Entering.{AreFids, IsBody}
@@ -48,20 +48,20 @@ found_first P test (y ∷ ys) rest all more = elim (test y) as (λ b. AllByRecur
 
 -- ---- an update is applied
 
-pub applied_message : (m u : List FieldData) → IsMessage Unknown m → IsMessage Unknown u → IsMessage Unknown (apply m u)
-applied_message m u one two = record {
+pub applied_message : (nums : Nums) (m u : List FieldData) → IsMessage nums m → IsMessage nums u → IsMessage nums (apply m u)
+applied_message nums m u one two = record {
   fields =
-      all_append (IsField Unknown) (map (λ f. unwrap_or (with_key (key_of f) u) f) m) (filter (λ f. not (has_key (key_of f) m)) u)
-      (all_map (IsField Unknown) (IsField Unknown) (λ f. unwrap_or (with_key (key_of f) u) f) (λ f is. found_or (IsField Unknown) _ u f two.fields is) m one.fields)
-      (all_filter (IsField Unknown) (λ f. not (has_key (key_of f) m)) u two.fields);
+      all_append (IsField nums) (map (λ f. unwrap_or (with_key (key_of f) u) f) m) (filter (λ f. not (has_key (key_of f) m)) u)
+      (all_map (IsField nums) (IsField nums) (λ f. unwrap_or (with_key (key_of f) u) f) (λ f is. found_or (IsField nums) _ u f two.fields is) m one.fields)
+      (all_filter (IsField nums) (λ f. not (has_key (key_of f) m)) u two.fields);
   distinct = distinct_again (apply m u) (AreDistinct-apply m u (apart m one.distinct) (apart u two.distinct));
 }
 
 -- ---- fields are asked for
 
-asked_all : (fids : List ℕ) (held : List FieldData) → AllByRecursion (IsField Unknown) held → AllByRecursion (IsField Unknown) (asked_fields fids held)
-asked_all [] held all = tt
-asked_all (fid ∷ fids) held all = found_first (IsField Unknown) (λ f. f.fid == fid) held (asked_fields fids held) all (asked_all fids held all)
+asked_all : (nums : Nums) (fids : List ℕ) (held : List FieldData) → AllByRecursion (IsField nums) held → AllByRecursion (IsField nums) (asked_fields fids held)
+asked_all nums [] held all = tt
+asked_all nums (fid ∷ fids) held all = found_first (IsField nums) (λ f. f.fid == fid) held (asked_fields fids held) all (asked_all nums fids held all)
 
 -- no more than the fids
 length-cons_option : (o : Option FieldData) (rest : List FieldData) → length (cons_option o rest) ≤ suc (length rest)
@@ -91,15 +91,15 @@ asked_apart fids held ascending (suc i) within =
           (AreDistinct-updated (asked_fields (take i fids) held) f before)
     ] refl)
 
-pub asked_body : (fids : List ℕ) (held : List FieldData) → AreFids fids → IsMessage Unknown held → IsBody (asked_fields fids held)
-asked_body fids held are is =
+pub asked_body : (nums : Nums) (fids : List ℕ) (held : List FieldData) → AreFids fids → IsMessage nums held → IsBody nums (asked_fields fids held)
+asked_body nums fids held are is =
     let parts = and_parts (nat_le 1 (length fids) && nat_le (length fids) 8) (is_ascending_above 0 fids) are.list in
     let most : length fids ≤ 8 = leb-true (length fids) 8 (and_parts (nat_le 1 (length fids)) (nat_le (length fids) 8) parts.0).1 in
     let whole : take (length fids) fids ≡ fids = take_all (length fids) fids (omega arith) in
     let few : length (asked_fields fids held) ≤ length fids = asked_few fids held in
     record {
       message = record {
-        fields = asked_all fids held is.fields;
+        fields = asked_all nums fids held is.fields;
         distinct =
             distinct_again (asked_fields fids held)
             (subst (λ (ns : List ℕ). AreDistinct (asked_fields ns held)) whole (asked_apart fids held parts.1 (length fids) (omega arith)));

@@ -1,13 +1,12 @@
 -- What the bridge puts names what clients joined and opened, and its slots are small.
-use Rattle.std.specs.Prelude.{◌≡◌, ℕ, ◌-◌, ◌^◌, ◌<◌, Bool, true, false, ◌&&◌, not, ◌==◌, position, List, [], ◌∷◌, ◌++◌, map, Option, None, Some, is_some, option_map, if◌then◌else◌}
-use Rattle.std.specs.List.{AllByRecursion, list_any, flat_map}
+use Rattle.std.specs.Prelude.{◌≡◌, ℕ, ◌-◌, ◌^◌, ◌<◌, Bool, true, false, ◌&&◌, not, ◌==◌, position, List, [], ◌∷◌, Option, None, Some, is_some, option_map, if◌then◌else◌}
+use Rattle.std.specs.List.{AllByRecursion, list_any}
 use Rattle.std.specs.Option.{option_or}
 use Rattle.std.proofs.Common.{refl, ap, subst, ◌∙◌}
 use Rattle.std.proofs.lemmas.Bool.{and_parts}
-use Rattle.mama_journal.specs.Journal.{puts, all_puts, turns, first_said, numbers_below}
+use Rattle.mama_journal.specs.Journal.{puts, all_puts, first_said}
 use Rattle.mama_msg.specs.Field.{FieldData}
 use Rattle.mama_link.specs.Link.{rest}
-use Rattle.mama_event.specs.Ports.{publishers_of, queues_of}
 use Rattle.mama_event.specs.Object.{same_sub, same_inbox, same_object}
 use Rattle.mama_event.specs.EqualityLaws.{same_sub-Decides, same_inbox-Decides}
 use Rattle.mama_event.specs.declared.ids.SubId.{SubId}
@@ -26,12 +25,11 @@ use Rattle.mama_event.specs.declared.to_queue.QueueNote.TheVariants as q
 use Rattle.mama_event.specs.declared.to_publisher.PublisherNote.{PublisherNote}
 use Rattle.mama_event.specs.declared.to_publisher.PublisherNote.TheVariants as p
 use Rattle.mama_event.specs.declared.to_queue.Make.TheVariants as make
-use Rattle.mama_event.specs.declared.to_timers.TimersNote.TheVariants as t
 use Rattle.mama_event.specs.declared.shape.Strategy.{Strategy}
-use Rattle.mama_rules_services.specs.Bridge.{BridgeEvent, joins, leaves, opens, closes, asks, publishes, images, replies, wishes, newly_joined, newly_opened, terms_in, inbox_terms_in, joins_sub, leaves_sub, opens_inbox, closes_inbox, is_live, is_open, live_subs, open_inboxes, sent_with, window, faults_of, inbox_faults_of, reply_window, replied_to, is_settling, has_ending, free_slot, may_wish, BridgePut, to_publisher, to_queue, to_timers, created_by, created_in, place_of, to_place, to_found, to_first, wants_image, delivered, replied, gone, passed_on, passed, passed_reply, ended, ended_inbox, answer, settle_begins, ending_comes, bridge_reaction}
+use Rattle.mama_rules_services.specs.Bridge.{BridgeEvent, joins, leaves, opens, closes, asks, publishes, images, replies, wishes, newly_joined, newly_opened, terms_in, inbox_terms_in, joins_sub, leaves_sub, opens_inbox, closes_inbox, is_live, is_open, live_subs, open_inboxes, sent_with, window, faults_of, inbox_faults_of, reply_window, replied_to, is_settling, has_ending, free_slot, may_wish, BridgePut, to_publisher, to_queue, to_timers, created_by, created_in, place_of, to_place, to_found, to_first, wants_image, delivered, replied, gone, passed_on, passed, passed_reply, ended, ended_inbox, answer, bridge_reaction}
 use Rattle.mama_log_line.specs.Names.{NamesData, terms_of, inbox_terms_of, made_by, make_of, IsSub, IsInbox}
 use Rattle.mama_log_line.specs.Entering.{IsPublisherNote, IsLinked}
-use Rattle.mama_laws_genuine.proofs.Elements.{all_append, all_if, all_flat, all_flat_map, all_filter, all_mapped, all_puts_after, all_puts_so_far}
+use Rattle.mama_laws_genuine.proofs.Elements.{all_append, all_if, all_flat, all_flat_map, all_filter, all_puts_after, all_puts_so_far}
 use Rattle.mama_laws_genuine.proofs.Reactions as reactions
 use Rattle.mama_laws_logged.proofs.Begun.{alive_says}
 use Rattle.mama_laws_logged.proofs.Fits.{Names, Places, LinkPut}

@@ -80,7 +80,7 @@ module _ (script : ScriptData) (is : IsScript script) (within : IsWithin script)
   module _ (c : ℕ) (all : ClientData) (of : IsKnown names c all) where
     -- what one line puts
     own : (st : Standing) (turns : ℕ) (d : ClientData) (l : ClientLine) → IsAt st turns d → Grows (data_with queues turns d l) all
-        → IsStepSound l → Within l → Named l → AreSmall st.moments → AllByRecursion (ClientPut names) (all_steps (line_steps queues c st l))
+        → IsStepSound script.version l → Within l → Named l → AreSmall st.moments → AllByRecursion (ClientPut names) (all_steps (line_steps queues c st l))
     own st turns d (line.Sub topic kind queue cache recaps faults plan) at grows sound inside named small =
         let terms : SubTerms = record { topic = topic; kind = kind; queue = queue_named queues st queue; cache = cache; recaps = recaps; faults = faults } in
         let has : slice_get all.subs st.subs ≡ Some terms = sub_at queues st turns d all at terms queue grows in
@@ -102,7 +102,7 @@ module _ (script : ScriptData) (is : IsScript script) (within : IsWithin script)
     own st turns d (line.Pause n) at grows sound inside named small = paused names n
 
     puts : (st : Standing) (turns : ℕ) (d : ClientData) (ls : List ClientLine) → IsAt st turns d → Grows (data_after queues turns d ls) all
-        → AllByRecursion IsStepSound ls → AllByRecursion Within ls → AllByRecursion Named ls → AreSmall st.moments
+        → AllByRecursion (IsStepSound script.version) ls → AllByRecursion Within ls → AllByRecursion Named ls → AreSmall st.moments
         → AllByRecursion (ClientPut names) (all_steps (steps_from queues c st ls))
     puts st turns d [] at grows sound inside named small = (tt, (tt, tt))
     puts st turns d (l ∷ ls) at grows sound inside named small =
@@ -117,7 +117,7 @@ module _ (script : ScriptData) (is : IsScript script) (within : IsWithin script)
       → AllByRecursion (ClientPut names) (all_steps (steps_from queues c (at_first moments) lines))
   of_client c lines moments at small =
       puts c (data_of queues lines) (known script within c lines at) (at_first moments) 0 no_data lines (starts moments) (grows_not (data_of queues lines))
-      (all_get (AllByRecursion IsStepSound) script.clients c lines (clients_sound script is) at)
+      (all_get (AllByRecursion (IsStepSound script.version)) script.clients c lines (clients_sound script is) at)
       (all_get (IsClientWithin (length script.topics) script.shape.bounds.queues) script.clients c lines within.clients at).steps
       (all_get (AreStepsNamed (map made_of script.clients)) script.clients c lines within.named at)
       small

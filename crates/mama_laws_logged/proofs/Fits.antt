@@ -20,6 +20,7 @@ use Rattle.mama_rules_queue.specs.Queue.{QueuePut, Deed, handled, called}
 use Rattle.mama_rules_queue.specs.Queue as queue
 use Rattle.mama_rules_rounds.specs.Client.{Planned}
 use Rattle.mama_event.specs.Listener.{planned}
+use Rattle.mama_words.specs.declared.nums.Nums.{Nums}
 use Rattle.mama_log_line.specs.Names.{NamesData, terms_of, inbox_terms_of, make_of, IsSub, IsTimer, IsInbox}
 use Rattle.mama_log_line.specs.Entering.{AreFids, IsBody, IsMarketMsg, IsPublisherNote, BridgeFromClient, BridgeFromQueue, TimersFromClient, TimersFromQueue, IsLinked, MayHear, MayOrder}
 
@@ -30,8 +31,8 @@ IsObject names (Timer id) = IsTimer names id
 IsObject names (Inbox id) = IsInbox names id
 
 -- a message as a publisher puts it: a number more fits its type as well
-pub record IsSound (m : MarketMsg) : Type 0 where
-  pub msg : IsMarketMsg m
+pub record IsSound (nums : Nums) (m : MarketMsg) : Type 0 where
+  pub msg : IsMarketMsg nums m
   pub next : suc m.seq < 2 ^ 32
 
 -- ---- what a script says
@@ -43,11 +44,11 @@ pub record IsPlan (names : NamesData) (p : Planned) : Type 0 where
   pub few : (call : ℕ) → length (planned p.plan call) ≤ 8
 
 -- a publisher whose messages are sound
-pub record IsSender (publisher : PublisherScript) : Type 0 where
+pub record IsSender (nums : Nums) (publisher : PublisherScript) : Type 0 where
   pub number : publisher.number + 1 < 2 ^ 32
   pub few : suc (length (updates_of publisher.lines)) < 2 ^ 32
-  pub updates : AllByRecursion IsBody (updates_of publisher.lines)
-  pub records : (n : ℕ) → n ≤ length (updates_of publisher.lines) → IsBody (record_after publisher.base (updates_of publisher.lines) n)
+  pub updates : AllByRecursion (IsBody nums) (updates_of publisher.lines)
+  pub records : (n : ℕ) → n ≤ length (updates_of publisher.lines) → IsBody nums (record_after publisher.base (updates_of publisher.lines) n)
 
 -- ---- what actors put
 
@@ -58,9 +59,9 @@ ClientPut names (queue.to_timers note) = TimersFromClient names note
 
 -- by a publisher
 abbrev pub PublisherPut : NamesData → BridgeNote → Type 0
-PublisherPut names (b.Publish msg) = IsSound msg
-PublisherPut names (b.Image sub msg) = IsSub names sub × IsSound msg
-PublisherPut names (b.Reply inbox body) = IsInbox names inbox × IsBody body
+PublisherPut names (b.Publish msg) = IsSound names.nums msg
+PublisherPut names (b.Image sub msg) = IsSub names sub × IsSound names.nums msg
+PublisherPut names (b.Reply inbox body) = IsInbox names inbox × IsBody names.nums body
 PublisherPut names b.SendsDone = Unit {0}
 PublisherPut names b.Settled = Unit {0}
 PublisherPut names _ = ⊥
@@ -117,8 +118,8 @@ Arms names _ = Unit {0}
 -- what a queue takes, but for slots, makes and tags
 abbrev pub Takes : NamesData → QueueNote → Type 0
 Takes names (q.Create slot object make tag) = IsObject names object
-Takes names (q.Deliver slot sub msg) = IsSub names sub × IsSound msg
-Takes names (q.Reply slot inbox body) = IsInbox names inbox × IsBody body
+Takes names (q.Deliver slot sub msg) = IsSub names sub × IsSound names.nums msg
+Takes names (q.Reply slot inbox body) = IsInbox names inbox × IsBody names.nums body
 Takes names (q.Tick slot timer moment) = IsTimer names timer × (moment < 2 ^ 64)
 Takes names (q.Gone slot object) = IsObject names object
 Takes names q.Fin = Unit {0}
@@ -126,10 +127,10 @@ Takes names q.Fin = Unit {0}
 -- what it does
 pub record IsCall (names : NamesData) (o : ObjectId) (c : Callback) (given : List Order) : Type 0 where
   pub object : IsObject names o
-  pub call : MayHear o c
+  pub call : MayHear names.nums o c
   pub orders : AllByRecursion (MayOrder names) given
   pub few : length given ≤ 8
 
 abbrev pub DeedFits : NamesData → Deed → Type 0
-DeedFits names (handled sub msg) = IsSound msg
+DeedFits names (handled sub msg) = IsSound names.nums msg
 DeedFits names (called object call orders) = IsCall names object call orders

@@ -16,3 +16,4 @@ pub mod StrategyFits
 pub mod QueuesFit
 pub mod Logged
 pub mod OneRecord
+pub mod InTwo

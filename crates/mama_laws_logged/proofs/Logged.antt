@@ -150,25 +150,25 @@ module _ (names : NamesData) where
   Told (ByQueue k) note = OrderNote names note
   Told _ note = ⊥
 
-  client_carries : (note : BridgeNote) → BridgeFromClient names note → InBridgeNote IsSound IsBody note
+  client_carries : (note : BridgeNote) → BridgeFromClient names note → InBridgeNote (IsSound names.nums) (IsBody names.nums) note
   client_carries (b.Publish msg) h = absurd h
   client_carries (b.Image sub msg) h = absurd h
   client_carries (b.Reply inbox body) h = absurd h
   client_carries _ h = tt
 
-  publisher_carries : (note : BridgeNote) → PublisherPut names note → InBridgeNote IsSound IsBody note
+  publisher_carries : (note : BridgeNote) → PublisherPut names note → InBridgeNote (IsSound names.nums) (IsBody names.nums) note
   publisher_carries (b.Publish msg) h = h
   publisher_carries (b.Image sub msg) h = h.1
   publisher_carries (b.Reply inbox body) h = h.1
   publisher_carries _ h = tt
 
-  queue_carries : (note : BridgeNote) → OrderNote names note → InBridgeNote IsSound IsBody note
+  queue_carries : (note : BridgeNote) → OrderNote names note → InBridgeNote (IsSound names.nums) (IsBody names.nums) note
   queue_carries (b.Publish msg) h = absurd h
   queue_carries (b.Image sub msg) h = absurd h
   queue_carries (b.Reply inbox body) h = absurd h
   queue_carries _ h = tt
 
-  carries : (who : Putter) (note : BridgeNote) → Told who note → InBridgeNote IsSound IsBody note
+  carries : (who : Putter) (note : BridgeNote) → Told who note → InBridgeNote (IsSound names.nums) (IsBody names.nums) note
   carries (ByClient c) note h = client_carries note h
   carries (ByPublisher n) note h = publisher_carries note h
   carries (ByQueue k) note h = queue_carries note h
@@ -184,7 +184,7 @@ module _ (names : NamesData) where
 
   -- ---- what queues take
 
-  from_bridge : (note : QueueNote) → Places names note → Delivers IsSound IsBody note → QueueFromBridge names note × Takes names note
+  from_bridge : (note : QueueNote) → Places names note → Delivers (IsSound names.nums) (IsBody names.nums) note → QueueFromBridge names note × Takes names note
   from_bridge (q.Create slot object make tag) h d = (h, linked_object object h.1)
   from_bridge (q.Deliver slot sub msg) h d = ((h.0, h.1, d.msg), (h.1, d))
   from_bridge (q.Reply slot inbox body) h d = ((h.0, h.1, d), (h.1, d))
@@ -192,7 +192,7 @@ module _ (names : NamesData) where
   from_bridge (q.Gone slot object) h d = (h, linked_object object h.1)
   from_bridge q.Fin h d = (tt, tt)
 
-  bridge_brings : (k : ℕ) (put : BridgePut) → LinkPut names put × InBridgePut IsSound IsBody put
+  bridge_brings : (k : ℕ) (put : BridgePut) → LinkPut names put × InBridgePut (IsSound names.nums) (IsBody names.nums) put
       → AllByRecursion (λ (note : QueueNote). QueueFromBridge names note × Takes names note) (queue_part k put)
   bridge_brings k (to_publisher n note) h = tt
   bridge_brings k (to_queue m note) h =
@@ -324,9 +324,9 @@ module _ (script : ScriptData) (is : IsScript script) (within : IsWithin script)
       subst (AllByRecursion (IsPublisherNote names)) (sym (edges.publishers n inside))
       (all_flat_map (LinkPut names) (IsPublisherNote names) (publisher_part n) (asked_part names n) (bridge_puts shape run.bridge) linked)
 
-  sender : (n : ℕ) → n < length script.publishers → IsSender (slice_index_or setting.publishers n no_section)
+  sender : (n : ℕ) → n < length script.publishers → IsSender names.nums (slice_index_or setting.publishers n no_section)
   sender n inside =
-      at_place IsSender setting.publishers n no_section (subst (λ (k : ℕ). n < k) (sym (length-publishers 0 script.publishers)) inside) (senders_fit script is within short)
+      at_place (IsSender names.nums) setting.publishers n no_section (subst (λ (k : ℕ). n < k) (sym (length-publishers 0 script.publishers)) inside) (senders_fit script is within short)
 
   published : (n : ℕ) → n < length script.publishers → AllByRecursion (PublisherPut names) (on_bridge (ByPublisher n))
   published n inside = publisher_fits names (slice_index_or setting.publishers n no_section) (sender n inside) (slice_index_or run.publishers n []) (asked n inside)
@@ -348,10 +348,10 @@ module _ (script : ScriptData) (is : IsScript script) (within : IsWithin script)
       all_by_ports (λ port note. Told names (bridge_putter shape port) note) run.bridge
       (λ port. subst (AllByRecursion (Told names (bridge_putter shape port))) (sym (edges.bridge port)) (all_told port))
 
-  carried : AllByRecursion (InBridgePut IsSound IsBody) (bridge_puts shape run.bridge)
+  carried : AllByRecursion (InBridgePut (IsSound names.nums) (IsBody names.nums)) (bridge_puts shape run.bridge)
   carried =
-      all_bridge_puts IsSound IsBody shape run.bridge
-      (all_weaker (λ (e : ℕ × BridgeNote). Told names (bridge_putter shape e.0) e.1) (λ (e : ℕ × BridgeNote). InBridgeNote IsSound IsBody e.1)
+      all_bridge_puts (IsSound names.nums) (IsBody names.nums) shape run.bridge
+      (all_weaker (λ (e : ℕ × BridgeNote). Told names (bridge_putter shape e.0) e.1) (λ (e : ℕ × BridgeNote). InBridgeNote (IsSound names.nums) (IsBody names.nums) e.1)
       (λ e h. carries names (bridge_putter shape e.0) e.1 h) run.bridge told_bridge)
 
   -- ---- the timer service
@@ -401,8 +401,8 @@ module _ (script : ScriptData) (is : IsScript script) (within : IsWithin script)
 
   all_entered : (k : ℕ) (who : Putter) → AllByRecursion (Entered who) (put_on_queue shape run.bridge run.timers k who)
   all_entered k ByBridge =
-      all_flat_map (λ (put : BridgePut). LinkPut names put × InBridgePut IsSound IsBody put) (Entered ByBridge) (queue_part k) (bridge_brings names k)
-      (bridge_puts shape run.bridge) (all_both (LinkPut names) (InBridgePut IsSound IsBody) (bridge_puts shape run.bridge) linked carried)
+      all_flat_map (λ (put : BridgePut). LinkPut names put × InBridgePut (IsSound names.nums) (IsBody names.nums) put) (Entered ByBridge) (queue_part k) (bridge_brings names k)
+      (bridge_puts shape run.bridge) (all_both (LinkPut names) (InBridgePut (IsSound names.nums) (IsBody names.nums)) (bridge_puts shape run.bridge) linked carried)
   all_entered k ByTimers =
       all_weaker (QueueFromTimers names) (Entered ByTimers) (from_timers names) (by_port k (timers_puts shape run.timers))
       (all_by_port (QueueFromTimers names) k (timers_puts shape run.timers) timed)

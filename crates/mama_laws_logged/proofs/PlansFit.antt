@@ -61,21 +61,21 @@ module _ (script : ScriptData) (is : IsScript script) (inside : IsWithin script)
   abbrev Named : ClientLine → Type 0
   Named l = IsStepNamed (map made_of script.clients) l
 
-  rows_may : (rows : List PlanRow) → AllByRecursion IsLine (map plan_line rows) → AreOrdersWithin (length script.topics) rows → ArePlanned (map made_of script.clients) rows
+  rows_may : (rows : List PlanRow) → AllByRecursion (IsLine script.version) (map plan_line rows) → AreOrdersWithin (length script.topics) rows → ArePlanned (map made_of script.clients) rows
       → AllByRecursion (λ (row : PlanRow). MayOrder names row.order) rows
   rows_may [] sound topics named = tt
   rows_may (row ∷ rows) sound topics named = (may_order script inside is row.order sound.0.2 topics.0 named.0, rows_may rows sound.1 topics.1 named.1)
 
-  plan_may : (faults : List FaultRow) (plan : List PlanRow) → AllByRecursion IsLine (object_lines faults plan) → IsPlanWithin (length script.topics) plan
+  plan_may : (faults : List FaultRow) (plan : List PlanRow) → AllByRecursion (IsLine script.version) (object_lines faults plan) → IsPlanWithin (length script.topics) plan
       → ArePlanned (map made_of script.clients) plan → IsRows names plan
   plan_may faults plan sound fits named = record {
-    orders = rows_may plan (all_right IsLine (map fault_line faults) (map plan_line plan) sound) fits.orders named;
+    orders = rows_may plan (all_right (IsLine script.version) (map fault_line faults) (map plan_line plan) sound) fits.orders named;
     few = λ call. subst (λ (n : ℕ). n ≤ 8) (sym (planned_many plan call)) (fits.calls call);
   }
 
   module _ (c : ℕ) (all : ClientData) (of : IsKnown names c all) where
     own : (st : Standing) (turns : ℕ) (d : ClientData) (l : ClientLine) → IsAt st turns d → Grows (data_with queues turns d l) all
-        → IsStepSound l → Within l → Named l → AllByRecursion (IsPlan names) (line_object queues c st l)
+        → IsStepSound script.version l → Within l → Named l → AllByRecursion (IsPlan names) (line_object queues c st l)
     own st turns d (line.Sub topic kind queue cache recaps faults plan) at grows sound fits named =
         let terms : SubTerms = record { topic = topic; kind = kind; queue = queue_named queues st queue; cache = cache; recaps = recaps; faults = faults } in
         let rows : IsRows names plan = plan_may faults plan sound.1 fits.2 named in
@@ -94,7 +94,7 @@ module _ (script : ScriptData) (is : IsScript script) (inside : IsWithin script)
     own st turns d (line.Pause n) at grows sound fits named = tt
 
     plans : (st : Standing) (turns : ℕ) (d : ClientData) (ls : List ClientLine) → IsAt st turns d → Grows (data_after queues turns d ls) all
-        → AllByRecursion IsStepSound ls → AllByRecursion Within ls → AllByRecursion Named ls → AllByRecursion (IsPlan names) (objects_from queues c st ls)
+        → AllByRecursion (IsStepSound script.version) ls → AllByRecursion Within ls → AllByRecursion Named ls → AllByRecursion (IsPlan names) (objects_from queues c st ls)
     plans st turns d [] at grows sound fits named = tt
     plans st turns d (l ∷ ls) at grows sound fits named =
         let e : ClientData = data_with queues turns d l in
@@ -103,7 +103,7 @@ module _ (script : ScriptData) (is : IsScript script) (inside : IsWithin script)
         (plans (after_line st l) (turns_after turns l) e ls (moved queues st turns d l at) grows sound.1 fits.1 named.1)
 
   of_client : (c : ℕ) (lines : List ClientLine) → slice_get script.clients c ≡ Some lines
-      → AllByRecursion IsStepSound lines → AllByRecursion Within lines → AllByRecursion Named lines → AllByRecursion (IsPlan names) (objects_from queues c (at_first []) lines)
+      → AllByRecursion (IsStepSound script.version) lines → AllByRecursion Within lines → AllByRecursion Named lines → AllByRecursion (IsPlan names) (objects_from queues c (at_first []) lines)
   of_client c lines at = plans c (data_of queues lines) (known script inside c lines at) (at_first []) 0 no_data lines (starts []) (grows_not (data_of queues lines))
 
   -- the clients from a number on
@@ -124,7 +124,7 @@ module _ (script : ScriptData) (is : IsScript script) (inside : IsWithin script)
       of_client_at : (c : ℕ) (lines : List ClientLine) → slice_get script.clients c ≡ Some lines → AllByRecursion (IsPlan names) (objects_from queues c (at_first []) lines)
       of_client_at c lines at =
           of_client c lines at
-          (all_get (AllByRecursion IsStepSound) script.clients c lines (clients_sound script is) at)
+          (all_get (AllByRecursion (IsStepSound script.version)) script.clients c lines (clients_sound script is) at)
           (all_get (IsClientWithin (length script.topics) script.shape.bounds.queues) script.clients c lines inside.clients at).steps
           (all_get (AreStepsNamed (map made_of script.clients)) script.clients c lines inside.named at)
 

@@ -28,6 +28,7 @@ use Rattle.mama_rules_queue.specs.Queue.{Deed, handled, called, to_bridge, to_ti
 use Rattle.mama_rules_rounds.specs.Client.{Planned}
 use Rattle.mama_rules_rounds.specs.World.{Setting, orders_by}
 use Rattle.mama_rules_rounds.specs.Round.{noted, image_in, last_image}
+use Rattle.mama_words.specs.declared.nums.Nums.{Nums}
 use Rattle.mama_log_line.specs.Names.{NamesData, IsSub}
 use Rattle.mama_log_line.specs.Entering.{SubHears, MayHear, MayOrder, IsLastImage}
 use Rattle.mama_laws_genuine.proofs.Elements.{all_append, all_if, all_at, all_any, all_flat_map, all_map, all_puts_after, all_puts_known, all_puts_so_far}
@@ -36,15 +37,15 @@ use Rattle.mama_laws_logged.proofs.StrategyFits.{calls_sound, image_sound}
 
 -- ---- what any object hears
 
-hears_create : (o : ObjectId) → MayHear o on.Create
-hears_create (Sub s) = tt
-hears_create (Timer t) = tt
-hears_create (Inbox i) = tt
+hears_create : (nums : Nums) (o : ObjectId) → MayHear nums o on.Create
+hears_create nums (Sub s) = tt
+hears_create nums (Timer t) = tt
+hears_create nums (Inbox i) = tt
 
-hears_destroy : (o : ObjectId) → MayHear o on.Destroy
-hears_destroy (Sub s) = tt
-hears_destroy (Timer t) = tt
-hears_destroy (Inbox i) = tt
+hears_destroy : (nums : Nums) (o : ObjectId) → MayHear nums o on.Destroy
+hears_destroy nums (Sub s) = tt
+hears_destroy nums (Timer t) = tt
+hears_destroy nums (Inbox i) = tt
 
 -- ---- what an order puts
 
@@ -61,7 +62,7 @@ ordered_fits names (order.Close inbox) may = may
 ordered_fits names (order.Ask inbox topic fids) may = may
 
 -- a wish is a subscription's
-wish_fits : (names : NamesData) (o : ObjectId) (call : Callback) → IsObject names o → MayHear o call → AllByRecursion (QueuePutFits names) (wish_put o call)
+wish_fits : (names : NamesData) (o : ObjectId) (call : Callback) → IsObject names o → MayHear names.nums o call → AllByRecursion (QueuePutFits names) (wish_put o call)
 wish_fits names (Sub sub) (on.RecapRequest sender) is may = ((is, may), tt)
 wish_fits names _ _ is may = tt
 
@@ -90,12 +91,12 @@ ordered_put names (called object call given) h =
 
 -- ---- what a context handled
 
-handled_sound : (names : NamesData) (s : SubId) (d : Deed) → DeedFits names d → AllByRecursion IsSound (messages_in s d)
-handled_sound names s (handled sub msg) h = all_if IsSound (same_sub sub s) (msg ∷ []) [] (h, tt) tt
+handled_sound : (names : NamesData) (s : SubId) (d : Deed) → DeedFits names d → AllByRecursion (IsSound names.nums) (messages_in s d)
+handled_sound names s (handled sub msg) h = all_if (IsSound names.nums) (same_sub sub s) (msg ∷ []) [] (h, tt) tt
 handled_sound names s (called object call given) h = tt
 
-messages_sound : (names : NamesData) (s : SubId) (sofar : List Deed) → AllByRecursion (DeedFits names) sofar → AllByRecursion IsSound (messages_of s sofar)
-messages_sound names s sofar all = all_flat_map (DeedFits names) IsSound (messages_in s) (handled_sound names s) sofar all
+messages_sound : (names : NamesData) (s : SubId) (sofar : List Deed) → AllByRecursion (DeedFits names) sofar → AllByRecursion (IsSound names.nums) (messages_of s sofar)
+messages_sound names s sofar all = all_flat_map (DeedFits names) (IsSound names.nums) (messages_in s) (handled_sound names s) sofar all
 
 -- a callback is that of the object of its deed
 call_fits : (names : NamesData) (o : ObjectId) (d : Deed) → DeedFits names d → AllByRecursion (λ (c : Callback × List Order). IsCall names o c.0 c.1) (calls_in o d)
@@ -108,14 +109,14 @@ call_fits names o (called object call given) h =
     ]) refl
 
 -- what a context calls, however it was made
-context_calls : (how : Option Make) (messages : List MarketMsg) (msg : MarketMsg) → AllByRecursion IsSound messages → IsSound msg
-    → AllByRecursion SubHears (callbacks_of (context_of how messages) msg)
-context_calls (Some (make.Sub kind cache strategy)) messages msg all h = calls_sound strategy kind cache messages msg all h
-context_calls (Some make.Timer) messages msg all h = calls_sound One Basic 0 messages msg all h
-context_calls (Some make.Inbox) messages msg all h = calls_sound One Basic 0 messages msg all h
-context_calls None messages msg all h = calls_sound One Basic 0 messages msg all h
+context_calls : (nums : Nums) (how : Option Make) (messages : List MarketMsg) (msg : MarketMsg) → AllByRecursion (IsSound nums) messages → IsSound nums msg
+    → AllByRecursion (SubHears nums) (callbacks_of (context_of how messages) msg)
+context_calls nums (Some (make.Sub kind cache strategy)) messages msg all h = calls_sound nums strategy kind cache messages msg all h
+context_calls nums (Some make.Timer) messages msg all h = calls_sound nums One Basic 0 messages msg all h
+context_calls nums (Some make.Inbox) messages msg all h = calls_sound nums One Basic 0 messages msg all h
+context_calls nums None messages msg all h = calls_sound nums One Basic 0 messages msg all h
 
-context_image : (names : NamesData) (s : SubId) → IsSub names s → (how : Option Make) (messages : List MarketMsg) → AllByRecursion IsSound messages
+context_image : (names : NamesData) (s : SubId) → IsSub names s → (how : Option Make) (messages : List MarketMsg) → AllByRecursion (IsSound names.nums) messages
     → AllByRecursion (IsLastImage names) (image_in s (context_of how messages))
 context_image names s is (Some (make.Sub kind cache strategy)) messages all = image_sound names s is strategy kind cache messages all
 context_image names s is (Some make.Timer) messages all = image_sound names s is One Basic 0 messages all
@@ -126,7 +127,7 @@ module _ (names : NamesData) (orders : ObjectId → ℕ → List Order)
     (fit : (o : ObjectId) (call : ℕ) → AllByRecursion (MayOrder names) (orders o call) × (length (orders o call) ≤ 8)) where
   -- ---- deeds
 
-  made_fit : (o : ObjectId) (sofar : List Deed) (calls : List Callback) → IsObject names o → AllByRecursion (MayHear o) calls
+  made_fit : (o : ObjectId) (sofar : List Deed) (calls : List Callback) → IsObject names o → AllByRecursion (MayHear names.nums o) calls
       → AllByRecursion (DeedFits names) (made orders o sofar calls)
   made_fit o sofar [] is all = tt
   made_fit o sofar (c ∷ cs) is all =
@@ -138,16 +139,16 @@ module _ (names : NamesData) (orders : ObjectId → ℕ → List Order)
 
   served_fit : (before : List (ℕ × QueueNote)) (sofar : List Deed) (note : QueueNote) → AllByRecursion (DeedFits names) sofar → Takes names note
       → AllByRecursion (DeedFits names) (served orders before sofar note)
-  served_fit before sofar (q.Create slot object make tag) so h = made_fit object sofar (on.Create ∷ []) h (hears_create object, tt)
+  served_fit before sofar (q.Create slot object make tag) so h = made_fit object sofar (on.Create ∷ []) h (hears_create names.nums object, tt)
   served_fit before sofar (q.Deliver slot sub msg) so h =
       let how : Option Make = first_said (λ (e : ℕ × QueueNote). make_in (Sub sub) e.1) before in
       let calls : List Callback = callbacks_of (context_of how (messages_of sub sofar)) msg in
       all_if (DeedFits names) (is_muted (Sub sub) sofar) [] (handled sub msg ∷ made orders (Sub sub) (sofar ++ handled sub msg ∷ []) calls)
       tt
-      (h.1, made_fit (Sub sub) (sofar ++ handled sub msg ∷ []) calls h.0 (context_calls how (messages_of sub sofar) msg (messages_sound names sub sofar so) h.1))
+      (h.1, made_fit (Sub sub) (sofar ++ handled sub msg ∷ []) calls h.0 (context_calls names.nums how (messages_of sub sofar) msg (messages_sound names sub sofar so) h.1))
   served_fit before sofar (q.Reply slot inbox body) so h = made_fit (Inbox inbox) sofar (on.Reply body ∷ []) h.0 (h.1, tt)
   served_fit before sofar (q.Tick slot timer moment) so h = made_fit (Timer timer) sofar (on.Tick moment ∷ []) h.0 (h.1, tt)
-  served_fit before sofar (q.Gone slot object) so h = made_fit object sofar (on.Destroy ∷ []) h (hears_destroy object, tt)
+  served_fit before sofar (q.Gone slot object) so h = made_fit object sofar (on.Destroy ∷ []) h (hears_destroy names.nums object, tt)
   served_fit before sofar q.Fin so h = tt
 
   pub deeds_fit : (journal : List (ℕ × QueueNote)) → AllByRecursion (λ (e : ℕ × QueueNote). Takes names e.1) journal → AllByRecursion (DeedFits names) (deeds orders journal)

@@ -18,6 +18,9 @@ use Rattle.mama_script.specs.declared.line.Line.TheVariants as lines
 use Rattle.mama_script.specs.declared.publisher.PublisherLine.{PublisherLine}
 use Rattle.mama_script.specs.declared.publisher.PublisherLine.TheVariants as sends
 use Rattle.mama_script.specs.declared.publisher.PublisherPart.{PublisherPart}
+use Rattle.mama_words.specs.declared.version.Version.{Version}
+use Rattle.mama_words.specs.declared.nums.Nums.{Nums}
+use Rattle.mama_words.specs.Value.{nums_of}
 use Rattle.mama_script.specs.Line.{IsLine, line_text, ended}
 use Rattle.mama_script.specs.Reading.{first_line, version_of}
 use Rattle.mama_script.specs.Script.{ScriptData}
@@ -40,26 +43,26 @@ record_after-cons base u us zero = refl
 record_after-cons base u us (suc n) = ap (λ (held : List FieldData). apply held (slice_index_or us n [])) (record_after-cons base u us n)
 
 -- each update is a message that is not too long
-updates_fit : (held : List FieldData) (ls : List PublisherLine) → AllByRecursion IsLine (map publisher_line ls) → AreSendsWithin held ls
-    → AllByRecursion IsBody (updates_of (flat_map sends_in ls))
-updates_fit held [] sound within = tt
-updates_fit held (sends.Update u ∷ ls) sound within =
-    (record { message = sound.0; few = within.0.0 }, updates_fit (apply held u) ls sound.1 within.1)
-updates_fit held (sends.Recap ∷ ls) sound within = updates_fit held ls sound.1 within.1
-updates_fit held (sends.Pause rounds ∷ ls) sound within = updates_fit held ls sound.1 within.1
+updates_fit : (v : Version) (held : List FieldData) (ls : List PublisherLine) → AllByRecursion (IsLine v) (map publisher_line ls) → AreSendsWithin held ls
+    → AllByRecursion (IsBody (nums_of v)) (updates_of (flat_map sends_in ls))
+updates_fit v held [] sound within = tt
+updates_fit v held (sends.Update u ∷ ls) sound within =
+    (record { message = sound.0; few = within.0.0 }, updates_fit v (apply held u) ls sound.1 within.1)
+updates_fit v held (sends.Recap ∷ ls) sound within = updates_fit v held ls sound.1 within.1
+updates_fit v held (sends.Pause rounds ∷ ls) sound within = updates_fit v held ls sound.1 within.1
 
 -- so is the record after each of them
-records_fit : (held : List FieldData) (ls : List PublisherLine) → IsBody held → AllByRecursion IsLine (map publisher_line ls) → AreSendsWithin held ls
-    → (n : ℕ) → n ≤ length (updates_of (flat_map sends_in ls)) → IsBody (record_after held (updates_of (flat_map sends_in ls)) n)
-records_fit held [] is sound within zero most = is
-records_fit held [] is sound within (suc n) most = absurd (omega arith)
-records_fit held (sends.Update u ∷ ls) is sound within zero most = is
-records_fit held (sends.Update u ∷ ls) is sound within (suc n) most =
-    let next : IsBody (apply held u) = record { message = applied_message held u is.message sound.0; few = within.0.1 } in
-    subst IsBody (sym (record_after-cons held u (updates_of (flat_map sends_in ls)) n))
-    (records_fit (apply held u) ls next sound.1 within.1 n (omega arith))
-records_fit held (sends.Recap ∷ ls) is sound within n most = records_fit held ls is sound.1 within.1 n most
-records_fit held (sends.Pause rounds ∷ ls) is sound within n most = records_fit held ls is sound.1 within.1 n most
+records_fit : (v : Version) (held : List FieldData) (ls : List PublisherLine) → IsBody (nums_of v) held → AllByRecursion (IsLine v) (map publisher_line ls) → AreSendsWithin held ls
+    → (n : ℕ) → n ≤ length (updates_of (flat_map sends_in ls)) → IsBody (nums_of v) (record_after held (updates_of (flat_map sends_in ls)) n)
+records_fit v held [] is sound within zero most = is
+records_fit v held [] is sound within (suc n) most = absurd (omega arith)
+records_fit v held (sends.Update u ∷ ls) is sound within zero most = is
+records_fit v held (sends.Update u ∷ ls) is sound within (suc n) most =
+    let next : IsBody (nums_of v) (apply held u) = record { message = applied_message (nums_of v) held u is.message sound.0; few = within.0.1 } in
+    subst (IsBody (nums_of v)) (sym (record_after-cons held u (updates_of (flat_map sends_in ls)) n))
+    (records_fit v (apply held u) ls next sound.1 within.1 n (omega arith))
+records_fit v held (sends.Recap ∷ ls) is sound within n most = records_fit v held ls is sound.1 within.1 n most
+records_fit v held (sends.Pause rounds ∷ ls) is sound within n most = records_fit v held ls is sound.1 within.1 n most
 
 -- ---- there are no more updates than bytes in the text
 
@@ -90,34 +93,34 @@ part_few front head l one two three =
 
 -- ---- a script's publishers
 
-sender_fits : (topics n : ℕ) (part : PublisherPart) → n < 1024 → length (publisher_lines part) ≤ 67108864 → IsPublisherSound part → IsPublisherWithin topics part
-    → IsSender (record { number = n; base = part.base; lines = flat_map sends_in part.lines })
-sender_fits topics n part low short sound within =
-    let base : IsBody part.base = record { message = sound.0.1; few = within.base } in
+sender_fits : (v : Version) (topics n : ℕ) (part : PublisherPart) → n < 1024 → length (publisher_lines part) ≤ 67108864 → IsPublisherSound v part → IsPublisherWithin topics part
+    → IsSender (nums_of v) (record { number = n; base = part.base; lines = flat_map sends_in part.lines })
+sender_fits v topics n part low short sound within =
+    let base : IsBody (nums_of v) part.base = record { message = sound.0.1; few = within.base } in
     let few : length (updates_of (flat_map sends_in part.lines)) ≤ length (map publisher_line part.lines) = updates_few part.lines in
     record {
       number = omega arith;
       few = omega arith;
-      updates = updates_fit part.base part.lines sound.1 within.sends;
-      records = records_fit part.base part.lines base sound.1 within.sends;
+      updates = updates_fit v part.base part.lines sound.1 within.sends;
+      records = records_fit v part.base part.lines base sound.1 within.sends;
     }
 
-senders_from : (topics n : ℕ) (parts : List PublisherPart) → n + length parts ≤ 1024 → length (flat_map publisher_lines parts) ≤ 67108864
-    → AllByRecursion IsPublisherSound parts → AllByRecursion (IsPublisherWithin topics) parts → AllByRecursion IsSender (publishers_from n parts)
-senders_from topics n [] low short sound within = tt
-senders_from topics n (part ∷ parts) low short sound within =
+senders_from : (v : Version) (topics n : ℕ) (parts : List PublisherPart) → n + length parts ≤ 1024 → length (flat_map publisher_lines parts) ≤ 67108864
+    → AllByRecursion (IsPublisherSound v) parts → AllByRecursion (IsPublisherWithin topics) parts → AllByRecursion (IsSender (nums_of v)) (publishers_from n parts)
+senders_from v topics n [] low short sound within = tt
+senders_from v topics n (part ∷ parts) low short sound within =
     let both = length-append (publisher_lines part) (flat_map publisher_lines parts) in (
-      sender_fits topics n part (omega arith) (omega arith) sound.0 within.0,
-      senders_from topics (suc n) parts (omega arith) (omega arith) sound.1 within.1,
+      sender_fits v topics n part (omega arith) (omega arith) sound.0 within.0,
+      senders_from v topics (suc n) parts (omega arith) (omega arith) sound.1 within.1,
     )
 
 pub senders_fit : (script : ScriptData) → IsScript script → IsWithin script → length (script_text script) ≤ 67108864
-    → AllByRecursion IsSender (publishers_from 0 script.publishers)
+    → AllByRecursion (IsSender (nums_of script.version)) (publishers_from 0 script.publishers)
 senders_fit script is within short =
     let part : length (flat_map publisher_lines script.publishers) ≤ length (script_text script) =
     part_few (first_line (version_of (lines_of script)) ++ 10 ∷ []) (strategy_lines script.version script.shape.strategy) (lines.Queues script.shape.bounds.queues) (map topic_line script.topics)
     (flat_map publisher_lines script.publishers) (flat_map client_lines script.clients) in
-    senders_from (length script.topics) 0 script.publishers (omega (arith, within.publishers_few)) (omega arith)
+    senders_from script.version (length script.topics) 0 script.publishers (omega (arith, within.publishers_few)) (omega arith)
     (publishers_sound script is) within.publishers
 
 -- ---- what a publisher puts
@@ -130,31 +133,31 @@ updates-within (SendLine.Update body ∷ ls) (suc k) = let later = updates-withi
 updates-within (SendLine.Recap ∷ ls) (suc k) = updates-within ls k
 
 -- what a line sends is one of the updates
-update_body : (ls : List SendLine) (k : ℕ) (body : List FieldData) → slice_get ls k ≡ Some (SendLine.Update body)
-    → AllByRecursion IsBody (updates_of ls) → IsBody body
-update_body [] k body next all = absurd cc
-update_body (SendLine.Update b ∷ ls) zero body next all = let same : b ≡ body = cc in subst IsBody same all.0
-update_body (SendLine.Recap ∷ ls) zero body next all = absurd cc
-update_body (SendLine.Update b ∷ ls) (suc k) body next all = update_body ls k body next all.1
-update_body (SendLine.Recap ∷ ls) (suc k) body next all = update_body ls k body next all
+update_body : (nums : Nums) (ls : List SendLine) (k : ℕ) (body : List FieldData) → slice_get ls k ≡ Some (SendLine.Update body)
+    → AllByRecursion (IsBody nums) (updates_of ls) → IsBody nums body
+update_body nums [] k body next all = absurd cc
+update_body nums (SendLine.Update b ∷ ls) zero body next all = let same : b ≡ body = cc in subst (IsBody nums) same all.0
+update_body nums (SendLine.Recap ∷ ls) zero body next all = absurd cc
+update_body nums (SendLine.Update b ∷ ls) (suc k) body next all = update_body nums ls k body next all.1
+update_body nums (SendLine.Recap ∷ ls) (suc k) body next all = update_body nums ls k body next all
 
-module _ (names : NamesData) (publisher : PublisherScript) (is : IsSender publisher) where
+module _ (names : NamesData) (publisher : PublisherScript) (is : IsSender names.nums publisher) where
   -- the number of a message is that of the updates that the journal has sent
-  sound : (journal : List PublisherEntry) (k : MsgKind) (body : List FieldData) → IsBody body
-      → IsSound (message_of publisher.number k (updates_sent publisher journal) body)
+  sound : (journal : List PublisherEntry) (k : MsgKind) (body : List FieldData) → IsBody names.nums body
+      → IsSound names.nums (message_of publisher.number k (updates_sent publisher journal) body)
   sound journal k body fits =
       let most : updates_sent publisher journal ≤ length (updates_of publisher.lines) = updates-within publisher.lines (count_of is_send journal) in
       let next : suc (updates_sent publisher journal) < 2 ^ 32 = omega (arith, is.few) in
       record { msg = record { sender = is.number; seq = omega arith; body = fits }; next = next }
 
   -- the record at any time is one of those that fit
-  record_fits : (journal : List PublisherEntry) → IsBody (record_at publisher journal)
+  record_fits : (journal : List PublisherEntry) → IsBody names.nums (record_at publisher journal)
   record_fits journal = is.records (updates_sent publisher journal) (updates-within publisher.lines (count_of is_send journal))
 
   answers_fit : (before : List PublisherEntry) (n : PublisherNote) → IsPublisherNote names n
       → AllByRecursion (PublisherPut names) (answer_of publisher.number (record_at publisher before) (updates_sent publisher before) n)
   answers_fit before (note.Want sub k) fits = ((fits.0, sound before k (record_at publisher before) (record_fits before)), tt)
-  answers_fit before (note.Ask inbox fids) fits = ((fits.0, asked_body fids (record_at publisher before) fits.1 (record_fits before).message), tt)
+  answers_fit before (note.Ask inbox fids) fits = ((fits.0, asked_body names.nums fids (record_at publisher before) fits.1 (record_fits before).message), tt)
   answers_fit before note.Settle fits = (tt, tt)
   answers_fit before note.Fin fits = tt
 
@@ -162,7 +165,7 @@ module _ (names : NamesData) (publisher : PublisherScript) (is : IsSender publis
       → AllByRecursion (PublisherPut names)
       (sent_of publisher.number (record_at publisher (before ++ entry.Send ∷ [])) (updates_sent publisher (before ++ entry.Send ∷ [])) line)
   sends_fit before (Some (SendLine.Update body)) next =
-      (sound (before ++ entry.Send ∷ []) kind.Update body (update_body publisher.lines (count_of is_send before) body next is.updates), tt)
+      (sound (before ++ entry.Send ∷ []) kind.Update body (update_body names.nums publisher.lines (count_of is_send before) body next is.updates), tt)
   sends_fit before (Some SendLine.Recap) next =
       (sound (before ++ entry.Send ∷ []) kind.Recap (record_at publisher (before ++ entry.Send ∷ [])) (record_fits (before ++ entry.Send ∷ [])), tt)
   sends_fit before None next = tt
@@ -173,7 +176,7 @@ module _ (names : NamesData) (publisher : PublisherScript) (is : IsSender publis
   puts_fit before entry.Done fits = (tt, tt)
   puts_fit before (entry.Took n) fits = answers_fit before n fits.0
 
-pub publisher_fits : (names : NamesData) (publisher : PublisherScript) → IsSender publisher → (journal : List PublisherEntry)
+pub publisher_fits : (names : NamesData) (publisher : PublisherScript) → IsSender names.nums publisher → (journal : List PublisherEntry)
     → AllByRecursion (IsPublisherNote names) (taken_by journal) → AllByRecursion (PublisherPut names) (publisher_puts publisher journal)
 publisher_fits names publisher is journal taken =
     all_puts_after (λ (e : PublisherEntry). AllByRecursion (IsPublisherNote names) (taken_in e)) (PublisherPut names) (publisher_puts_at publisher)

@@ -1,3 +1,4 @@
+ghost use Rattle.std.specs.Prelude.{◌^◌, ◌<◌, length};
 ghost use Rattle.std.specs.List.{All};
 ghost use Rattle.mama_record.specs.RunView.{moments_of};
 ghost use Rattle.mama_log_read.specs.Logged.{IsMoment};
@@ -16,4 +17,9 @@ pub fn moments_fit(clients: &[Vec<u64>])
 /// So it is of one client.
 fn client_moments_fit(moments: &[u64])
     ensures { All IsMoment moments.now }
+{}
+
+/// A log in memory has less than 2^64 bytes, so that it tells one record.
+pub fn log_fits(log: &[u8])
+    ensures { length log.now < 2 ^ 64 }
 {}

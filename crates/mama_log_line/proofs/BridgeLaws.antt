@@ -21,7 +21,6 @@ use Rattle.mama_words.specs.Order.{spaced_number}
 use Rattle.mama_words.specs.Sentence.{sentence}
 use Rattle.mama_words.specs.WordForm.{IsWord, AreWords}
 use Rattle.mama_words.proofs.Choices.{ok_is, chosen, bind_ok, step_ok}
-use Rattle.mama_words.specs.declared.nums.Nums.TheVariants.{Unknown}
 use Rattle.mama_words.proofs.Spellings.{id_word, decimal_word, msg_kind_word, field_words, fields_row}
 use Rattle.mama_rules_services.specs.Ports.{Putter, ByClient, ByPublisher, ByQueue, ByNobody, bridge_putter}
 use Rattle.mama_record.specs.LogText.{putter_text, bridge_note_text, bridge_entry_line}
@@ -103,9 +102,9 @@ client_words names b.ClientDone h = (head_word heads.Done, tt)
 client_words names _ h = absurd h
 
 publisher_words : (names : NamesData) (note : BridgeNote) → BridgeFromPublisher names note → AreWords (words_of note)
-publisher_words names (b.Publish msg) h = (head_word heads.Publish, market_are_words msg h)
-publisher_words names (b.Image sub msg) h = (head_word heads.Image, (sub_is_word names sub h.0, market_are_words msg h.1))
-publisher_words names (b.Reply inbox body) h = (head_word heads.Reply, (inbox_is_word names inbox h.0, field_words Unknown body h.1.message.fields))
+publisher_words names (b.Publish msg) h = (head_word heads.Publish, market_are_words names.nums msg h)
+publisher_words names (b.Image sub msg) h = (head_word heads.Image, (sub_is_word names sub h.0, market_are_words names.nums msg h.1))
+publisher_words names (b.Reply inbox body) h = (head_word heads.Reply, (inbox_is_word names inbox h.0, field_words names.nums body h.1.message.fields))
 publisher_words names b.SendsDone h = (head_word heads.Done, tt)
 publisher_words names b.Settled h = (head_word heads.Settled, tt)
 publisher_words names _ h = absurd h
@@ -140,9 +139,9 @@ client_again names b.ClientDone h = alone_again b.ClientDone
 client_again names _ h = absurd h
 
 publisher_again : (names : NamesData) (note : BridgeNote) → BridgeFromPublisher names note → bridge_publisher_in names (head_of note) (rest_of note) ≡ Ok note
-publisher_again names (b.Publish msg) h = unfold publish_in in rw (market_again msg h) refl
-publisher_again names (b.Image sub msg) h = unfold image_in in rw (sub_again names sub h.0, market_again msg h.1) refl
-publisher_again names (b.Reply inbox body) h = unfold answer_in in rw (inbox_again names inbox h.0, body_again body h.1) refl
+publisher_again names (b.Publish msg) h = unfold publish_in in rw (market_again names.nums msg h) refl
+publisher_again names (b.Image sub msg) h = unfold image_in in rw (sub_again names sub h.0, market_again names.nums msg h.1) refl
+publisher_again names (b.Reply inbox body) h = unfold answer_in in rw (inbox_again names inbox h.0, body_again names.nums body h.1) refl
 publisher_again names b.SendsDone h = alone_again b.SendsDone
 publisher_again names b.Settled h = alone_again b.Settled
 publisher_again names _ h = absurd h
@@ -275,11 +274,11 @@ ask_found names May may (inbox ∷ topic ∷ fids) note h =
     subst (λ (y : BridgeNote). Spelled May heads.Ask (inbox ∷ topic ∷ fids) y) (ok_is (b.Ask i.0 t.0 f.0) note f.2)
     (may i.0 t.0 f.0 inbox_is.0 topic_is.0 fids_are.0, same_ask (codes "ask") inbox (inbox_text i.0) topic (decimal t.0) fids (map decimal f.0) inbox_is.1 topic_is.1 fids_are.1)
 
-publish_found : (names : NamesData) (ws : List (List ℕ)) (note : BridgeNote) → publish_in ws ≡ Ok note → Spelled (BridgeFromPublisher names) heads.Publish ws note
+publish_found : (names : NamesData) (ws : List (List ℕ)) (note : BridgeNote) → publish_in names ws ≡ Ok note → Spelled (BridgeFromPublisher names) heads.Publish ws note
 unfolding publish_in
 publish_found names ws note h =
-    let m = bind_ok (market_in ws) _ note h in
-    let is = market_found ws m.0 m.1 in
+    let m = bind_ok (market_in names.nums ws) _ note h in
+    let is = market_found names.nums ws m.0 m.1 in
     subst (λ (y : BridgeNote). Spelled (BridgeFromPublisher names) heads.Publish ws y) (ok_is (b.Publish m.0) note m.2)
     (is.0, ap (λ (r : List (List ℕ)). codes "publish" ∷ r) is.1)
 
@@ -291,9 +290,9 @@ unfolding image_in
 image_found names [] note h = absurd cc
 image_found names (sub ∷ ws) note h =
     let s = bind_ok (sub_in names sub) _ note h in
-    let m = bind_ok (market_in ws) _ note s.2 in
+    let m = bind_ok (market_in names.nums ws) _ note s.2 in
     let sub_is = sub_found names sub s.0 s.1 in
-    let is = market_found ws m.0 m.1 in
+    let is = market_found names.nums ws m.0 m.1 in
     subst (λ (y : BridgeNote). Spelled (BridgeFromPublisher names) heads.Image (sub ∷ ws) y) (ok_is (b.Image s.0 m.0) note m.2)
     ((sub_is.0, is.0), same_two (codes "image") sub (sub_text s.0) ws (market_words m.0) sub_is.1 is.1)
 
@@ -302,9 +301,9 @@ unfolding answer_in
 answer_found names [] note h = absurd cc
 answer_found names (inbox ∷ ws) note h =
     let i = bind_ok (inbox_in names inbox) _ note h in
-    let m = bind_ok (body_in ws) _ note i.2 in
+    let m = bind_ok (body_in names.nums ws) _ note i.2 in
     let inbox_is = inbox_found names inbox i.0 i.1 in
-    let is = body_found ws m.0 m.1 in
+    let is = body_found names.nums ws m.0 m.1 in
     subst (λ (y : BridgeNote). Spelled (BridgeFromPublisher names) heads.Reply (inbox ∷ ws) y) (ok_is (b.Reply i.0 m.0) note m.2)
     ((inbox_is.0, is.0), same_two (codes "reply") inbox (inbox_text i.0) ws (map field_text m.0) inbox_is.1 is.1)
 

@@ -12,7 +12,7 @@ use Rattle.mama_words.specs.Sentence.{spaced, sentence}
 use Rattle.mama_words.specs.WordForm.{IsWord, AreWords}
 use Rattle.mama_words.proofs.Choices.{some_is, ok_is, step_ok}
 use Rattle.mama_words.proofs.Sentences.{parted_found, parted_again, is_simple, piece_simple}
-use Rattle.mama_words.specs.declared.nums.Nums.TheVariants.{Unknown}
+use Rattle.mama_words.specs.declared.nums.Nums.{Nums}
 use Rattle.mama_words.proofs.Spellings.{decimal_word, id_word, msg_kind_word, field_words, fields_row}
 use Rattle.mama_event.specs.declared.ids.SubId.{SubId}
 use Rattle.mama_event.specs.declared.ids.TimerId.{TimerId}
@@ -91,8 +91,8 @@ inbox_is_word names id h = id_word 105 (inbox_word id) refl (inbox_fits names id
 pub small_word : (n : ℕ) → n < 2 ^ 32 → IsWord (decimal n)
 small_word n h = decimal_word n (omega (arith, h))
 
-pub market_are_words : (m : MarketMsg) → IsMarketMsg m → AreWords (market_words m)
-market_are_words m h = (msg_kind_word m.kind, (small_word m.sender h.sender, (small_word m.seq h.seq, field_words Unknown m.body h.body.message.fields)))
+pub market_are_words : (nums : Nums) (m : MarketMsg) → IsMarketMsg nums m → AreWords (market_words m)
+market_are_words nums m h = (msg_kind_word m.kind, (small_word m.sender h.sender, (small_word m.seq h.seq, field_words nums m.body h.body.message.fields)))
 
 -- texts in a row
 pub three : (a b c : List ℕ) → a ++ b ++ c ≡ a ++ (b ++ c)

@@ -13,7 +13,6 @@ use Rattle.mama_words.specs.Number.{number_in}
 use Rattle.mama_words.specs.Id.{sub_word, timer_word, inbox_word, sub_text}
 use Rattle.mama_words.specs.Kind.{quality_text}
 use Rattle.mama_words.specs.KindIn.{quality_in}
-use Rattle.mama_words.specs.declared.nums.Nums.TheVariants.{Unknown}
 use Rattle.mama_words.specs.Field.{field_text, fields_text, message_in}
 use Rattle.mama_words.specs.Order.{spaced_number, order_in, order_words, order_text, word_of, IsOrder}
 use Rattle.mama_words.specs.Sentence.{sentence}
@@ -168,11 +167,11 @@ image_row i =
     ∙ ap (λ (t : List ℕ). sub_text i.sub ++ (32 ∷ quality_text i.head.quality ++ (spaced_number i.head.sender ++ (spaced_number i.head.last ++ t)))) (fields_row i.body)
 
 image_are_words : (names : NamesData) (i : LastImage) → IsLastImage names i → AreWords (sub_text i.sub ∷ rest_of i)
-image_are_words names i h = (sub_is_word names i.sub h.sub, (quality_word i.head.quality, (small_word i.head.sender h.sender, (small_word i.head.last h.last, field_words Unknown i.body h.body.fields))))
+image_are_words names i h = (sub_is_word names i.sub h.sub, (quality_word i.head.quality, (small_word i.head.sender h.sender, (small_word i.head.last h.last, field_words names.nums i.body h.body.fields))))
 
 image_words_again : (names : NamesData) (i : LastImage) → IsLastImage names i → image_words_in names (sub_text i.sub ∷ rest_of i) ≡ Ok i
 unfolding image_words_in
-image_words_again names i h = rw (sub_again names i.sub h.sub, quality_again i.head.quality, small_again i.head.sender h.sender, small_again i.head.last h.last, message_again Unknown i.body h.body) refl
+image_words_again names i h = rw (sub_again names i.sub h.sub, quality_again i.head.quality, small_again i.head.sender h.sender, small_again i.head.last h.last, message_again names.nums i.body h.body) refl
 
 pub image_again : (names : NamesData) (text : List ℕ) (i : LastImage) → IsLastImage names i → text ++ 10 ∷ [] ≡ image_line i → image_line_in names text ≡ Ok i
 unfolding image_line_in
@@ -194,11 +193,11 @@ image_words_found names (sub ∷ quality ∷ sender ∷ last ∷ fields) i h =
     let q = step_ok 4 (quality_in quality) _ i s.2 in
     let n = bind_ok (small_in sender) _ i q.2 in
     let l = bind_ok (small_in last) _ i n.2 in
-    let m = bind_ok (message_in Unknown fields) _ i l.2 in
+    let m = bind_ok (message_in names.nums fields) _ i l.2 in
     let sub_is = sub_found names sub s.0 s.1 in
     let sender_is = small_found sender n.0 n.1 in
     let last_is = small_found last l.0 l.1 in
-    let body_is = message_found Unknown fields m.0 m.1 in
+    let body_is = message_found names.nums fields m.0 m.1 in
     let head : ImageHead = record { sender = n.0; last = l.0; quality = q.0 } in
     let made : LastImage = record { sub = s.0; head = head; body = m.0 } in
     subst (λ (x : LastImage). IsLastImage names x × (sub ∷ quality ∷ sender ∷ last ∷ fields ≡ sub_text x.sub ∷ rest_of x)) (ok_is made i m.2) (

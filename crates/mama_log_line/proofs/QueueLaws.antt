@@ -16,7 +16,6 @@ use Rattle.mama_words.specs.Sentence.{sentence}
 use Rattle.mama_words.specs.WordForm.{IsWord, AreWords}
 use Rattle.mama_words.proofs.Choices.{ok_is, chosen, bind_ok, step_ok}
 use Rattle.mama_words.proofs.Numbers.{number_in_again, number_in_found}
-use Rattle.mama_words.specs.declared.nums.Nums.TheVariants.{Unknown}
 use Rattle.mama_words.proofs.Spellings.{decimal_word, field_words, fields_row}
 use Rattle.mama_rules_services.specs.Ports.{Putter, ByBridge, ByTimers, queue_putter}
 use Rattle.mama_record.specs.LogText.{putter_text, msg_text, queue_note_text, queue_entry_line}
@@ -75,8 +74,8 @@ linked_word names (Inbox id) h = inbox_is_word names id h
 
 bridge_words : (names : NamesData) (note : QueueNote) → QueueFromBridge names note → AreWords (words_of note)
 bridge_words names (q.Create slot object make tag) h = (head_word heads.Create, (small_word slot h.0, (linked_word names object h.1, tt)))
-bridge_words names (q.Deliver slot sub msg) h = (head_word heads.Data, (small_word slot h.0, (sub_is_word names sub h.1, market_are_words msg h.2)))
-bridge_words names (q.Reply slot inbox body) h = (head_word heads.Reply, (small_word slot h.0, (inbox_is_word names inbox h.1, field_words Unknown body h.2.message.fields)))
+bridge_words names (q.Deliver slot sub msg) h = (head_word heads.Data, (small_word slot h.0, (sub_is_word names sub h.1, market_are_words names.nums msg h.2)))
+bridge_words names (q.Reply slot inbox body) h = (head_word heads.Reply, (small_word slot h.0, (inbox_is_word names inbox h.1, field_words names.nums body h.2.message.fields)))
 bridge_words names (q.Tick slot timer moment) h = absurd h
 bridge_words names (q.Gone slot object) h = (head_word heads.Gone, (small_word slot h.0, (linked_word names object h.1, tt)))
 bridge_words names q.Fin h = (head_word heads.Fin, tt)
@@ -100,8 +99,8 @@ created_again names slot object make tag is same =
 
 bridge_again : (names : NamesData) (note : QueueNote) → QueueFromBridge names note → queue_bridge_in names (head_of note) (rest_of note) ≡ Ok note
 bridge_again names (q.Create slot object make tag) h = unfold create_linked_in in rw (small_again slot h.0, linked_again names object h.1) (created_again names slot object make tag h.2 h.3)
-bridge_again names (q.Deliver slot sub msg) h = unfold data_in in rw (small_again slot h.0, sub_again names sub h.1, market_again msg h.2) refl
-bridge_again names (q.Reply slot inbox body) h = unfold reply_in in rw (small_again slot h.0, inbox_again names inbox h.1, body_again body h.2) refl
+bridge_again names (q.Deliver slot sub msg) h = unfold data_in in rw (small_again slot h.0, sub_again names sub h.1, market_again names.nums msg h.2) refl
+bridge_again names (q.Reply slot inbox body) h = unfold reply_in in rw (small_again slot h.0, inbox_again names inbox h.1, body_again names.nums body h.2) refl
 bridge_again names (q.Tick slot timer moment) h = absurd h
 bridge_again names (q.Gone slot object) h = unfold gone_linked_in in rw (small_again slot h.0, linked_again names object h.1) refl
 bridge_again names q.Fin h = alone_again q.Fin
@@ -205,10 +204,10 @@ data_found names (a ∷ []) note h = absurd cc
 data_found names (slot ∷ sub ∷ ws) note h =
     let s = bind_ok (small_in slot) _ note h in
     let o = bind_ok (sub_in names sub) _ note s.2 in
-    let m = bind_ok (market_in ws) _ note o.2 in
+    let m = bind_ok (market_in names.nums ws) _ note o.2 in
     let slot_is = small_found slot s.0 s.1 in
     let sub_is = sub_found names sub o.0 o.1 in
-    let msg_is = market_found ws m.0 m.1 in
+    let msg_is = market_found names.nums ws m.0 m.1 in
     subst (λ (y : QueueNote). Spelled (QueueFromBridge names) heads.Data (slot ∷ sub ∷ ws) y) (ok_is (q.Deliver s.0 o.0 m.0) note m.2)
     ((slot_is.0, sub_is.0, msg_is.0), same_row (codes "data") slot (decimal s.0) sub (sub_text o.0) ws (market_words m.0) slot_is.1 sub_is.1 msg_is.1)
 
@@ -219,10 +218,10 @@ reply_found names (a ∷ []) note h = absurd cc
 reply_found names (slot ∷ inbox ∷ ws) note h =
     let s = bind_ok (small_in slot) _ note h in
     let o = bind_ok (inbox_in names inbox) _ note s.2 in
-    let m = bind_ok (body_in ws) _ note o.2 in
+    let m = bind_ok (body_in names.nums ws) _ note o.2 in
     let slot_is = small_found slot s.0 s.1 in
     let inbox_is = inbox_found names inbox o.0 o.1 in
-    let body_is = body_found ws m.0 m.1 in
+    let body_is = body_found names.nums ws m.0 m.1 in
     subst (λ (y : QueueNote). Spelled (QueueFromBridge names) heads.Reply (slot ∷ inbox ∷ ws) y) (ok_is (q.Reply s.0 o.0 m.0) note m.2)
     ((slot_is.0, inbox_is.0, body_is.0), same_row (codes "reply") slot (decimal s.0) inbox (inbox_text o.0) ws (map field_text m.0) slot_is.1 inbox_is.1 body_is.1)
 

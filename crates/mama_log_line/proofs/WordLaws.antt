@@ -20,7 +20,7 @@ use Rattle.mama_words.specs.Number.{number_in, below_in, between_in, if_between}
 use Rattle.mama_words.specs.Id.{id_text, id_in, sub_word, timer_word, inbox_word, sub_text, timer_text, inbox_text, object_text}
 use Rattle.mama_words.specs.Kind.{msg_kind_text}
 use Rattle.mama_words.specs.KindIn.{msg_kind_in}
-use Rattle.mama_words.specs.declared.nums.Nums.TheVariants.{Unknown}
+use Rattle.mama_words.specs.declared.nums.Nums.{Nums}
 use Rattle.mama_words.specs.Field.{field_text, message_in, IsMessage}
 use Rattle.mama_words.specs.Order.{IsId, are_small, cons_fid, fids_in, asked_or_fault, asked_in}
 use Rattle.mama_words.proofs.Choices.{some_is, ok_is, chosen, chosen_some, guard_ok, guard_step, bind_ok, or_fault_ok, step_ok, and_then_some}
@@ -249,43 +249,43 @@ few_fids_found ws fids e = asked_found ws fids (guard_step (leb (length ws) 8) 4
 
 -- ---- messages
 
-pub body_again : (body : List FieldData) → IsBody body → body_in (map field_text body) ≡ Ok body
+pub body_again : (nums : Nums) (body : List FieldData) → IsBody nums body → body_in nums (map field_text body) ≡ Ok body
 unfolding body_in
-body_again body h =
+body_again nums body h =
     let few : length (map field_text body) ≤ 64 = rw length-map h.few in
-    rw (le-leb (length (map field_text body)) 64 few) (message_again Unknown body h.message)
+    rw (le-leb (length (map field_text body)) 64 few) (message_again nums body h.message)
 
-pub body_found : (ws : List (List ℕ)) (body : List FieldData) → body_in ws ≡ Ok body → IsBody body × (ws ≡ map field_text body)
+pub body_found : (nums : Nums) (ws : List (List ℕ)) (body : List FieldData) → body_in nums ws ≡ Ok body → IsBody nums body × (ws ≡ map field_text body)
 unfolding body_in
-body_found ws body e =
-    let p = guard_step (leb (length ws) 64) 4 (message_in Unknown ws) body e in
-    let m = message_found Unknown ws body p.1 in
+body_found nums ws body e =
+    let p = guard_step (leb (length ws) 64) 4 (message_in nums ws) body e in
+    let m = message_found nums ws body p.1 in
     let few = leb-true (length ws) 64 p.0 in
     let long : length ws ≡ length body = ap (λ (x : List (List ℕ)). length x) m.1 ∙ length-map body field_text in
     (record { message = m.0; few = omega (arith, few, long) }, m.1)
 
-pub market_again : (m : MarketMsg) → IsMarketMsg m → market_in (market_words m) ≡ Ok m
+pub market_again : (nums : Nums) (m : MarketMsg) → IsMarketMsg nums m → market_in nums (market_words m) ≡ Ok m
 unfolding market_in
-market_again m h = rw (msg_kind_again m.kind, small_again m.sender h.sender, small_again m.seq h.seq, body_again m.body h.body) refl
+market_again nums m h = rw (msg_kind_again m.kind, small_again m.sender h.sender, small_again m.seq h.seq, body_again nums m.body h.body) refl
 
 same_market : (a b c d e f : List ℕ) (x y : List (List ℕ)) → a ≡ b → c ≡ d → e ≡ f → x ≡ y → a ∷ c ∷ e ∷ x ≡ b ∷ d ∷ f ∷ y
 same_market a b c d e f x y p q r s = cc
 
-pub market_found : (ws : List (List ℕ)) (m : MarketMsg) → market_in ws ≡ Ok m → IsMarketMsg m × (ws ≡ market_words m)
+pub market_found : (nums : Nums) (ws : List (List ℕ)) (m : MarketMsg) → market_in nums ws ≡ Ok m → IsMarketMsg nums m × (ws ≡ market_words m)
 unfolding market_in
-market_found [] m e = absurd cc
-market_found (a ∷ []) m e = absurd cc
-market_found (a ∷ b ∷ []) m e = absurd cc
-market_found (kind ∷ sender ∷ seq ∷ fields) m e =
+market_found nums [] m e = absurd cc
+market_found nums (a ∷ []) m e = absurd cc
+market_found nums (a ∷ b ∷ []) m e = absurd cc
+market_found nums (kind ∷ sender ∷ seq ∷ fields) m e =
     let k = step_ok 4 (msg_kind_in kind) _ m e in
     let s = bind_ok (small_in sender) _ m k.2 in
     let n = bind_ok (small_in seq) _ m s.2 in
-    let b = bind_ok (body_in fields) _ m n.2 in
+    let b = bind_ok (body_in nums fields) _ m n.2 in
     let sender_is = small_found sender s.0 s.1 in
     let seq_is = small_found seq n.0 n.1 in
-    let body_is = body_found fields b.0 b.1 in
+    let body_is = body_found nums fields b.0 b.1 in
     let made : MarketMsg = record { kind = k.0; sender = s.0; seq = n.0; body = b.0 } in
-    subst (λ (x : MarketMsg). IsMarketMsg x × (kind ∷ sender ∷ seq ∷ fields ≡ market_words x)) (ok_is made m b.2) (
+    subst (λ (x : MarketMsg). IsMarketMsg nums x × (kind ∷ sender ∷ seq ∷ fields ≡ market_words x)) (ok_is made m b.2) (
       record { sender = sender_is.0; seq = seq_is.0; body = body_is.0 },
       same_market kind (msg_kind_text k.0) sender (decimal s.0) seq (decimal n.0) fields (map field_text b.0) (msg_kind_found kind k.0 k.1) sender_is.1 seq_is.1 body_is.1,
     )

@@ -12,7 +12,7 @@ use Rattle.mama_words.specs.Reading.{◌>>=◌, or_fault}
 use Rattle.mama_words.specs.Parting.{parted_in}
 use Rattle.mama_words.specs.Number.{number_in, below_in}
 use Rattle.mama_words.specs.KindIn.{msg_kind_in, quality_in}
-use Rattle.mama_words.specs.declared.nums.Nums.TheVariants.{Unknown}
+use Rattle.mama_words.specs.declared.nums.Nums.{Nums}
 use Rattle.mama_words.specs.Field.{message_in}
 use Rattle.mama_words.specs.Order.{order_in}
 use Rattle.mama_record.specs.RunData.{LastImage}
@@ -25,15 +25,15 @@ use Rattle.mama_log_line.specs.Journal.{alone_in}
 
 -- CALLBACKS
 
-unfoldable pub msg_in : List (List ℕ) → Result Callback ℕ
-msg_in (kind ∷ sender ∷ seq ∷ quality ∷ fields) = do
+unfoldable pub msg_in : Nums → List (List ℕ) → Result Callback ℕ
+msg_in nums (kind ∷ sender ∷ seq ∷ quality ∷ fields) = do
   kind ← or_fault 4 (msg_kind_in kind)
   sender ← small_in sender
   seq ← small_in seq
   quality ← or_fault 4 (quality_in quality)
-  body ← body_in fields
+  body ← body_in nums fields
   Ok (on.Msg (record { kind = kind; sender = sender; seq = seq; body = body }) quality)
-msg_in words = Err 4
+msg_in nums words = Err 4
 
 unfoldable pub gap_in : List (List ℕ) → Result Callback ℕ
 gap_in (first ∷ to ∷ []) = do
@@ -68,19 +68,19 @@ unfoldable pub ticked_in : List (List ℕ) → Result Callback ℕ
 ticked_in (moment ∷ []) = or_fault 5 (number_in moment) >>= λ moment. Ok (on.Tick moment)
 ticked_in words = Err 4
 
-unfoldable pub replied_in : List (List ℕ) → Result Callback ℕ
-replied_in words = body_in words >>= λ body. Ok (on.Reply body)
+unfoldable pub replied_in : Nums → List (List ℕ) → Result Callback ℕ
+replied_in nums words = body_in nums words >>= λ body. Ok (on.Reply body)
 
-abbrev pub sub_call_in : Head → List (List ℕ) → Result Callback ℕ
-sub_call_in heads.Create words = alone_in on.Create words
-sub_call_in heads.Msg words = msg_in words
-sub_call_in heads.Gap words = gap_in words
-sub_call_in heads.Quality words = quality_call_in words
-sub_call_in heads.Request words = request_in words
-sub_call_in heads.Late words = late_in words
-sub_call_in heads.Error words = error_in words
-sub_call_in heads.Destroy words = alone_in on.Destroy words
-sub_call_in _ words = Err 3
+abbrev pub sub_call_in : Nums → Head → List (List ℕ) → Result Callback ℕ
+sub_call_in nums heads.Create words = alone_in on.Create words
+sub_call_in nums heads.Msg words = msg_in nums words
+sub_call_in nums heads.Gap words = gap_in words
+sub_call_in nums heads.Quality words = quality_call_in words
+sub_call_in nums heads.Request words = request_in words
+sub_call_in nums heads.Late words = late_in words
+sub_call_in nums heads.Error words = error_in words
+sub_call_in nums heads.Destroy words = alone_in on.Destroy words
+sub_call_in nums _ words = Err 3
 
 abbrev pub timer_call_in : Head → List (List ℕ) → Result Callback ℕ
 timer_call_in heads.Create words = alone_in on.Create words
@@ -88,24 +88,24 @@ timer_call_in heads.Tick words = ticked_in words
 timer_call_in heads.Destroy words = alone_in on.Destroy words
 timer_call_in _ words = Err 3
 
-abbrev pub inbox_call_in : Head → List (List ℕ) → Result Callback ℕ
-inbox_call_in heads.Create words = alone_in on.Create words
-inbox_call_in heads.Reply words = replied_in words
-inbox_call_in heads.Destroy words = alone_in on.Destroy words
-inbox_call_in _ words = Err 3
+abbrev pub inbox_call_in : Nums → Head → List (List ℕ) → Result Callback ℕ
+inbox_call_in nums heads.Create words = alone_in on.Create words
+inbox_call_in nums heads.Reply words = replied_in nums words
+inbox_call_in nums heads.Destroy words = alone_in on.Destroy words
+inbox_call_in nums _ words = Err 3
 
-abbrev pub call_by : ObjectId → Head → List (List ℕ) → Result Callback ℕ
-call_by (Sub id) head words = sub_call_in head words
-call_by (Timer id) head words = timer_call_in head words
-call_by (Inbox id) head words = inbox_call_in head words
+abbrev pub call_by : Nums → ObjectId → Head → List (List ℕ) → Result Callback ℕ
+call_by nums (Sub id) head words = sub_call_in nums head words
+call_by nums (Timer id) head words = timer_call_in head words
+call_by nums (Inbox id) head words = inbox_call_in nums head words
 
-unfoldable pub call_words_in : ObjectId → List (List ℕ) → Result Callback ℕ
-call_words_in object (head ∷ words) = or_fault 3 (head_in head) >>= λ head. call_by object head words
-call_words_in object [] = Err 4
+unfoldable pub call_words_in : Nums → ObjectId → List (List ℕ) → Result Callback ℕ
+call_words_in nums object (head ∷ words) = or_fault 3 (head_in head) >>= λ head. call_by nums object head words
+call_words_in nums object [] = Err 4
 
 -- a callback of this object
-unfoldable pub call_line_in : ObjectId → List ℕ → Result Callback ℕ
-call_line_in object line = or_fault 2 (parted_in line) >>= call_words_in object
+unfoldable pub call_line_in : Nums → ObjectId → List ℕ → Result Callback ℕ
+call_line_in nums object line = or_fault 2 (parted_in line) >>= call_words_in nums object
 
 -- ORDERS
 
@@ -160,7 +160,7 @@ image_words_in names (sub ∷ quality ∷ sender ∷ last ∷ fields) = do
   quality ← or_fault 4 (quality_in quality)
   sender ← small_in sender
   last ← small_in last
-  body ← message_in Unknown fields
+  body ← message_in names.nums fields
   Ok (record { sub = sub; head = record { sender = sender; last = last; quality = quality }; body = body })
 image_words_in names words = Err 4
 

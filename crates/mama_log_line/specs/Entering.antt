@@ -21,7 +21,7 @@ use Rattle.mama_event.specs.declared.to_queue.QueueNote.{QueueNote}
 use Rattle.mama_event.specs.declared.to_queue.QueueNote.TheVariants as q
 use Rattle.mama_event.specs.declared.publisher_entry.PublisherEntry.{PublisherEntry}
 use Rattle.mama_event.specs.declared.publisher_entry.PublisherEntry.TheVariants.{Took}
-use Rattle.mama_words.specs.declared.nums.Nums.TheVariants.{Unknown}
+use Rattle.mama_words.specs.declared.nums.Nums.{Nums}
 use Rattle.mama_words.specs.Field.{IsMessage}
 use Rattle.mama_words.specs.Order.{are_small}
 use Rattle.mama_rules_services.specs.Ports.{Putter, ByClient, ByPublisher, ByQueue, ByBridge, ByTimers, bridge_putter, timers_putter, queue_putter}
@@ -33,16 +33,16 @@ pub record AreFids (fids : List ℕ) : Type 0 where
   pub list : is_fid_list fids ≡ true
   pub small : are_small fids ≡ true
 
--- fields of a message, of which there are at most 64
-pub record IsBody (body : List FieldData) : Type 0 where
-  pub message : IsMessage Unknown body
+-- fields of a message that the text knows, of which there are at most 64
+pub record IsBody (nums : Nums) (body : List FieldData) : Type 0 where
+  pub message : IsMessage nums body
   pub few : length body ≤ 64
 
 -- a message of the market, as its type has it
-pub record IsMarketMsg (m : MarketMsg) : Type 0 where
+pub record IsMarketMsg (nums : Nums) (m : MarketMsg) : Type 0 where
   pub sender : m.sender < 2 ^ 32
   pub seq : m.seq < 2 ^ 32
-  pub body : IsBody m.body
+  pub body : IsBody nums m.body
 
 -- PUBLISHERS
 
@@ -74,9 +74,9 @@ BridgeFromClient names b.ClientDone = Unit {0}
 BridgeFromClient names _ = ⊥
 
 abbrev pub BridgeFromPublisher : NamesData → BridgeNote → Type 0
-BridgeFromPublisher names (b.Publish msg) = IsMarketMsg msg
-BridgeFromPublisher names (b.Image sub msg) = IsSub names sub × IsMarketMsg msg
-BridgeFromPublisher names (b.Reply inbox body) = IsInbox names inbox × IsBody body
+BridgeFromPublisher names (b.Publish msg) = IsMarketMsg names.nums msg
+BridgeFromPublisher names (b.Image sub msg) = IsSub names sub × IsMarketMsg names.nums msg
+BridgeFromPublisher names (b.Reply inbox body) = IsInbox names inbox × IsBody names.nums body
 BridgeFromPublisher names b.SendsDone = Unit {0}
 BridgeFromPublisher names b.Settled = Unit {0}
 BridgeFromPublisher names _ = ⊥
@@ -145,8 +145,8 @@ IsTimed names _ = ⊥
 
 abbrev pub QueueFromBridge : NamesData → QueueNote → Type 0
 QueueFromBridge names (q.Create slot object make tag) = (slot < 2 ^ 32) × IsLinked names object × (make_of names object ≡ Some make) × (tag ≡ object)
-QueueFromBridge names (q.Deliver slot sub msg) = (slot < 2 ^ 32) × IsSub names sub × IsMarketMsg msg
-QueueFromBridge names (q.Reply slot inbox body) = (slot < 2 ^ 32) × IsInbox names inbox × IsBody body
+QueueFromBridge names (q.Deliver slot sub msg) = (slot < 2 ^ 32) × IsSub names sub × IsMarketMsg names.nums msg
+QueueFromBridge names (q.Reply slot inbox body) = (slot < 2 ^ 32) × IsInbox names inbox × IsBody names.nums body
 QueueFromBridge names (q.Gone slot object) = (slot < 2 ^ 32) × IsLinked names object
 QueueFromBridge names q.Fin = Unit {0}
 QueueFromBridge names _ = ⊥
@@ -169,16 +169,16 @@ MayEnterQueue names e = QueueFrom names (queue_putter e.0) e.1
 
 -- CALLBACKS, ORDERS AND IMAGES
 
-abbrev pub SubHears : Callback → Type 0
-SubHears on.Create = Unit {0}
-SubHears (on.Msg msg quality) = IsMarketMsg msg
-SubHears (on.Gap first to) = (first < 2 ^ 32) × (to < 2 ^ 32)
-SubHears (on.Quality quality number) = number < 2 ^ 32
-SubHears (on.RecapRequest sender) = sender < 2 ^ 32
-SubHears (on.Late sender seq) = (sender < 2 ^ 32) × (seq < 2 ^ 32)
-SubHears (on.Error code) = code < 2 ^ 8
-SubHears on.Destroy = Unit {0}
-SubHears _ = ⊥
+abbrev pub SubHears : Nums → Callback → Type 0
+SubHears nums on.Create = Unit {0}
+SubHears nums (on.Msg msg quality) = IsMarketMsg nums msg
+SubHears nums (on.Gap first to) = (first < 2 ^ 32) × (to < 2 ^ 32)
+SubHears nums (on.Quality quality number) = number < 2 ^ 32
+SubHears nums (on.RecapRequest sender) = sender < 2 ^ 32
+SubHears nums (on.Late sender seq) = (sender < 2 ^ 32) × (seq < 2 ^ 32)
+SubHears nums (on.Error code) = code < 2 ^ 8
+SubHears nums on.Destroy = Unit {0}
+SubHears nums _ = ⊥
 
 abbrev pub TimerHears : Callback → Type 0
 TimerHears on.Create = Unit {0}
@@ -186,17 +186,17 @@ TimerHears (on.Tick moment) = moment < 2 ^ 64
 TimerHears on.Destroy = Unit {0}
 TimerHears _ = ⊥
 
-abbrev pub InboxHears : Callback → Type 0
-InboxHears on.Create = Unit {0}
-InboxHears (on.Reply body) = IsBody body
-InboxHears on.Destroy = Unit {0}
-InboxHears _ = ⊥
+abbrev pub InboxHears : Nums → Callback → Type 0
+InboxHears nums on.Create = Unit {0}
+InboxHears nums (on.Reply body) = IsBody nums body
+InboxHears nums on.Destroy = Unit {0}
+InboxHears nums _ = ⊥
 
 -- a callback that an object of this kind hears
-abbrev pub MayHear : ObjectId → Callback → Type 0
-MayHear (Sub id) call = SubHears call
-MayHear (Timer id) call = TimerHears call
-MayHear (Inbox id) call = InboxHears call
+abbrev pub MayHear : Nums → ObjectId → Callback → Type 0
+MayHear nums (Sub id) call = SubHears nums call
+MayHear nums (Timer id) call = TimerHears call
+MayHear nums (Inbox id) call = InboxHears nums call
 
 -- an order that a listener may give: its object and its topic are the script's
 abbrev pub MayOrder : NamesData → Order → Type 0
@@ -210,4 +210,4 @@ pub record IsLastImage (names : NamesData) (i : LastImage) : Type 0 where
   pub sub : IsSub names i.sub
   pub sender : i.head.sender < 2 ^ 32
   pub last : i.head.last < 2 ^ 32
-  pub body : IsMessage Unknown i.body
+  pub body : IsMessage names.nums i.body

@@ -108,20 +108,20 @@ ask_in names (inbox ∷ topic ∷ fids) = do
   Ok (b.Ask inbox topic fids)
 ask_in names words = Err 4
 
-unfoldable pub publish_in : List (List ℕ) → Result BridgeNote ℕ
-publish_in words = market_in words >>= λ msg. Ok (b.Publish msg)
+unfoldable pub publish_in : NamesData → List (List ℕ) → Result BridgeNote ℕ
+publish_in names words = market_in names.nums words >>= λ msg. Ok (b.Publish msg)
 
 unfoldable pub image_in : NamesData → List (List ℕ) → Result BridgeNote ℕ
 image_in names (sub ∷ words) = do
   sub ← sub_in names sub
-  msg ← market_in words
+  msg ← market_in names.nums words
   Ok (b.Image sub msg)
 image_in names [] = Err 4
 
 unfoldable pub answer_in : NamesData → List (List ℕ) → Result BridgeNote ℕ
 answer_in names (inbox ∷ words) = do
   inbox ← inbox_in names inbox
-  body ← body_in words
+  body ← body_in names.nums words
   Ok (b.Reply inbox body)
 answer_in names [] = Err 4
 
@@ -142,7 +142,7 @@ bridge_client_in names heads.Done words = alone_in b.ClientDone words
 bridge_client_in names _ words = Err 3
 
 abbrev pub bridge_publisher_in : NamesData → Head → List (List ℕ) → Result BridgeNote ℕ
-bridge_publisher_in names heads.Publish words = publish_in words
+bridge_publisher_in names heads.Publish words = publish_in names words
 bridge_publisher_in names heads.Image words = image_in names words
 bridge_publisher_in names heads.Reply words = answer_in names words
 bridge_publisher_in names heads.Done words = alone_in b.SendsDone words
@@ -264,7 +264,7 @@ unfoldable pub data_in : NamesData → List (List ℕ) → Result QueueNote ℕ
 data_in names (slot ∷ sub ∷ words) = do
   slot ← small_in slot
   sub ← sub_in names sub
-  msg ← market_in words
+  msg ← market_in names.nums words
   Ok (q.Deliver slot sub msg)
 data_in names words = Err 4
 
@@ -272,7 +272,7 @@ unfoldable pub reply_in : NamesData → List (List ℕ) → Result QueueNote ℕ
 reply_in names (slot ∷ inbox ∷ words) = do
   slot ← small_in slot
   inbox ← inbox_in names inbox
-  body ← body_in words
+  body ← body_in names.nums words
   Ok (q.Reply slot inbox body)
 reply_in names words = Err 4
 

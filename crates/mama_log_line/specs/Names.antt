@@ -11,6 +11,8 @@ use Rattle.mama_event.specs.declared.to_bridge.InboxTerms.{InboxTerms}
 use Rattle.mama_event.specs.declared.to_queue.Make.{Make}
 use Rattle.mama_event.specs.declared.shape.Strategy.{Strategy}
 use Rattle.mama_event.specs.declared.to_queue.Make.TheVariants as makes
+use Rattle.mama_words.specs.declared.nums.Nums.{Nums}
+use Rattle.mama_words.specs.Value.{nums_of}
 use Rattle.mama_script.specs.Script.{ScriptData}
 use Rattle.mama_script.specs.declared.client.QueueWord.{QueueWord}
 use Rattle.mama_script.specs.declared.client.QueueWord.TheVariants.{Number, Any}
@@ -24,8 +26,9 @@ pub record ClientData : Type 0 where
   pub timers : List TimerTerms
   pub inboxes : List InboxTerms
 
--- the counts of a script, and what each of its clients declares
+-- the counts of a script, whether its text knows lists of numbers, and what each of its clients declares
 pub record NamesData : Type 0 where
+  pub nums : Nums
   pub shape : Shape
   pub clients : List ClientData
 
@@ -68,7 +71,7 @@ abbrev pub data_of : ℕ → List ClientLine → ClientData
 data_of queues lines = data_after queues 0 no_data lines
 
 abbrev pub names_of : ScriptData → NamesData
-names_of script = record { shape = script.shape; clients = map (data_of script.shape.bounds.queues) script.clients }
+names_of script = record { nums = nums_of script.version; shape = script.shape; clients = map (data_of script.shape.bounds.queues) script.clients }
 
 -- the terms of the script's line with an id
 abbrev pub terms_of : NamesData → SubId → Option SubTerms

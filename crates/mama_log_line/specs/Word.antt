@@ -14,7 +14,7 @@ use Rattle.mama_words.specs.Reading.{◌>>=◌, or_fault}
 use Rattle.mama_words.specs.Number.{number_in, below_in}
 use Rattle.mama_words.specs.Id.{id_in}
 use Rattle.mama_words.specs.KindIn.{msg_kind_in}
-use Rattle.mama_words.specs.declared.nums.Nums.TheVariants.{Unknown}
+use Rattle.mama_words.specs.declared.nums.Nums.{Nums}
 use Rattle.mama_words.specs.Field.{message_in}
 use Rattle.mama_words.specs.Order.{asked_in}
 use Rattle.mama_log_line.specs.Names.{NamesData, terms_of, timer_terms_of, inbox_terms_of}
@@ -75,18 +75,18 @@ unfoldable pub few_fids_in : List (List ℕ) → Result (List ℕ) ℕ
 few_fids_in words = if nat_le (length words) 8 then asked_in words else Err 4
 
 -- at most 64 fields
-unfoldable pub body_in : List (List ℕ) → Result (List FieldData) ℕ
-body_in words = if nat_le (length words) 64 then message_in Unknown words else Err 4
+unfoldable pub body_in : Nums → List (List ℕ) → Result (List FieldData) ℕ
+body_in nums words = if nat_le (length words) 64 then message_in nums words else Err 4
 
 -- a message of the market
-unfoldable pub market_in : List (List ℕ) → Result MarketMsg ℕ
-market_in (kind ∷ sender ∷ seq ∷ fields) = do
+unfoldable pub market_in : Nums → List (List ℕ) → Result MarketMsg ℕ
+market_in nums (kind ∷ sender ∷ seq ∷ fields) = do
   kind ← or_fault 4 (msg_kind_in kind)
   sender ← small_in sender
   seq ← small_in seq
-  body ← body_in fields
+  body ← body_in nums fields
   Ok (record { kind = kind; sender = sender; seq = seq; body = body })
-market_in words = Err 4
+market_in nums words = Err 4
 
 -- the kind, if a publisher may be asked for it
 abbrev pub wanted : MsgKind → Option MsgKind

@@ -96,10 +96,10 @@ fn read_ask(names: &Names, words: &[&[u8]]) -> Result<BridgeNote, ReadError>
 }
 
 #[tactic(auto, unfolding(crate::specs::Journal::publish_in))]
-fn read_publish(alloc: Global, words: &[&[u8]]) -> Result<BridgeNote, ReadError>
-    ensures { Gives (λ x. x) result (journals.publish_in (map (λ w. w.now) words.now)) }
+fn read_publish(alloc: Global, names: &Names, words: &[&[u8]]) -> Result<BridgeNote, ReadError>
+    ensures { Gives (λ x. x) result (journals.publish_in names.now (map (λ w. w.now) words.now)) }
 {
-    let msg = read_market(alloc, words)?;
+    let msg = read_market(alloc, names.nums(), words)?;
     Ok(BridgeNote::Publish { msg })
 }
 
@@ -110,7 +110,7 @@ fn read_image(alloc: Global, names: &Names, words: &[&[u8]]) -> Result<BridgeNot
     match words {
         [sub, rest @ ..] => {
             let sub = read_sub(names, sub)?;
-            let msg = read_market(alloc, rest)?;
+            let msg = read_market(alloc, names.nums(), rest)?;
             Ok(BridgeNote::Image { sub, msg })
         }
         [] => Err(ReadError::Fault(4)),
@@ -124,7 +124,7 @@ fn read_answer(alloc: Global, names: &Names, words: &[&[u8]]) -> Result<BridgeNo
     match words {
         [inbox, rest @ ..] => {
             let inbox = read_inbox(names, inbox)?;
-            let body = read_body(alloc, rest)?;
+            let body = read_body(alloc, names.nums(), rest)?;
             Ok(BridgeNote::Reply { inbox, body })
         }
         [] => Err(ReadError::Fault(4)),
@@ -170,7 +170,7 @@ fn publisher_note(
     ensures { Gives (λ x. x) result (journals.bridge_publisher_in names.now head (map (λ w. w.now) words.now)) }
 {
     match head {
-        Head::Publish => read_publish(alloc, words),
+        Head::Publish => read_publish(alloc, names, words),
         Head::Image => read_image(alloc, names, words),
         Head::Reply => read_answer(alloc, names, words),
         Head::Done => alone(BridgeNote::SendsDone, words),

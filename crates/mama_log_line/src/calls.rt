@@ -17,13 +17,13 @@ use crate::word::{
 use mama_event::{Callback, MarketMsg, ObjectId, Order};
 use mama_memory::OutOfMemory;
 use mama_words::{
-    OrderWord, ReadError, parted, read_below, read_msg_kind, read_order, read_quality,
+    Nums, OrderWord, ReadError, parted, read_below, read_msg_kind, read_order, read_quality,
 };
 use std::alloc::Global;
 
 #[tactic(auto, unfolding(crate::specs::Calls::msg_in))]
-fn read_msg(alloc: Global, words: &[&[u8]]) -> Result<Callback, ReadError>
-    ensures { Gives (λ x. x) result (calls.msg_in (map (λ w. w.now) words.now)) }
+fn read_msg(alloc: Global, nums: Nums, words: &[&[u8]]) -> Result<Callback, ReadError>
+    ensures { Gives (λ x. x) result (calls.msg_in nums (map (λ w. w.now) words.now)) }
 {
     match words {
         [kind, sender, seq, quality, fields @ ..] => {
@@ -31,7 +31,7 @@ fn read_msg(alloc: Global, words: &[&[u8]]) -> Result<Callback, ReadError>
             let sender = read_small(sender)?;
             let seq = read_small(seq)?;
             let quality = read_quality(quality).ok_or(ReadError::Fault(4))?;
-            let body = read_body(alloc, fields)?;
+            let body = read_body(alloc, nums, fields)?;
             let msg = MarketMsg {
                 kind,
                 sender,
@@ -133,20 +133,20 @@ fn read_tick(words: &[&[u8]]) -> Result<Callback, ReadError>
 }
 
 #[tactic(auto, unfolding(crate::specs::Calls::replied_in))]
-fn read_reply(alloc: Global, words: &[&[u8]]) -> Result<Callback, ReadError>
-    ensures { Gives (λ x. x) result (calls.replied_in (map (λ w. w.now) words.now)) }
+fn read_reply(alloc: Global, nums: Nums, words: &[&[u8]]) -> Result<Callback, ReadError>
+    ensures { Gives (λ x. x) result (calls.replied_in nums (map (λ w. w.now) words.now)) }
 {
-    let body = read_body(alloc, words)?;
+    let body = read_body(alloc, nums, words)?;
     Ok(Callback::Reply { body })
 }
 
 // What a subscription hears.
-fn sub_call(alloc: Global, head: Head, words: &[&[u8]]) -> Result<Callback, ReadError>
-    ensures { Gives (λ x. x) result (calls.sub_call_in head (map (λ w. w.now) words.now)) }
+fn sub_call(alloc: Global, nums: Nums, head: Head, words: &[&[u8]]) -> Result<Callback, ReadError>
+    ensures { Gives (λ x. x) result (calls.sub_call_in nums head (map (λ w. w.now) words.now)) }
 {
     match head {
         Head::Create => alone(Callback::Create, words),
-        Head::Msg => read_msg(alloc, words),
+        Head::Msg => read_msg(alloc, nums, words),
         Head::Gap => read_gap(words),
         Head::Quality => read_quality_call(words),
         Head::Request => read_request(words),
@@ -170,12 +170,12 @@ fn timer_call(head: Head, words: &[&[u8]]) -> Result<Callback, ReadError>
 }
 
 // What an inbox hears.
-fn inbox_call(alloc: Global, head: Head, words: &[&[u8]]) -> Result<Callback, ReadError>
-    ensures { Gives (λ x. x) result (calls.inbox_call_in head (map (λ w. w.now) words.now)) }
+fn inbox_call(alloc: Global, nums: Nums, head: Head, words: &[&[u8]]) -> Result<Callback, ReadError>
+    ensures { Gives (λ x. x) result (calls.inbox_call_in nums head (map (λ w. w.now) words.now)) }
 {
     match head {
         Head::Create => alone(Callback::Create, words),
-        Head::Reply => read_reply(alloc, words),
+        Head::Reply => read_reply(alloc, nums, words),
         Head::Destroy => alone(Callback::Destroy, words),
         _ => Err(ReadError::Fault(3)),
     }
@@ -183,51 +183,63 @@ fn inbox_call(alloc: Global, head: Head, words: &[&[u8]]) -> Result<Callback, Re
 
 fn call_by(
     alloc: Global,
+    nums: Nums,
     object: ObjectId,
     head: Head,
     words: &[&[u8]],
 ) -> Result<Callback, ReadError>
-    ensures { Gives (λ x. x) result (calls.call_by object head (map (λ w. w.now) words.now)) }
+    ensures { Gives (λ x. x) result (calls.call_by nums object head (map (λ w. w.now) words.now)) }
 {
     match object {
-        ObjectId::Sub(_) => sub_call(alloc, head, words),
+        ObjectId::Sub(_) => sub_call(alloc, nums, head, words),
         ObjectId::Timer(_) => timer_call(head, words),
-        ObjectId::Inbox(_) => inbox_call(alloc, head, words),
+        ObjectId::Inbox(_) => inbox_call(alloc, nums, head, words),
     }
 }
 
 #[tactic(auto, unfolding(crate::specs::Calls::call_words_in))]
-fn call_words(alloc: Global, object: ObjectId, words: &[&[u8]]) -> Result<Callback, ReadError>
-    ensures { Gives (λ x. x) result (calls.call_words_in object (map (λ w. w.now) words.now)) }
+fn call_words(
+    alloc: Global,
+    nums: Nums,
+    object: ObjectId,
+    words: &[&[u8]],
+) -> Result<Callback, ReadError>
+    ensures { Gives (λ x. x) result (calls.call_words_in nums object (map (λ w. w.now) words.now)) }
 {
     match words {
         [head, rest @ ..] => {
             let head = read_head(head).ok_or(ReadError::Fault(3))?;
-            call_by(alloc, object, head, rest)
+            call_by(alloc, nums, object, head, rest)
         }
         [] => Err(ReadError::Fault(4)),
     }
 }
 
 #[tactic(auto, unfolding(crate::specs::Calls::call_line_in))]
-fn call_line(alloc: Global, object: ObjectId, line: &[u8]) -> Result<Callback, ReadError>
-    ensures { Gives (λ x. x) result (calls.call_line_in object line.now) }
+fn call_line(
+    alloc: Global,
+    nums: Nums,
+    object: ObjectId,
+    line: &[u8],
+) -> Result<Callback, ReadError>
+    ensures { Gives (λ x. x) result (calls.call_line_in nums object line.now) }
 {
     let words = parted(alloc, line)?;
-    call_words(alloc, object, &words)
+    call_words(alloc, nums, object, &words)
 }
 
 /// The callback of an object that a line without its line feed spells. None where it spells none that an object of this
 /// kind hears.
 pub fn call_in(
     alloc: Global,
+    nums: Nums,
     object: ObjectId,
     line: &[u8],
 ) -> Result<Option<Callback>, OutOfMemory>
-    ensures found { IfOk result (λ o. IfSome o (λ c. MayHear object c × (line.now ++ 10 ∷ [] ≡ text.line (text.callback_text c)))) }
-    ensures again { IfOk result (λ o. (c : Callback) → MayHear object c → line.now ++ 10 ∷ [] ≡ text.line (text.callback_text c) → o ≡ Some c) }
+    ensures found { IfOk result (λ o. IfSome o (λ c. MayHear nums object c × (line.now ++ 10 ∷ [] ≡ text.line (text.callback_text c)))) }
+    ensures again { IfOk result (λ o. (c : Callback) → MayHear nums object c → line.now ++ 10 ∷ [] ≡ text.line (text.callback_text c) → o ≡ Some c) }
 {
-    without_fault(call_line(alloc, object, line))
+    without_fault(call_line(alloc, nums, object, line))
 }
 
 // The order, if the script declares what it names.

@@ -13,7 +13,7 @@ use crate::word::{read_small, read_sub};
 use mama_event::{ImageHead, SubId};
 use mama_memory::OutOfMemory;
 use mama_msg::Msg;
-use mama_words::{Nums, ReadError, parted, read_message, read_quality};
+use mama_words::{ReadError, parted, read_message, read_quality};
 use std::alloc::Global;
 
 #[tactic(auto, unfolding(crate::specs::Calls::image_words_in))]
@@ -30,7 +30,7 @@ fn read_words(
             let quality = read_quality(quality).ok_or(ReadError::Fault(4))?;
             let sender = read_small(sender)?;
             let last = read_small(last)?;
-            let body = read_message(alloc, Nums::Unknown, fields)?;
+            let body = read_message(alloc, names.nums(), fields)?;
             let head = ImageHead {
                 sender,
                 last,

@@ -5,6 +5,7 @@ ghost use Rattle.mama_log_line.specs.Names as names;
 use mama_event::{InboxId, InboxTerms, Make, ObjectId, Shape, SubId, SubTerms, TimerId, Topics};
 use mama_memory::{Duplicate, OutOfMemory};
 use mama_script::{ClientLine, ClientLines, QueueWord, Script};
+use mama_words::Nums;
 use std::alloc::Global;
 use std::marker::Model;
 
@@ -205,9 +206,11 @@ fn same_shape(alloc: Global, shape: &Shape) -> Result<Shape, OutOfMemory>
     })
 }
 
-/// What a log of a script may name: the counts of the script, and the terms of each of its objects.
+/// What a log of a script may name: the counts of the script, whether its text knows lists of numbers, and the terms of
+/// each of its objects.
 #[derive(Drop)]
 pub struct Names {
+    nums: Nums,
     shape: Shape,
     clients: Vec<ClientNames>,
 }
@@ -217,7 +220,7 @@ impl Model for Names {
 
     ghost Value = { NamesData };
 
-    ghost view = { λ n. record { shape = n.shape; clients = n.clients.items } };
+    ghost view = { λ n. record { nums = n.nums; shape = n.shape; clients = n.clients.items } };
 }
 
 impl Names {
@@ -228,7 +231,18 @@ impl Names {
         let bounds = script.shape().bounds;
         let clients = all_names(alloc, bounds.queues, script.clients())?;
         let shape = same_shape(alloc, script.shape())?;
-        Ok(Names { shape, clients })
+        Ok(Names {
+            nums: Nums::of(script.version()),
+            shape,
+            clients,
+        })
+    }
+
+    /// Whether the script's text knows lists of numbers. Its logs do where it does.
+    pub fn nums(&self) -> Nums
+        ensures { result ≡ self.now.nums }
+    {
+        self.nums
     }
 
     /// How many actors of each kind there are.

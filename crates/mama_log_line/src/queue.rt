@@ -65,7 +65,7 @@ fn read_data(alloc: Global, names: &Names, words: &[&[u8]]) -> Result<QueueNote,
         [slot, sub, rest @ ..] => {
             let slot = read_small(slot)?;
             let sub = read_sub(names, sub)?;
-            let msg = read_market(alloc, rest)?;
+            let msg = read_market(alloc, names.nums(), rest)?;
             Ok(QueueNote::Deliver { slot, sub, msg })
         }
         _ => Err(ReadError::Fault(4)),
@@ -80,7 +80,7 @@ fn read_reply(alloc: Global, names: &Names, words: &[&[u8]]) -> Result<QueueNote
         [slot, inbox, rest @ ..] => {
             let slot = read_small(slot)?;
             let inbox = read_inbox(names, inbox)?;
-            let body = read_body(alloc, rest)?;
+            let body = read_body(alloc, names.nums(), rest)?;
             Ok(QueueNote::Reply { slot, inbox, body })
         }
         _ => Err(ReadError::Fault(4)),

@@ -246,11 +246,11 @@ pub fn read_fids(words: &[&[u8]]) -> Result<Fids, ReadError>
 
 /// At most 64 fields.
 #[tactic(auto, unfolding(crate::specs::Word::body_in))]
-pub fn read_body(alloc: Global, words: &[&[u8]]) -> Result<Msg, ReadError>
-    ensures { Gives (λ x. x) result (texts.body_in (map (λ w. w.now) words.now)) }
+pub fn read_body(alloc: Global, nums: Nums, words: &[&[u8]]) -> Result<Msg, ReadError>
+    ensures { Gives (λ x. x) result (texts.body_in nums (map (λ w. w.now) words.now)) }
 {
     if words.len() <= 64 {
-        read_message(alloc, Nums::Unknown, words)
+        read_message(alloc, nums, words)
     } else {
         Err(ReadError::Fault(4))
     }
@@ -258,15 +258,15 @@ pub fn read_body(alloc: Global, words: &[&[u8]]) -> Result<Msg, ReadError>
 
 /// A message of the market.
 #[tactic(auto, unfolding(crate::specs::Word::market_in))]
-pub fn read_market(alloc: Global, words: &[&[u8]]) -> Result<MarketMsg, ReadError>
-    ensures { Gives (λ x. x) result (texts.market_in (map (λ w. w.now) words.now)) }
+pub fn read_market(alloc: Global, nums: Nums, words: &[&[u8]]) -> Result<MarketMsg, ReadError>
+    ensures { Gives (λ x. x) result (texts.market_in nums (map (λ w. w.now) words.now)) }
 {
     match words {
         [kind, sender, seq, fields @ ..] => {
             let kind = read_msg_kind(kind).ok_or(ReadError::Fault(4))?;
             let sender = read_small(sender)?;
             let seq = read_small(seq)?;
-            let body = read_body(alloc, fields)?;
+            let body = read_body(alloc, nums, fields)?;
             Ok(MarketMsg {
                 kind,
                 sender,

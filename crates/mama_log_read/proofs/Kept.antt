@@ -1,18 +1,20 @@
 -- A part that was read is kept in the record.
 use Rattle.std.proofs.Common.{◌≡◌, ℕ, List, [], ◌∷◌, ◌++◌, refl, sym, ap, subst, ◌∙◌, inl, inr}
 use Rattle.mama_event.specs.declared.ids.ObjectId.{ObjectId}
+use Rattle.mama_event.specs.declared.shape.Strategy.{Strategy}
+use Rattle.mama_words.specs.declared.version.Version.{Version}
 use Rattle.mama_event.specs.declared.callback.CallNote.{CallNote}
 use Rattle.mama_event.specs.declared.to_bridge.BridgeNote.{BridgeNote}
 use Rattle.mama_event.specs.declared.to_timers.TimersNote.{TimersNote}
 use Rattle.mama_event.specs.declared.to_queue.QueueNote.{QueueNote}
 use Rattle.mama_event.specs.declared.publisher_entry.PublisherEntry.{PublisherEntry}
 use Rattle.mama_record.specs.RunData.{RunData, ObjectCalls, LastImage}
-use Rattle.mama_record.specs.LogText.{publisher_entry_text}
+use Rattle.mama_record.specs.LogText.{publisher_entry_text, bridge_entry_text, clock_text, queue_entry_text, timers_entry_text}
 use Rattle.mama_words.proofs.Choices.{some_is}
 use Rattle.mama_log_line.specs.Names.{NamesData}
 use Rattle.mama_log_line.specs.Entering.{MayEnterPublisher, MayEnterBridge, MayEnterTimers, MayEnterQueue}
 use Rattle.mama_log_read.specs.Logged.{IsMoment}
-use Rattle.mama_log_read.specs.Part.{Bare, Moments, Sends, OnBridge, OnTimers, OnQueue, Heard, Pictures, clock_body, bridge_body, timers_body, queue_body, put}
+use Rattle.mama_log_read.specs.Part.{Bare, Moments, Sends, OnBridge, OnTimers, OnQueue, Heard, Pictures, Fits, put}
 use Rattle.mama_log_read.specs.Reading.{AreTaken, AreCallsTaken, AreImagesTaken, IsPartRead, GoesOn, IsPicture}
 use Rattle.mama_log_read.specs.declared.section.Section.{Section}
 use Rattle.mama_log_read.specs.declared.section.Section.TheVariants as s
@@ -20,24 +22,24 @@ use Rattle.mama_log_read.specs.declared.section.Section.TheVariants as s
 ends : (l m more rest : List ℕ) → rest ≡ l ++ 10 ∷ more → l ≡ m → rest ≡ m ++ 10 ∷ more
 ends l m more rest e same = e ∙ ap (λ (x : List ℕ). x ++ 10 ∷ more) same
 
-pub client_read : (names : NamesData) (objects : List ObjectId) (n : ℕ) (text : List ℕ) (xs : List ℕ) (rest : List ℕ) (old new : RunData) → AreTaken IsMoment clock_body text xs rest → new ≡ put (Moments xs) old → IsPartRead names objects (s.Client n) text old new rest
-client_read names objects n text xs rest old new t e = record { part = Moments xs; fits = t.each; put = e; taken = t.taken; stops = λ l more at g. t.stops g.0 more g.1 (ends l (clock_body g.0) more rest at g.2) }
+pub client_read : (names : NamesData) (objects : List ObjectId) (n : ℕ) (text : List ℕ) (xs : List ℕ) (rest : List ℕ) (old new : RunData) → AreTaken IsMoment clock_text text xs rest → new ≡ put (Moments xs) old → IsPartRead names objects (s.Client n) text old new rest
+client_read names objects n text xs rest old new t e = record { part = Moments xs; fits = t.each; put = e; taken = t.taken; stops = λ l more at g. t.stops g.0 more g.1 (ends l (clock_text g.0) more rest at g.2) }
 
 pub publisher_read : (names : NamesData) (objects : List ObjectId) (n : ℕ) (text : List ℕ) (xs : List PublisherEntry) (rest : List ℕ) (old new : RunData) → AreTaken (MayEnterPublisher names) publisher_entry_text text xs rest → new ≡ put (Sends xs) old
     → IsPartRead names objects (s.Publisher n) text old new rest
 publisher_read names objects n text xs rest old new t e = record { part = Sends xs; fits = t.each; put = e; taken = t.taken; stops = λ l more at g. t.stops g.0 more g.1 (ends l (publisher_entry_text g.0) more rest at g.2) }
 
-pub bridge_read : (names : NamesData) (objects : List ObjectId) (text : List ℕ) (xs : List (ℕ × BridgeNote)) (rest : List ℕ) (old new : RunData) → AreTaken (MayEnterBridge names) (bridge_body names.shape) text xs rest → new ≡ put (OnBridge xs) old
+pub bridge_read : (names : NamesData) (objects : List ObjectId) (text : List ℕ) (xs : List (ℕ × BridgeNote)) (rest : List ℕ) (old new : RunData) → AreTaken (MayEnterBridge names) (bridge_entry_text names.shape) text xs rest → new ≡ put (OnBridge xs) old
     → IsPartRead names objects s.Bridge text old new rest
-bridge_read names objects text xs rest old new t e = record { part = OnBridge xs; fits = t.each; put = e; taken = t.taken; stops = λ l more at g. t.stops g.0 more g.1 (ends l (bridge_body names.shape g.0) more rest at g.2) }
+bridge_read names objects text xs rest old new t e = record { part = OnBridge xs; fits = t.each; put = e; taken = t.taken; stops = λ l more at g. t.stops g.0 more g.1 (ends l (bridge_entry_text names.shape g.0) more rest at g.2) }
 
-pub timers_read : (names : NamesData) (objects : List ObjectId) (text : List ℕ) (xs : List (ℕ × TimersNote)) (rest : List ℕ) (old new : RunData) → AreTaken (MayEnterTimers names) (timers_body names.shape) text xs rest → new ≡ put (OnTimers xs) old
+pub timers_read : (names : NamesData) (objects : List ObjectId) (text : List ℕ) (xs : List (ℕ × TimersNote)) (rest : List ℕ) (old new : RunData) → AreTaken (MayEnterTimers names) (timers_entry_text names.shape) text xs rest → new ≡ put (OnTimers xs) old
     → IsPartRead names objects s.Timers text old new rest
-timers_read names objects text xs rest old new t e = record { part = OnTimers xs; fits = t.each; put = e; taken = t.taken; stops = λ l more at g. t.stops g.0 more g.1 (ends l (timers_body names.shape g.0) more rest at g.2) }
+timers_read names objects text xs rest old new t e = record { part = OnTimers xs; fits = t.each; put = e; taken = t.taken; stops = λ l more at g. t.stops g.0 more g.1 (ends l (timers_entry_text names.shape g.0) more rest at g.2) }
 
-pub queue_read : (names : NamesData) (objects : List ObjectId) (n : ℕ) (text : List ℕ) (xs : List (ℕ × QueueNote)) (rest : List ℕ) (old new : RunData) → AreTaken (MayEnterQueue names) queue_body text xs rest → new ≡ put (OnQueue xs) old
+pub queue_read : (names : NamesData) (objects : List ObjectId) (n : ℕ) (text : List ℕ) (xs : List (ℕ × QueueNote)) (rest : List ℕ) (old new : RunData) → AreTaken (MayEnterQueue names) queue_entry_text text xs rest → new ≡ put (OnQueue xs) old
     → IsPartRead names objects (s.Queue n) text old new rest
-queue_read names objects n text xs rest old new t e = record { part = OnQueue xs; fits = t.each; put = e; taken = t.taken; stops = λ l more at g. t.stops g.0 more g.1 (ends l (queue_body g.0) more rest at g.2) }
+queue_read names objects n text xs rest old new t e = record { part = OnQueue xs; fits = t.each; put = e; taken = t.taken; stops = λ l more at g. t.stops g.0 more g.1 (ends l (queue_entry_text g.0) more rest at g.2) }
 
 calls_stop : (names : NamesData) (objects : List ObjectId) (o : ObjectId) (text : List ℕ) (calls : List CallNote) (rest l more : List ℕ) → AreCallsTaken names o text calls rest → rest ≡ l ++ 10 ∷ more → GoesOn names objects (Heard (record { object = o; calls = calls })) l → ⊥
 calls_stop names objects o text calls rest l more t at (inl g) = t.stops g.0 more g.1 (ends l _ more rest at g.2)
@@ -67,21 +69,21 @@ images_read names objects text images rest old new t e = record {
   stops = λ l more at g. images_stop names objects text images rest l more t at g;
 }
 
-bare_read : (names : NamesData) (objects : List ObjectId) (text : List ℕ) (run : RunData) → IsPartRead names objects s.Title text run run text
-bare_read names objects text run = record { part = Bare; fits = tt; put = refl; taken = refl; stops = λ l more at g. g }
+bare_read : (names : NamesData) (objects : List ObjectId) (section : Section) (text : List ℕ) (run : RunData) → Fits names objects section Bare → IsPartRead names objects section text run run text
+bare_read names objects section text run fits = record { part = Bare; fits = fits; put = refl; taken = refl; stops = λ l more at g. g }
 
-end_read : (names : NamesData) (objects : List ObjectId) (text : List ℕ) (run : RunData) → IsPartRead names objects s.End text run run text
-end_read names objects text run = record { part = Bare; fits = tt; put = refl; taken = refl; stops = λ l more at g. g }
+pub title_kept : (names : NamesData) (objects : List ObjectId) (section : Section) (version : Version) (text : List ℕ) (run : RunData) → section ≡ s.Title version → IsPartRead names objects section text run run text
+title_kept names objects section version text run e = let P : Section → Type 0 = λ x. IsPartRead names objects x text run run text in subst P (sym e) (bare_read names objects (s.Title version) text run tt)
 
-pub title_kept : (names : NamesData) (objects : List ObjectId) (section : Section) (text : List ℕ) (run : RunData) → section ≡ s.Title → IsPartRead names objects section text run run text
-title_kept names objects section text run e = let P : Section → Type 0 = λ x. IsPartRead names objects x text run run text in subst P (sym e) (bare_read names objects text run)
+pub strategy_kept : (names : NamesData) (objects : List ObjectId) (section : Section) (strategy : Strategy) (text : List ℕ) (run : RunData) → section ≡ s.Strategy strategy → IsPartRead names objects section text run run text
+strategy_kept names objects section strategy text run e = let P : Section → Type 0 = λ x. IsPartRead names objects x text run run text in subst P (sym e) (bare_read names objects (s.Strategy strategy) text run tt)
 
 pub end_kept : (names : NamesData) (objects : List ObjectId) (section : Section) (text : List ℕ) (run : RunData) → section ≡ s.End → IsPartRead names objects section text run run text
-end_kept names objects section text run e = let P : Section → Type 0 = λ x. IsPartRead names objects x text run run text in subst P (sym e) (end_read names objects text run)
+end_kept names objects section text run e = let P : Section → Type 0 = λ x. IsPartRead names objects x text run run text in subst P (sym e) (bare_read names objects s.End text run tt)
 
 -- ---- in a record that is seen through its fields
 
-pub client_kept : (names : NamesData) (objects : List ObjectId) (n : ℕ) (text : List ℕ) (xs : List ℕ) (rest : List ℕ) (r old : RunData) (grown : List (List ℕ)) → r ≡ old → grown ≡ r.clients ++ xs ∷ [] → AreTaken IsMoment clock_body text xs rest → IsPartRead names objects (s.Client n) text old (record r { clients = grown }) rest
+pub client_kept : (names : NamesData) (objects : List ObjectId) (n : ℕ) (text : List ℕ) (xs : List ℕ) (rest : List ℕ) (r old : RunData) (grown : List (List ℕ)) → r ≡ old → grown ≡ r.clients ++ xs ∷ [] → AreTaken IsMoment clock_text text xs rest → IsPartRead names objects (s.Client n) text old (record r { clients = grown }) rest
 client_kept names objects n text xs rest r old grown is e t =
     client_read names objects n text xs rest old (record r { clients = grown }) t (ap (λ (x : List (List ℕ)). let g : RunData = record r { clients = x } in g) e ∙ ap (put (Moments xs)) is)
 
@@ -90,13 +92,13 @@ pub publisher_kept : (names : NamesData) (objects : List ObjectId) (n : ℕ) (te
 publisher_kept names objects n text xs rest r old grown is e t =
     publisher_read names objects n text xs rest old (record r { publishers = grown }) t (ap (λ (x : List (List PublisherEntry)). let g : RunData = record r { publishers = x } in g) e ∙ ap (put (Sends xs)) is)
 
-pub bridge_kept : (names : NamesData) (objects : List ObjectId) (text : List ℕ) (xs : List (ℕ × BridgeNote)) (rest : List ℕ) (r old : RunData) → r ≡ old → AreTaken (MayEnterBridge names) (bridge_body names.shape) text xs rest → IsPartRead names objects s.Bridge text old (record r { bridge = xs }) rest
+pub bridge_kept : (names : NamesData) (objects : List ObjectId) (text : List ℕ) (xs : List (ℕ × BridgeNote)) (rest : List ℕ) (r old : RunData) → r ≡ old → AreTaken (MayEnterBridge names) (bridge_entry_text names.shape) text xs rest → IsPartRead names objects s.Bridge text old (record r { bridge = xs }) rest
 bridge_kept names objects text xs rest r old is t = bridge_read names objects text xs rest old (record r { bridge = xs }) t (ap (put (OnBridge xs)) is)
 
-pub timers_kept : (names : NamesData) (objects : List ObjectId) (text : List ℕ) (xs : List (ℕ × TimersNote)) (rest : List ℕ) (r old : RunData) → r ≡ old → AreTaken (MayEnterTimers names) (timers_body names.shape) text xs rest → IsPartRead names objects s.Timers text old (record r { timers = xs }) rest
+pub timers_kept : (names : NamesData) (objects : List ObjectId) (text : List ℕ) (xs : List (ℕ × TimersNote)) (rest : List ℕ) (r old : RunData) → r ≡ old → AreTaken (MayEnterTimers names) (timers_entry_text names.shape) text xs rest → IsPartRead names objects s.Timers text old (record r { timers = xs }) rest
 timers_kept names objects text xs rest r old is t = timers_read names objects text xs rest old (record r { timers = xs }) t (ap (put (OnTimers xs)) is)
 
-pub queue_kept : (names : NamesData) (objects : List ObjectId) (n : ℕ) (text : List ℕ) (xs : List (ℕ × QueueNote)) (rest : List ℕ) (r old : RunData) (grown : List (List (ℕ × QueueNote))) → r ≡ old → grown ≡ r.queues ++ xs ∷ [] → AreTaken (MayEnterQueue names) queue_body text xs rest
+pub queue_kept : (names : NamesData) (objects : List ObjectId) (n : ℕ) (text : List ℕ) (xs : List (ℕ × QueueNote)) (rest : List ℕ) (r old : RunData) (grown : List (List (ℕ × QueueNote))) → r ≡ old → grown ≡ r.queues ++ xs ∷ [] → AreTaken (MayEnterQueue names) queue_entry_text text xs rest
     → IsPartRead names objects (s.Queue n) text old (record r { queues = grown }) rest
 queue_kept names objects n text xs rest r old grown is e t =
     queue_read names objects n text xs rest old (record r { queues = grown }) t (ap (λ (x : List (List (ℕ × QueueNote))). let g : RunData = record r { queues = x } in g) e ∙ ap (put (OnQueue xs)) is)

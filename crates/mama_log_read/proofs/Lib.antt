@@ -12,3 +12,10 @@ pub mod Verdict
 pub mod Sections
 pub mod Kept
 pub mod Reading
+pub mod Tallies
+pub mod Shortened
+pub mod Cores
+pub mod Begun
+pub mod Unfitting
+pub mod Miscounted
+pub mod Told

@@ -6,9 +6,8 @@ use Rattle.mama_words.specs.Parting.{pieces, cut_at}
 use Rattle.mama_words.proofs.Choices.{some_is}
 use Rattle.mama_words.proofs.Cuts.{pieces_at_some}
 use Rattle.mama_words.proofs.Cutting.{cut_at_again}
-use Rattle.mama_record.specs.LogText.{line}
+use Rattle.mama_record.specs.LogText.{line, lines_text}
 use Rattle.mama_log_read.specs.Section.{has_feed}
-use Rattle.mama_log_read.specs.Unfit.{lines_text}
 
 -- a line without a line feed in it
 abbrev pub IsPlain : List ℕ → Type 0

@@ -1,5 +1,5 @@
 -- No line of an entry is the line that begins a section: their first three bytes differ.
-use Rattle.std.proofs.Common.{◌≡◌, ℕ, ◌-◌, ◌<◌, ◌^◌, Bool, true, false, cond, eqb, List, [], ◌∷◌, ◌++◌, length, refl, sym, ap, ◌∙◌, arith}
+use Rattle.std.proofs.Common.{◌≡◌, ℕ, ◌-◌, ◌<◌, ◌^◌, Bool, true, false, cond, eqb, List, [], ◌∷◌, ◌++◌, length, refl, sym, ap, ◌∙◌, append_assoc, arith}
 use Rattle.std.specs.Prelude.{◌&&◌, ◌||◌, ◌==◌}
 use Rattle.std.specs.List.{list_all}
 use Rattle.std.proofs.lemmas.Bool.{and_parts, ne_eqb}
@@ -19,11 +19,19 @@ use Rattle.mama_event.specs.declared.publisher_entry.PublisherEntry.TheVariants.
 use Rattle.mama_event.specs.Ports.{clients_of, publishers_of, queue_port_of_bridge, queue_port_of_timers, is_bridge_port_of_client, is_bridge_port_of_publisher, is_bridge_port_of_queue, is_timers_port_of_client, is_timers_port_of_queue, is_timers_port_of_bridge}
 use Rattle.mama_rules_services.specs.Ports.{Putter, ByClient, ByPublisher, ByQueue, ByBridge, ByTimers, ByNobody, bridge_putter, timers_putter, queue_putter}
 use Rattle.mama_record.specs.RunData.{LastImage}
-use Rattle.mama_record.specs.LogText.{putter_text, bridge_note_text, timers_note_text, queue_note_text, publisher_entry_text, callback_text}
+use Rattle.mama_record.specs.LogText.{putter_text, bridge_note_text, timers_note_text, queue_note_text, publisher_entry_text, callback_text, bridge_entry_text, clock_text, given_text, image_text, queue_entry_text, timers_entry_text, told}
 use Rattle.mama_log_line.specs.Names.{NamesData}
 use Rattle.mama_log_line.specs.Entering.{MayEnterBridge, MayEnterTimers, MayEnterQueue, BridgeFrom, TimersFrom, QueueFrom}
-use Rattle.mama_log_read.specs.Section.{head_of}
-use Rattle.mama_log_read.specs.Part.{clock_body, bridge_body, timers_body, queue_body, order_body, image_body}
+use Rattle.mama_words.specs.Kind.{quality_text}
+use Rattle.mama_words.specs.Field.{fields_text}
+use Rattle.mama_words.specs.Order.{spaced_number}
+use Rattle.mama_words.specs.declared.version.Version.{Version}
+use Rattle.mama_words.specs.declared.version.Version.TheVariants as version
+use Rattle.mama_event.specs.declared.shape.Strategy.TheVariants as strategy
+use Rattle.mama_log_read.specs.Section.{head_of, has_count}
+use Rattle.mama_log_read.specs.Reading.{IsTold, Begins}
+use Rattle.mama_log_read.specs.declared.section.Told.{Told}
+use Rattle.mama_log_read.specs.declared.section.Told.TheVariants as t
 use Rattle.mama_log_read.specs.declared.section.Section.{Section}
 use Rattle.mama_log_read.specs.declared.section.Section.TheVariants as s
 
@@ -41,10 +49,13 @@ begins a b c l = first l == a && (first (others l) == b && first (others (others
 -- the first three bytes are those of a line that begins a section
 abbrev pub is_head : List ℕ → Bool
 is_head l =
-    begins 109 97 109 l || (begins 99 108 105 l || (begins 112 117 98 l || (begins 98 114 105 l || (begins 116 105 109 l || (begins 113 117 101 l || (begins 111 110 32 l || (begins 105 109 97 l || begins 101 110 100 l)))))))
+    begins 109 97 109 l || (begins 99 108 105 l || (begins 112 117 98 l || (begins 98 114 105 l || (begins 116 105 109 l || (begins 113 117 101 l || (begins 111 110 32 l || (begins 105 109 97 l || (begins 115 116 114 l || begins 101 110 100 l))))))))
 
 pub head_is : (section : Section) → is_head (head_of section) ≡ true
-head_is s.Title = refl
+head_is (s.Title version.One) = refl
+head_is (s.Title version.Two) = refl
+head_is (s.Strategy strategy.One) = refl
+head_is (s.Strategy strategy.Two) = refl
 head_is (s.Client n) = refl
 head_is (s.Publisher n) = refl
 head_is s.Bridge = refl
@@ -54,7 +65,32 @@ head_is (s.Object o) = refl
 head_is s.Images = refl
 head_is s.End = refl
 
-pub moment_no_head : (m : ℕ) → is_head (clock_body m) ≡ false
+-- so are those of a section whose lines are counted, with anything behind them
+more_is : (section : Section) (t : List ℕ) → has_count version.Two section ≡ true → is_head (head_of section ++ t) ≡ true
+more_is (s.Title v) t h = absurd cc
+more_is (s.Strategy strategy) t h = absurd cc
+more_is (s.Client n) t h = refl
+more_is (s.Publisher n) t h = refl
+more_is s.Bridge t h = refl
+more_is s.Timers t h = refl
+more_is (s.Queue n) t h = refl
+more_is (s.Object o) t h = refl
+more_is s.Images t h = refl
+more_is s.End t h = absurd cc
+
+counted_in_two : (v : Version) (section : Section) → has_count v section ≡ true → has_count version.Two section ≡ true
+counted_in_two version.One section h = absurd cc
+counted_in_two version.Two section h = h
+
+-- a line that begins a section
+pub begins_head : (v : Version) (section : Section) (line : List ℕ) → Begins v section line → is_head line ≡ true
+begins_head v section line b = by b.0 b.1
+  where
+    by : (told : Told) → IsTold v section told line → is_head line ≡ true
+    by t.Nothing h = ap is_head h.1 ∙ head_is section
+    by (t.Lines count) h = ap is_head h.2 ∙ more_is section (told version.Two count) (counted_in_two v section h.0)
+
+pub moment_no_head : (m : ℕ) → is_head (clock_text m) ≡ false
 moment_no_head m = refl
 
 pub publisher_no_head : (e : PublisherEntry) → is_head (publisher_entry_text e) ≡ false
@@ -77,14 +113,11 @@ call_no_head on.Destroy = refl
 call_no_head (on.Tick moment) = refl
 call_no_head (on.Reply body) = refl
 
-pub order_no_head : (o : Order) → is_head (order_body o) ≡ false
+pub order_no_head : (o : Order) → is_head (given_text o) ≡ false
 order_no_head o = refl
 
-pub image_no_head : (i : LastImage) → is_head (image_body i) ≡ false
-image_no_head i = refl
-
 -- a callback's line is no order's
-pub call_no_order : (c : Callback) (o : Order) → callback_text c ≡ order_body o → ⊥
+pub call_no_order : (c : Callback) (o : Order) → callback_text c ≡ given_text o → ⊥
 call_no_order c o e = let k : false ≡ true = sym (not_o c) ∙ ap (λ (l : List ℕ). begins 111 114 100 l) e in cc
   where
     not_o : (c : Callback) → begins 111 114 100 (callback_text c) ≡ false
@@ -107,6 +140,21 @@ first_digit (d ∷ ds) t b h some not_b = ne_eqb d b (λ e. let p = and_parts (i
 
 number_first : (n : ℕ) (t : List ℕ) (b : ℕ) → n < 2 ^ 64 → is_digit b ≡ false → eqb (first (decimal n ++ t)) b ≡ false
 number_first n t b small not_b = first_digit (decimal n) t b (decimal_digits n small) (decimal_nonempty n small) not_b
+
+-- an image begins with the id of a subscription
+pub image_no_head : (i : LastImage) → i.sub.client < 2 ^ 64 → is_head (image_text i) ≡ false
+image_no_head i small =
+    let id = decimal i.sub.client in
+    let a = 46 ∷ decimal i.sub.number in
+    let b = 32 ∷ quality_text i.head.quality in
+    let c = spaced_number i.head.sender in
+    let d = spaced_number i.head.last in
+    let e = fields_text i.body in
+    let same : image_text i ≡ 115 ∷ (id ++ (a ++ (b ++ (c ++ (d ++ e))))) = ap (λ (t : List ℕ). 115 ∷ t) (regroup id a b c d e) in
+    ap is_head same ∙ (rw (number_first i.sub.client (a ++ (b ++ (c ++ (d ++ e)))) 116 small refl) refl)
+  where
+    regroup : (id a b c d e : List ℕ) → ((((id ++ a) ++ b) ++ c) ++ d) ++ e ≡ id ++ (a ++ (b ++ (c ++ (d ++ e))))
+    regroup id a b c d e = simp append_assoc
 
 client_no_head : (c : ℕ) (t : List ℕ) → c < 2 ^ 64 → is_head (99 ∷ (decimal c ++ t)) ≡ false
 client_no_head c t small = rw (number_first c t 108 small refl) refl
@@ -177,11 +225,11 @@ queue_some names ByBridge note h = tt
 queue_some names ByTimers note h = tt
 queue_some names ByNobody note h = h
 
-pub bridge_no_head : (names : NamesData) (e : ℕ × BridgeNote) → MayEnterBridge names e → is_head (bridge_body names.shape e) ≡ false
+pub bridge_no_head : (names : NamesData) (e : ℕ × BridgeNote) → MayEnterBridge names e → is_head (bridge_entry_text names.shape e) ≡ false
 bridge_no_head names e h = putter_no_head (bridge_putter names.shape e.0) (bridge_note_text e.1) (bridge_small names.shape e.0 h.port) (bridge_some names (bridge_putter names.shape e.0) e.1 h.note)
 
-pub timers_no_head : (names : NamesData) (e : ℕ × TimersNote) → MayEnterTimers names e → is_head (timers_body names.shape e) ≡ false
+pub timers_no_head : (names : NamesData) (e : ℕ × TimersNote) → MayEnterTimers names e → is_head (timers_entry_text names.shape e) ≡ false
 timers_no_head names e h = putter_no_head (timers_putter names.shape e.0) (timers_note_text e.1) (timers_small names.shape e.0 h.port) (timers_some names (timers_putter names.shape e.0) e.1 h.note)
 
-pub queue_no_head : (names : NamesData) (e : ℕ × QueueNote) → MayEnterQueue names e → is_head (queue_body e) ≡ false
+pub queue_no_head : (names : NamesData) (e : ℕ × QueueNote) → MayEnterQueue names e → is_head (queue_entry_text e) ≡ false
 queue_no_head names e h = putter_no_head (queue_putter e.0) (queue_note_text e.1) (queue_small e.0) (queue_some names (queue_putter e.0) e.1 h)

@@ -7,17 +7,20 @@ use Rattle.mama_event.specs.declared.ids.ObjectId.{ObjectId}
 use Rattle.mama_event.specs.declared.ids.ObjectId.TheVariants.{Sub}
 use Rattle.mama_event.specs.Object.{same_object}
 use Rattle.mama_event.specs.Ports.{queues_of}
+use Rattle.mama_event.specs.declared.shape.Strategy.{Strategy}
+use Rattle.mama_words.specs.declared.version.Version.{Version}
+use Rattle.mama_words.specs.declared.version.Version.TheVariants as version
 use Rattle.mama_script.specs.Script.{ScriptData}
 use Rattle.mama_rules_legal.specs.Form.{objects_of, in_order}
 use Rattle.mama_record.specs.RunData.{RunData, ObjectCalls}
 use Rattle.mama_log_line.specs.Names.{NamesData, names_of}
 use Rattle.mama_log_line.specs.Entering.{MayEnterPublisher, MayEnterBridge, MayEnterTimers, MayEnterQueue}
 use Rattle.mama_log_read.specs.Logged.{IsMoment, MayHearAll, IsLogged}
-use Rattle.mama_log_read.specs.Section.{numbered_from, sections}
+use Rattle.mama_log_read.specs.Section.{titles, numbered_from, sections}
 use Rattle.mama_log_read.specs.Part.{Part, Bare, Moments, Sends, OnBridge, OnTimers, OnQueue, Pictures, Filled, Fits, ArePictures, behind_all}
 use Rattle.mama_log_read.specs.declared.section.Section.{Section}
 use Rattle.mama_log_read.specs.declared.section.Section.TheVariants as s
-use Rattle.mama_log_read.proofs.Whole.{numbered_parts, heard_part, last_parts, parts_of, AllFit, named, first, split, split_calls, moments_in, sends_in, queue_in, bridge_in, timers_in, pictures_in, title_in, end_in}
+use Rattle.mama_log_read.proofs.Whole.{numbered_parts, heard_part, last_parts, title_parts, body_parts, parts_of, AllFit, named, first, split, split_calls, split_titles, moments_in, sends_in, queue_in, bridge_in, timers_in, pictures_in, end_in}
 
 -- ---- images in order
 
@@ -50,13 +53,13 @@ none_named : (fs : List Filled) → named fs ≡ [] → fs ≡ []
 none_named [] e = refl
 none_named (f ∷ fs) e = absurd cc
 
-pub record IsRecord (script : ScriptData) (fs : List Filled) : Type 0 where
+pub record IsRecord (v : Version) (script : ScriptData) (fs : List Filled) : Type 0 where
   pub run : RunData
   pub logged : IsLogged script run
-  pub is : fs ≡ parts_of run
+  pub is : fs ≡ parts_of v script.shape.strategy run
 
-pub sections_make_record : (script : ScriptData) (fs : List Filled) → named fs ≡ sections script → AllFit (names_of script) (objects_of script) fs → IsRecord script fs
-sections_make_record script fs e h =
+pub sections_make_record : (v : Version) (script : ScriptData) (fs : List Filled) → named fs ≡ sections v script → AllFit (names_of script) (objects_of script) fs → IsRecord v script fs
+sections_make_record v script fs e h =
     let names = names_of script in
     let objects = objects_of script in
     let at_end : List Section = s.Images ∷ s.End ∷ [] in
@@ -66,7 +69,7 @@ sections_make_record script fs e h =
     let at_bridge : List Section = s.Bridge ∷ at_timers in
     let at_publishers : List Section = numbered_from s.Publisher 0 (length script.publishers) ++ at_bridge in
     let at_clients : List Section = numbered_from s.Client 0 (length script.clients) ++ at_publishers in
-    let t = first {A = Unit {0}} names objects s.Title (λ x. Bare) (λ x. Unit {0}) (title_in names objects) at_clients fs e h in
+    let t = split_titles v script.shape.strategy names objects at_clients fs e h in
     let c = split names objects s.Client Moments (λ x. All IsMoment x) (moments_in names objects) 0 (length script.clients) at_publishers t.rest t.name t.fits in
     let p = split names objects s.Publisher Sends (λ x. All (MayEnterPublisher names) x) (sends_in names objects) 0 (length script.publishers) at_bridge c.rest c.name c.fits in
     let b = first names objects s.Bridge OnBridge (λ x. All (MayEnterBridge names) x) (bridge_in names objects) at_timers p.rest p.name p.fits in
@@ -99,7 +102,7 @@ sections_make_record script fs e h =
         calls = All-from_recursion (MayHearAll names) o.calls o.may;
         images = i.may.1.each;
       };
-      is = t.is ∙ ap (λ (x : List Filled). (s.Title, Bare) ∷ x) clients_are;
+      is = t.is ∙ ap (λ (x : List Filled). title_parts v script.shape.strategy ++ x) clients_are;
     }
 
 -- ---- the parts of a record fit
@@ -121,8 +124,12 @@ fit_heard : (names : NamesData) (objects : List ObjectId) (calls : List ObjectCa
 fit_heard names objects [] fs h k = k
 fit_heard names objects (c ∷ calls) fs h k = ((refl, h.0), fit_heard names objects calls fs h.1 k)
 
-pub parts_named : (script : ScriptData) (run : RunData) → IsLogged script run → named (parts_of run) ≡ sections script
-parts_named script run h =
+named_titles : (v : Version) (strategy : Strategy) (fs : List Filled) (left : List Section) → named fs ≡ left → named (title_parts v strategy ++ fs) ≡ titles v strategy ++ left
+named_titles version.One strategy fs left e = ap (λ (t : List Section). s.Title version.One ∷ t) e
+named_titles version.Two strategy fs left e = ap (λ (t : List Section). s.Title version.Two ∷ s.Strategy strategy ∷ t) e
+
+pub parts_named : (v : Version) (script : ScriptData) (run : RunData) → IsLogged script run → named (parts_of v script.shape.strategy run) ≡ sections v script
+parts_named v script run h =
     let counts = h.formed.counted in
     let at_end : List Section = s.Images ∷ s.End ∷ [] in
     let at_objects : List Section = map s.Object (objects_of script) ++ at_end in
@@ -139,13 +146,17 @@ parts_named script run h =
     let bridge_are : named bridge_part ≡ at_bridge = ap (λ (t : List Section). s.Bridge ∷ s.Timers ∷ t) queues_are in
     let publishers_are : named publishers_part ≡ at_publishers =
     named_numbered s.Publisher Sends 0 run.publishers bridge_part ∙ ap (λ (k : ℕ). numbered_from s.Publisher 0 k ++ named bridge_part) counts.publishers ∙ ap (λ (t : List Section). numbered_from s.Publisher 0 (length script.publishers) ++ t) bridge_are in
-    ap (λ (t : List Section). s.Title ∷ t) (
+    named_titles v script.shape.strategy (body_parts run) (numbered_from s.Client 0 (length script.clients) ++ at_publishers) (
     named_numbered s.Client Moments 0 run.clients publishers_part
     ∙ ap (λ (k : ℕ). numbered_from s.Client 0 k ++ named publishers_part) counts.clients
     ∙ ap (λ (t : List Section). numbered_from s.Client 0 (length script.clients) ++ t) publishers_are)
 
-pub parts_fit : (script : ScriptData) (run : RunData) → IsLogged script run → AllFit (names_of script) (objects_of script) (parts_of run)
-parts_fit script run h =
+fit_titles : (v : Version) (strategy : Strategy) (names : NamesData) (objects : List ObjectId) (fs : List Filled) → AllFit names objects fs → AllFit names objects (title_parts v strategy ++ fs)
+fit_titles version.One strategy names objects fs h = (tt, h)
+fit_titles version.Two strategy names objects fs h = (tt, (tt, h))
+
+pub parts_fit : (v : Version) (script : ScriptData) (run : RunData) → IsLogged script run → AllFit (names_of script) (objects_of script) (parts_of v script.shape.strategy run)
+parts_fit v script run h =
     let names = names_of script in
     let objects = objects_of script in
     let ordered = order_left objects (map (λ x. x.sub) run.images) h.formed.images in
@@ -159,4 +170,5 @@ parts_fit script run h =
     let at_bridge : AllFit names objects bridge_part = (h.bridge, (h.timers, at_queues)) in
     let at_publishers =
     fit_numbered names objects s.Publisher Sends (λ x. All (MayEnterPublisher names) x) (λ n x m. m) 0 run.publishers bridge_part (recursion_from_All (λ x. All (MayEnterPublisher names) x) run.publishers h.publishers) at_bridge in
-    (tt, fit_numbered names objects s.Client Moments (λ x. All IsMoment x) (λ n x m. m) 0 run.clients (numbered_parts s.Publisher Sends 0 run.publishers ++ bridge_part) (recursion_from_All (λ x. All IsMoment x) run.clients h.clients) at_publishers)
+    fit_titles v script.shape.strategy names objects (body_parts run)
+    (fit_numbered names objects s.Client Moments (λ x. All IsMoment x) (λ n x m. m) 0 run.clients (numbered_parts s.Publisher Sends 0 run.publishers ++ bridge_part) (recursion_from_All (λ x. All IsMoment x) run.clients h.clients) at_publishers)

@@ -20,7 +20,11 @@ use Rattle.mama_script.specs.Within.{IsWithin}
 use Rattle.mama_rules_rounds.specs.Client.{Planned}
 use Rattle.mama_rules_rounds.specs.Round.{setting_of}
 use Rattle.mama_rules_legal.specs.Form.{objects_of}
-use Rattle.mama_log_read.specs.Section.{has_feed, numbered_from, sections_with, HasPlainHead}
+use Rattle.mama_event.specs.declared.shape.Strategy.{Strategy}
+use Rattle.mama_event.specs.declared.shape.Strategy.TheVariants as strategies
+use Rattle.mama_words.specs.declared.version.Version.{Version}
+use Rattle.mama_words.specs.declared.version.Version.TheVariants.{One, Two}
+use Rattle.mama_log_read.specs.Section.{has_feed, titles, numbered_from, sections_with, HasPlainHead}
 use Rattle.mama_log_read.specs.declared.section.Section.{Section}
 use Rattle.mama_log_read.specs.declared.section.Section.TheVariants as s
 
@@ -104,9 +108,17 @@ joined : (a b : List Section) → AllByRecursion HasPlainHead a → AllByRecursi
 joined [] b h k = k
 joined (x ∷ a) b h k = (h.0, joined a b h.1 k)
 
+plain_strategy : (strategy : Strategy) → HasPlainHead (s.Strategy strategy)
+plain_strategy strategies.One = refl
+plain_strategy strategies.Two = refl
+
+plain_titles : (v : Version) (strategy : Strategy) → AllByRecursion HasPlainHead (titles v strategy)
+plain_titles One strategy = (refl, tt)
+plain_titles Two strategy = (refl, (plain_strategy strategy, tt))
+
 -- each section of a log with few clients, publishers and queues begins with one line
-pub plain_sections : (clients publishers queues : ℕ) (objects : List ObjectId) → clients < 2 ^ 64 → publishers < 2 ^ 64 → queues < 2 ^ 64 → AllByRecursion (λ o. HasPlainHead (s.Object o)) objects → AllByRecursion HasPlainHead (sections_with clients publishers queues objects)
-plain_sections clients publishers queues objects c p q h =
+pub plain_sections : (v : Version) (strategy : Strategy) (clients publishers queues : ℕ) (objects : List ObjectId) → clients < 2 ^ 64 → publishers < 2 ^ 64 → queues < 2 ^ 64 → AllByRecursion (λ o. HasPlainHead (s.Object o)) objects → AllByRecursion HasPlainHead (sections_with v strategy clients publishers queues objects)
+plain_sections v strategy clients publishers queues objects c p q h =
     let at_end : AllByRecursion HasPlainHead (s.Images ∷ s.End ∷ []) = (refl, (refl, tt)) in
     let at_objects = joined (map s.Object objects) (s.Images ∷ s.End ∷ []) (plain_objects objects h) at_end in
     let objects_part : List Section = map s.Object objects ++ (s.Images ∷ s.End ∷ []) in
@@ -114,15 +126,35 @@ plain_sections clients publishers queues objects c p q h =
     let bridge_part : List Section = s.Bridge ∷ s.Timers ∷ (numbered_from s.Queue 0 queues ++ objects_part) in
     let at_bridge : AllByRecursion HasPlainHead bridge_part = (refl, (refl, at_queues)) in
     let at_publishers = joined (numbered_from s.Publisher 0 publishers) bridge_part (plain_from s.Publisher plain_publisher 0 publishers (omega (arith, p))) at_bridge in
-    (refl, joined (numbered_from s.Client 0 clients) (numbered_from s.Publisher 0 publishers ++ bridge_part) (plain_from s.Client plain_client 0 clients (omega (arith, c))) at_publishers)
+    let client_part : List Section = numbered_from s.Client 0 clients ++ (numbered_from s.Publisher 0 publishers ++ bridge_part) in
+    joined (titles v strategy) client_part (plain_titles v strategy) (joined (numbered_from s.Client 0 clients) (numbered_from s.Publisher 0 publishers ++ bridge_part) (plain_from s.Client plain_client 0 clients (omega (arith, c))) at_publishers)
 
 -- so do those of a script
-pub plain_of : {X : Type 0} (script : ScriptData) (clients publishers queues : ℕ) (objects : List ObjectId) (items : X → List Section) {E : Type 0} (r : Result X E) → IsWithin script → clients ≡ length script.clients → publishers ≡ length script.publishers → queues ≡ queues_of script.shape
-    → IfOk r (λ x. items x ≡ sections_with clients publishers queues objects) → IfOk r (λ x. All (λ o. HasPlainHead (s.Object o)) objects → All (λ x. HasPlainHead x) (items x))
-plain_of script clients publishers queues objects items (Ok x) within c p q h = λ plain.
+pub plain_of : {X : Type 0} (v : Version) (strategy : Strategy) (script : ScriptData) (clients publishers queues : ℕ) (objects : List ObjectId) (items : X → List Section) {E : Type 0} (r : Result X E) → IsWithin script → clients ≡ length script.clients → publishers ≡ length script.publishers → queues ≡ queues_of script.shape
+    → IfOk r (λ x. items x ≡ sections_with v strategy clients publishers queues objects) → IfOk r (λ x. All (λ o. HasPlainHead (s.Object o)) objects → All (λ x. HasPlainHead x) (items x))
+plain_of v strategy script clients publishers queues objects items (Ok x) within c p q h = λ plain.
     let P : List Section → Type 0 = λ t. All (λ x. HasPlainHead x) t in
-    subst P (sym h) (All-from_recursion (λ x. HasPlainHead x) (sections_with clients publishers queues objects) (plain_sections clients publishers queues objects (few clients 64 c within.clients_few (omega arith)) (few publishers 1024 p within.publishers_few (omega arith)) (few queues 64 q within.queues_few (omega arith)) (recursion_from_All (λ o. HasPlainHead (s.Object o)) objects plain)))
+    subst P (sym h) (All-from_recursion (λ x. HasPlainHead x) (sections_with v strategy clients publishers queues objects) (plain_sections v strategy clients publishers queues objects (few clients 64 c within.clients_few (omega arith)) (few publishers 1024 p within.publishers_few (omega arith)) (few queues 64 q within.queues_few (omega arith)) (recursion_from_All (λ o. HasPlainHead (s.Object o)) objects plain)))
   where
     few : {m : ℕ} (n most : ℕ) → n ≡ m → m ≤ most → most < 2 ^ 64 → n < 2 ^ 64
     few n most e le lt = omega (arith, e, le, lt)
-plain_of script clients publishers queues objects items (Err e) within c p q h = tt
+plain_of v strategy script clients publishers queues objects items (Err e) within c p q h = tt
+
+-- ---- sections in a row
+
+abbrev with_sections : List Section → List Section → List Section → List Section → List Section → List Section
+with_sections t c p q o = t ++ (c ++ (p ++ (s.Bridge ∷ s.Timers ∷ (q ++ (o ++ (s.Images ∷ s.End ∷ []))))))
+
+one_by_one : (t c p q o : List Section) → (((((((([] ++ t) ++ c) ++ p) ++ s.Bridge ∷ []) ++ s.Timers ∷ []) ++ q) ++ o) ++ s.Images ∷ []) ++ s.End ∷ [] ≡ with_sections t c p q o
+one_by_one t c p q o = simp append_assoc
+
+-- the sections of a log, listed one after the other
+pub in_a_row : {none titled clients publishers bridge timers queues objects images all : List Section} (t c p q o : List Section) → none ≡ [] → titled ≡ none ++ t → clients ≡ titled ++ c → publishers ≡ clients ++ p → bridge ≡ publishers ++ s.Bridge ∷ [] → timers ≡ bridge ++ s.Timers ∷ []
+    → queues ≡ timers ++ q → objects ≡ queues ++ o → images ≡ objects ++ s.Images ∷ [] → all ≡ images ++ s.End ∷ [] → all ≡ with_sections t c p q o
+in_a_row t c p q o none titled clients publishers bridge timers queues objects images all =
+    let add : List Section → List Section → List Section = λ x y. y ++ x in
+    let before = titled ∙ ap (add t) none in
+    let sent = publishers ∙ ap (add p) (clients ∙ ap (add c) before) in
+    let timed = timers ∙ ap (add (s.Timers ∷ [])) (bridge ∙ ap (add (s.Bridge ∷ [])) sent) in
+    let heard = objects ∙ ap (add o) (queues ∙ ap (add q) timed) in
+    all ∙ ap (add (s.End ∷ [])) (images ∙ ap (add (s.Images ∷ [])) heard) ∙ one_by_one t c p q o

@@ -16,7 +16,8 @@ use Rattle.mama_words.specs.declared.parting.Place.TheVariants.{Outside}
 use Rattle.mama_words.proofs.Choices.{ok_is, step_ok, chosen_some}
 use Rattle.mama_words.proofs.Cutting.{all_lack}
 use Rattle.mama_record.specs.RunData.{LastImage}
-use Rattle.mama_record.specs.LogText.{publisher_entry_text, callback_text}
+use Rattle.mama_record.specs.LogText.{publisher_entry_text, callback_text, bridge_entry_text, clock_text, given_text, image_text, queue_entry_text, timers_entry_text}
+use Rattle.mama_words.specs.declared.nums.Nums.{Nums}
 use Rattle.mama_log_line.specs.Names.{NamesData}
 use Rattle.mama_log_line.specs.Entering.{MayEnterPublisher, MayEnterBridge, MayEnterTimers, MayEnterQueue, MayHear, MayOrder, IsLastImage}
 use Rattle.mama_log_line.specs.Journal.{publisher_line_in, publisher_words_in, bridge_line_in, bridge_words_in, timers_line_in, timers_words_in, queue_line_in, queue_words_in}
@@ -28,7 +29,6 @@ use Rattle.mama_log_line.proofs.QueueLaws.{queue_again}
 use Rattle.mama_log_line.proofs.CallLaws.{call_again}
 use Rattle.mama_log_line.proofs.OtherLaws.{order_line_again, clock_again, image_again}
 use Rattle.mama_log_read.specs.Logged.{IsMoment}
-use Rattle.mama_log_read.specs.Part.{clock_body, bridge_body, timers_body, queue_body, order_body, image_body}
 use Rattle.mama_log_read.proofs.Lines.{IsPlain}
 
 -- a line that was read has no line feed in it
@@ -47,12 +47,12 @@ one_read r x y h k = ok_is x y (sym h ∙ k)
 ended : (l m : List ℕ) → l ≡ m → l ++ 10 ∷ [] ≡ m ++ 10 ∷ []
 ended l m e = ap (λ (t : List ℕ). t ++ 10 ∷ []) e
 
-pub plain_moment : (m : ℕ) → IsMoment m → IsPlain (clock_body m)
+pub plain_moment : (m : ℕ) → IsMoment m → IsPlain (clock_text m)
 unfolding clock_line_in
-plain_moment m h = plain_read clock_words_in (clock_body m) m (clock_again (clock_body m) m h refl)
+plain_moment m h = plain_read clock_words_in (clock_text m) m (clock_again (clock_text m) m h refl)
 
-pub same_moment : (m n : ℕ) → IsMoment m → IsMoment n → clock_body m ≡ clock_body n → m ≡ n
-same_moment m n h k e = one_read (clock_line_in (clock_body m)) m n (clock_again (clock_body m) m h refl) (clock_again (clock_body m) n k (ended (clock_body m) (clock_body n) e))
+pub same_moment : (m n : ℕ) → IsMoment m → IsMoment n → clock_text m ≡ clock_text n → m ≡ n
+same_moment m n h k e = one_read (clock_line_in (clock_text m)) m n (clock_again (clock_text m) m h refl) (clock_again (clock_text m) n k (ended (clock_text m) (clock_text n) e))
 
 pub plain_publisher : (names : NamesData) (e : PublisherEntry) → MayEnterPublisher names e → IsPlain (publisher_entry_text e)
 unfolding publisher_line_in
@@ -62,56 +62,56 @@ pub same_publisher : (names : NamesData) (d e : PublisherEntry) → MayEnterPubl
 same_publisher names d e h k same =
     one_read (publisher_line_in names (publisher_entry_text d)) d e (publisher_again names (publisher_entry_text d) d h refl) (publisher_again names (publisher_entry_text d) e k (ended (publisher_entry_text d) (publisher_entry_text e) same))
 
-pub plain_bridge : (names : NamesData) (e : ℕ × BridgeNote) → MayEnterBridge names e → IsPlain (bridge_body names.shape e)
+pub plain_bridge : (names : NamesData) (e : ℕ × BridgeNote) → MayEnterBridge names e → IsPlain (bridge_entry_text names.shape e)
 unfolding bridge_line_in
-plain_bridge names e h = plain_read (bridge_words_in names) (bridge_body names.shape e) e (bridge_again names (bridge_body names.shape e) e h refl)
+plain_bridge names e h = plain_read (bridge_words_in names) (bridge_entry_text names.shape e) e (bridge_again names (bridge_entry_text names.shape e) e h refl)
 
-pub same_bridge : (names : NamesData) (d e : ℕ × BridgeNote) → MayEnterBridge names d → MayEnterBridge names e → bridge_body names.shape d ≡ bridge_body names.shape e → d ≡ e
+pub same_bridge : (names : NamesData) (d e : ℕ × BridgeNote) → MayEnterBridge names d → MayEnterBridge names e → bridge_entry_text names.shape d ≡ bridge_entry_text names.shape e → d ≡ e
 same_bridge names d e h k same =
-    let text = bridge_body names.shape d in
-    one_read (bridge_line_in names text) d e (bridge_again names text d h refl) (bridge_again names text e k (ended text (bridge_body names.shape e) same))
+    let text = bridge_entry_text names.shape d in
+    one_read (bridge_line_in names text) d e (bridge_again names text d h refl) (bridge_again names text e k (ended text (bridge_entry_text names.shape e) same))
 
-pub plain_timers : (names : NamesData) (e : ℕ × TimersNote) → MayEnterTimers names e → IsPlain (timers_body names.shape e)
+pub plain_timers : (names : NamesData) (e : ℕ × TimersNote) → MayEnterTimers names e → IsPlain (timers_entry_text names.shape e)
 unfolding timers_line_in
-plain_timers names e h = plain_read (timers_words_in names) (timers_body names.shape e) e (timers_again names (timers_body names.shape e) e h refl)
+plain_timers names e h = plain_read (timers_words_in names) (timers_entry_text names.shape e) e (timers_again names (timers_entry_text names.shape e) e h refl)
 
-pub same_timers : (names : NamesData) (d e : ℕ × TimersNote) → MayEnterTimers names d → MayEnterTimers names e → timers_body names.shape d ≡ timers_body names.shape e → d ≡ e
+pub same_timers : (names : NamesData) (d e : ℕ × TimersNote) → MayEnterTimers names d → MayEnterTimers names e → timers_entry_text names.shape d ≡ timers_entry_text names.shape e → d ≡ e
 same_timers names d e h k same =
-    let text = timers_body names.shape d in
-    one_read (timers_line_in names text) d e (timers_again names text d h refl) (timers_again names text e k (ended text (timers_body names.shape e) same))
+    let text = timers_entry_text names.shape d in
+    one_read (timers_line_in names text) d e (timers_again names text d h refl) (timers_again names text e k (ended text (timers_entry_text names.shape e) same))
 
-pub plain_queue : (names : NamesData) (e : ℕ × QueueNote) → MayEnterQueue names e → IsPlain (queue_body e)
+pub plain_queue : (names : NamesData) (e : ℕ × QueueNote) → MayEnterQueue names e → IsPlain (queue_entry_text e)
 unfolding queue_line_in
-plain_queue names e h = plain_read (queue_words_in names) (queue_body e) e (queue_again names (queue_body e) e h refl)
+plain_queue names e h = plain_read (queue_words_in names) (queue_entry_text e) e (queue_again names (queue_entry_text e) e h refl)
 
-pub same_queue : (names : NamesData) (d e : ℕ × QueueNote) → MayEnterQueue names d → MayEnterQueue names e → queue_body d ≡ queue_body e → d ≡ e
+pub same_queue : (names : NamesData) (d e : ℕ × QueueNote) → MayEnterQueue names d → MayEnterQueue names e → queue_entry_text d ≡ queue_entry_text e → d ≡ e
 same_queue names d e h k same =
-    let text = queue_body d in
-    one_read (queue_line_in names text) d e (queue_again names text d h refl) (queue_again names text e k (ended text (queue_body e) same))
+    let text = queue_entry_text d in
+    one_read (queue_line_in names text) d e (queue_again names text d h refl) (queue_again names text e k (ended text (queue_entry_text e) same))
 
-pub plain_call : (object : ObjectId) (c : Callback) → MayHear object c → IsPlain (callback_text c)
+pub plain_call : (nums : Nums) (object : ObjectId) (c : Callback) → MayHear nums object c → IsPlain (callback_text c)
 unfolding call_line_in
-plain_call object c h = plain_read (call_words_in object) (callback_text c) c (call_again object (callback_text c) c h refl)
+plain_call nums object c h = plain_read (call_words_in nums object) (callback_text c) c (call_again nums object (callback_text c) c h refl)
 
-pub same_call : (object : ObjectId) (c d : Callback) → MayHear object c → MayHear object d → callback_text c ≡ callback_text d → c ≡ d
-same_call object c d h k same =
+pub same_call : (nums : Nums) (object : ObjectId) (c d : Callback) → MayHear nums object c → MayHear nums object d → callback_text c ≡ callback_text d → c ≡ d
+same_call nums object c d h k same =
     let text = callback_text c in
-    one_read (call_line_in object text) c d (call_again object text c h refl) (call_again object text d k (ended text (callback_text d) same))
+    one_read (call_line_in nums object text) c d (call_again nums object text c h refl) (call_again nums object text d k (ended text (callback_text d) same))
 
-pub plain_order : (names : NamesData) (o : Order) → MayOrder names o → IsPlain (order_body o)
+pub plain_order : (names : NamesData) (o : Order) → MayOrder names o → IsPlain (given_text o)
 unfolding order_line_in
-plain_order names o h = plain_read (order_words_in names) (order_body o) o (order_line_again names (order_body o) o h refl)
+plain_order names o h = plain_read (order_words_in names) (given_text o) o (order_line_again names (given_text o) o h refl)
 
-pub same_order : (names : NamesData) (o p : Order) → MayOrder names o → MayOrder names p → order_body o ≡ order_body p → o ≡ p
+pub same_order : (names : NamesData) (o p : Order) → MayOrder names o → MayOrder names p → given_text o ≡ given_text p → o ≡ p
 same_order names o p h k same =
-    let text = order_body o in
-    one_read (order_line_in names text) o p (order_line_again names text o h refl) (order_line_again names text p k (ended text (order_body p) same))
+    let text = given_text o in
+    one_read (order_line_in names text) o p (order_line_again names text o h refl) (order_line_again names text p k (ended text (given_text p) same))
 
-pub plain_image : (names : NamesData) (i : LastImage) → IsLastImage names i → IsPlain (image_body i)
+pub plain_image : (names : NamesData) (i : LastImage) → IsLastImage names i → IsPlain (image_text i)
 unfolding image_line_in
-plain_image names i h = plain_read (image_words_in names) (image_body i) i (image_again names (image_body i) i h refl)
+plain_image names i h = plain_read (image_words_in names) (image_text i) i (image_again names (image_text i) i h refl)
 
-pub same_image : (names : NamesData) (i j : LastImage) → IsLastImage names i → IsLastImage names j → image_body i ≡ image_body j → i ≡ j
+pub same_image : (names : NamesData) (i j : LastImage) → IsLastImage names i → IsLastImage names j → image_text i ≡ image_text j → i ≡ j
 same_image names i j h k same =
-    let text = image_body i in
-    one_read (image_line_in names text) i j (image_again names text i h refl) (image_again names text j k (ended text (image_body j) same))
+    let text = image_text i in
+    one_read (image_line_in names text) i j (image_again names text i h refl) (image_again names text j k (ended text (image_text j) same))

@@ -1,13 +1,12 @@
 -- One entry more is taken from the head of a text.
-use Rattle.std.proofs.Common.{◌≡◌, ℕ, suc, ◌+◌, ◌-◌, ◌<◌, ◌≤◌, true, false, List, [], ◌∷◌, ◌++◌, length, map, Option, Some, None, refl, sym, ap, subst, ◌∙◌, append_assoc, length-append, arith}
+use Rattle.std.proofs.Common.{◌≡◌, ℕ, zero, suc, ◌+◌, ◌-◌, ◌<◌, ◌≤◌, false, List, [], ◌∷◌, ◌++◌, length, map, drop, Option, Some, None, inl, inr, refl, sym, ap, subst, ◌∙◌, append_assoc, length-append, arith}
 use Rattle.std.specs.List.{flat_map, All}
 use Rattle.std.proofs.lemmas.List.{append_cancel_right, append-nil, map_push}
 use Rattle.std.proofs.lemmas.List.Elements.{All-push}
 use Rattle.mama_words.specs.Parting.{cut_at}
-use Rattle.std.specs.Prelude.{option_map, IfSome}
-use Rattle.std.specs.Str.{bytes_eq}
-use Rattle.mama_words.proofs.Choices.{some_is, same_text, text_same}
-use Rattle.mama_words.proofs.Cutting.{cut_at_again, cut_at_split}
+use Rattle.std.specs.Prelude.{◌⊎◌, ◌≢◌, option_map, IfSome}
+use Rattle.mama_words.proofs.Choices.{some_is}
+use Rattle.mama_words.proofs.Cutting.{cut_at_again, cut_at_split, decimal_lacks}
 use Rattle.std.proofs.lemmas.List.Concat.{flat_map-append}
 use Rattle.std.proofs.lemmas.List.Elements.{recursion_from_All}
 use Rattle.mama_words.proofs.Choices.{and_then_some}
@@ -16,16 +15,20 @@ use Rattle.mama_event.specs.declared.ids.ObjectId.{ObjectId}
 use Rattle.mama_event.specs.declared.order.Order.{Order}
 use Rattle.mama_event.specs.declared.callback.CallNote.{CallNote}
 use Rattle.mama_record.specs.RunData.{LastImage}
-use Rattle.mama_record.specs.LogText.{callback_text}
+use Rattle.mama_record.specs.LogText.{callback_text, call_texts, given_text, image_text, lines_text}
 use Rattle.mama_log_line.specs.Names.{NamesData}
 use Rattle.mama_log_line.specs.Entering.{MayHear, MayOrder, IsLastImage}
 use Rattle.mama_log_read.specs.Logged.{MayCall}
-use Rattle.mama_log_read.specs.Section.{head_of, HasPlainHead}
+use Rattle.mama_words.specs.declared.version.Version.{Version}
+use Rattle.mama_edge.specs.Decimal.{decimal}
+use Rattle.mama_log_read.specs.Section.{head_of, has_feed, HasPlainHead}
 use Rattle.mama_log_read.specs.declared.section.Section.{Section}
+use Rattle.mama_log_read.specs.declared.section.Told.{Told}
+use Rattle.mama_log_read.specs.declared.section.Told.TheVariants as t
+use Rattle.mama_log_read.proofs.Sections.{plain_join}
 use Rattle.mama_log_read.proofs.Spelled.{plain_image}
-use Rattle.mama_log_read.specs.Part.{order_body, call_bodies, image_body, behind, behind_all, ArePictures}
-use Rattle.mama_log_read.specs.Unfit.{lines_text}
-use Rattle.mama_log_read.specs.Reading.{Stops, AreTaken, AreOrdersTaken, room, IsCallTaken, AreCallsTaken, IsPicture, AreImagesTaken}
+use Rattle.mama_log_read.specs.Part.{behind, behind_all, ArePictures}
+use Rattle.mama_log_read.specs.Reading.{IsTold, Begins, IsTally, Stops, AreTaken, AreOrdersTaken, room, IsCallTaken, AreCallsTaken, IsPicture, AreImagesTaken}
 use Rattle.mama_log_read.proofs.Lines.{IsPlain, ArePlain, lines_text-append, first_line}
 
 pub next_some : {A : Type 0} (May : A → Type 0) (body : A → List ℕ) (text line after : List ℕ) (x : A) → Some (line, after) ≡ cut_at 10 text → May x × (line ++ 10 ∷ [] ≡ body x ++ 10 ∷ []) → May x × (text ≡ body x ++ 10 ∷ after)
@@ -65,43 +68,53 @@ none_next May body plain text line after o cut is again = next_other May body pl
 
 -- no image of an object that is to come, where the line was read as an image of none of them
 pub none_behind_image : {Y : Type 0} (names : NamesData) (objects : List ObjectId) (view : Y → LastImage) (text line after : List ℕ) (o : Option Y) (y : Y) → Some (line, after) ≡ cut_at 10 text → o ≡ Some y → None ≡ behind objects (view y).sub
-    → ((i : LastImage) → IsLastImage names i → line ++ 10 ∷ [] ≡ image_body i ++ 10 ∷ [] → option_map view o ≡ Some i) → Stops (IsPicture names objects) image_body text
+    → ((i : LastImage) → IsLastImage names i → line ++ 10 ∷ [] ≡ image_text i ++ 10 ∷ [] → option_map view o ≡ Some i) → Stops (IsPicture names objects) image_text text
 none_behind_image {Y} names objects view text line after o y cut is none again =
-    next_other (IsPicture names objects) image_body (λ i h. plain_image names i h.0) text line after cut (λ i h e.
+    next_other (IsPicture names objects) image_text (λ i h. plain_image names i h.0) text line after cut (λ i h e.
     let same : Some (view y) ≡ Some i = sym (ap (option_map view) is) ∙ again i h.0 (ap (λ (l : List ℕ). l ++ 10 ∷ []) e) in
     let found : None ≡ Some h.1.0 = none ∙ ap (λ (x : LastImage). behind objects x.sub) (some_is (view y) i same) ∙ h.1.1 in
     none_some h.1.0 found)
 
 pub none_next_image : {Y : Type 0} (names : NamesData) (objects : List ObjectId) (view : Y → LastImage) (text line after : List ℕ) (o : Option Y) → Some (line, after) ≡ cut_at 10 text → o ≡ None
-    → ((i : LastImage) → IsLastImage names i → line ++ 10 ∷ [] ≡ image_body i ++ 10 ∷ [] → option_map view o ≡ Some i) → Stops (IsPicture names objects) image_body text
+    → ((i : LastImage) → IsLastImage names i → line ++ 10 ∷ [] ≡ image_text i ++ 10 ∷ [] → option_map view o ≡ Some i) → Stops (IsPicture names objects) image_text text
 none_next_image {Y} names objects view text line after o cut is again =
-    next_other (IsPicture names objects) image_body (λ i h. plain_image names i h.0) text line after cut (λ i h e.
+    next_other (IsPicture names objects) image_text (λ i h. plain_image names i h.0) text line after cut (λ i h e.
     none_some i (sym (ap (option_map view) is) ∙ again i h.0 (ap (λ (l : List ℕ). l ++ 10 ∷ []) e)))
 
-pub uncut_image : (names : NamesData) (objects : List ObjectId) (text : List ℕ) → None ≡ cut_at 10 text → Stops (IsPicture names objects) image_body text
-uncut_image names objects text cut = next_uncut (IsPicture names objects) image_body (λ i h. plain_image names i h.0) text cut
+pub uncut_image : (names : NamesData) (objects : List ObjectId) (text : List ℕ) → None ≡ cut_at 10 text → Stops (IsPicture names objects) image_text text
+uncut_image names objects text cut = next_uncut (IsPicture names objects) image_text (λ i h. plain_image names i h.0) text cut
 
 pub image_next : {Y : Type 0} (names : NamesData) (objects left : List ObjectId) (view : Y → LastImage) (text line after : List ℕ) (o : Option Y) (y : Y) → Some (line, after) ≡ cut_at 10 text → o ≡ Some y → Some left ≡ behind objects (view y).sub
-    → IfSome o (λ e. IsLastImage names (view e) × (line ++ 10 ∷ [] ≡ image_body (view e) ++ 10 ∷ [])) → IsLastImage names (view y) × (behind objects (view y).sub ≡ Some left) × (text ≡ image_body (view y) ++ 10 ∷ after)
+    → IfSome o (λ e. IsLastImage names (view e) × (line ++ 10 ∷ [] ≡ image_text (view e) ++ 10 ∷ [])) → IsLastImage names (view y) × (behind objects (view y).sub ≡ Some left) × (text ≡ image_text (view y) ++ 10 ∷ after)
 image_next names objects left view text line after o y cut is there found =
-    let n = some_next (λ e. IsLastImage names (view e)) (λ e. image_body (view e)) text line after o y cut is found in
+    let n = some_next (λ e. IsLastImage names (view e)) (λ e. image_text (view e)) text line after o y cut is found in
     (n.0, sym there, n.1)
 
 -- ---- the line that begins a section
 
-pub head_found : (section : Section) (text line after slice items : List ℕ) → Some (line, after) ≡ cut_at 10 text → true ≡ bytes_eq line slice → slice ≡ items → items ≡ head_of section → text ≡ head_of section ++ 10 ∷ after
-head_found section text line after slice items cut same s i =
-    cut_at_split 10 text (line, after) (sym cut) ∙ ap (λ (l : List ℕ). l ++ 10 ∷ after) (same_text line slice (sym same) ∙ s ∙ i)
+-- the first line of a section is one line
+begun_plain : (v : Version) (section : Section) (line : List ℕ) → HasPlainHead section → Begins v section line → has_feed line ≡ false
+begun_plain v section line plain begins = by begins.0 begins.1
+  where
+    P : List ℕ → Type 0
+    P x = has_feed x ≡ false
 
-pub head_other : (section : Section) (text line after slice items : List ℕ) → Some (line, after) ≡ cut_at 10 text → false ≡ bytes_eq line slice → slice ≡ items → items ≡ head_of section → (more : List ℕ) → HasPlainHead section → text ≡ head_of section ++ 10 ∷ more → ⊥
-head_other section text line after slice items cut other s i more plain e =
-    let both : (line, after) ≡ (head_of section, more) = some_is (line, after) (head_of section, more) (cut ∙ ap (cut_at 10) e ∙ cut_at_again 10 (head_of section) more plain) in
-    let same : line ≡ slice = ap (λ (p : List ℕ × List ℕ). p.0) both ∙ sym (s ∙ i) in
-    let wrong : false ≡ true = other ∙ text_same line slice same in
-    cc
+    by : (told : Told) → IsTold v section told line → has_feed line ≡ false
+    by t.Nothing h = subst P (sym h.1) plain
+    by (t.Lines count) h = subst P (sym h.2) (plain_join (head_of section) (32 ∷ decimal count) plain (decimal_lacks 10 count refl h.1))
 
-pub head_uncut : (section : Section) (text : List ℕ) → None ≡ cut_at 10 text → (more : List ℕ) → HasPlainHead section → text ≡ head_of section ++ 10 ∷ more → ⊥
-head_uncut section text cut more plain e = no_cut (head_of section, more) (cut ∙ ap (cut_at 10) e ∙ cut_at_again 10 (head_of section) more plain)
+-- what stands behind the line that was read
+pub head_found : (v : Version) (section : Section) (text line after : List ℕ) (told : Told) → Some (line, after) ≡ cut_at 10 text → IsTold v section told line → (l : List ℕ) × IsTold v section told l × (text ≡ l ++ 10 ∷ after)
+head_found v section text line after told cut tells = (line, tells, cut_at_split 10 text (line, after) (sym cut))
+
+pub head_other : (v : Version) (section : Section) (text line after : List ℕ) → Some (line, after) ≡ cut_at 10 text → (Begins v section line → ⊥) → (l more : List ℕ) → HasPlainHead section → Begins v section l → text ≡ l ++ 10 ∷ more → ⊥
+head_other v section text line after cut none l more plain begins e =
+    let both : (line, after) ≡ (l, more) = some_is (line, after) (l, more) (cut ∙ ap (cut_at 10) e ∙ cut_at_again 10 l more (begun_plain v section l plain begins)) in
+    let P : List ℕ → Type 0 = λ x. Begins v section x in
+    none (subst P (sym (ap (λ (p : List ℕ × List ℕ). p.0) both)) begins)
+
+pub head_uncut : (v : Version) (section : Section) (text : List ℕ) → None ≡ cut_at 10 text → (l more : List ℕ) → HasPlainHead section → Begins v section l → text ≡ l ++ 10 ∷ more → ⊥
+head_uncut v section text cut l more plain begins e = no_cut (l, more) (cut ∙ ap (cut_at 10) e ∙ cut_at_again 10 l more (begun_plain v section l plain begins))
 
 -- the text of lines with one more
 pub text_push : (ls : List (List ℕ)) (l after : List ℕ) → lines_text ls ++ (l ++ 10 ∷ after) ≡ lines_text (ls ++ l ∷ []) ++ after
@@ -134,22 +147,22 @@ all_taken May body text xs rest so_far stops = record { each = so_far.each; take
 
 -- ---- orders and callbacks
 
-pub orders_taken : (names : NamesData) (text : List ℕ) (orders : List Order) (rest : List ℕ) → SoFar (MayOrder names) order_body text orders rest → (length orders < 8 → Stops (MayOrder names) order_body rest) → AreOrdersTaken names text orders rest
+pub orders_taken : (names : NamesData) (text : List ℕ) (orders : List Order) (rest : List ℕ) → SoFar (MayOrder names) given_text text orders rest → (length orders < 8 → Stops (MayOrder names) given_text rest) → AreOrdersTaken names text orders rest
 orders_taken names text orders rest so_far stops = record { each = so_far.each; taken = so_far.taken; stops = stops }
 
-pub call_taken : (names : NamesData) (object : ObjectId) (text after rest : List ℕ) (c : CallNote) → MayHear object c.call × (text ≡ callback_text c.call ++ 10 ∷ after) → AreOrdersTaken names after c.orders rest → length c.orders ≤ 8 → IsCallTaken names object text c rest
+pub call_taken : (names : NamesData) (object : ObjectId) (text after rest : List ℕ) (c : CallNote) → MayHear names.nums object c.call × (text ≡ callback_text c.call ++ 10 ∷ after) → AreOrdersTaken names after c.orders rest → length c.orders ≤ 8 → IsCallTaken names object text c rest
 call_taken names object text after rest c head orders few = record {
   may = record { call = head.0; orders = orders.each; few = few };
   taken =
       head.1 ∙ ap (λ (t : List ℕ). callback_text c.call ++ 10 ∷ t) orders.taken
-      ∙ sym (first_line (callback_text c.call) (map order_body c.orders) rest);
+      ∙ sym (first_line (callback_text c.call) (map given_text c.orders) rest);
   stops = orders.stops;
 }
 
 pub record CallsSoFar (names : NamesData) (object : ObjectId) (text : List ℕ) (calls : List CallNote) (rest : List ℕ) : Type 0 where
   pub each : All (MayCall names object) calls
-  pub taken : text ≡ lines_text (flat_map call_bodies calls) ++ rest
-  pub orders : 0 < room calls → Stops (MayOrder names) order_body rest
+  pub taken : text ≡ lines_text (flat_map call_texts calls) ++ rest
+  pub orders : 0 < room calls → Stops (MayOrder names) given_text rest
 
 room_push : (calls : List CallNote) (c : CallNote) → room (calls ++ c ∷ []) ≡ 8 - length c.orders
 room_push [] c = refl
@@ -163,27 +176,27 @@ call_more names object text calls grown c rest after so_far next e =
     subst P (sym e) (record {
       each = All-push (MayCall names object) calls c so_far.each next.may;
       taken =
-          so_far.taken ∙ ap (λ (t : List ℕ). lines_text (flat_map call_bodies calls) ++ t) next.taken
-          ∙ sym (append_assoc (lines_text (flat_map call_bodies calls)) (lines_text (call_bodies c)) after)
-          ∙ ap (λ (t : List ℕ). t ++ after) (sym (lines_text-append (flat_map call_bodies calls) (call_bodies c)))
-          ∙ ap (λ (ls : List (List ℕ)). lines_text (flat_map call_bodies calls ++ ls) ++ after) (sym (append-nil (call_bodies c)))
-          ∙ ap (λ (ls : List (List ℕ)). lines_text ls ++ after) (sym (flat_map-append call_bodies calls (c ∷ [])));
+          so_far.taken ∙ ap (λ (t : List ℕ). lines_text (flat_map call_texts calls) ++ t) next.taken
+          ∙ sym (append_assoc (lines_text (flat_map call_texts calls)) (lines_text (call_texts c)) after)
+          ∙ ap (λ (t : List ℕ). t ++ after) (sym (lines_text-append (flat_map call_texts calls) (call_texts c)))
+          ∙ ap (λ (ls : List (List ℕ)). lines_text (flat_map call_texts calls ++ ls) ++ after) (sym (append-nil (call_texts c)))
+          ∙ ap (λ (ls : List (List ℕ)). lines_text ls ++ after) (sym (flat_map-append call_texts calls (c ∷ [])));
       orders = λ some. next.stops (omega (arith, some, r));
     })
 
 pub call_shorter : (names : NamesData) (object : ObjectId) (rest after : List ℕ) (c : CallNote) → IsCallTaken names object rest c after → length after < length rest
 call_shorter names object rest after c h =
-    let e : rest ≡ callback_text c.call ++ 10 ∷ (lines_text (map order_body c.orders) ++ after) = h.taken ∙ first_line (callback_text c.call) (map order_body c.orders) after in
+    let e : rest ≡ callback_text c.call ++ 10 ∷ (lines_text (map given_text c.orders) ++ after) = h.taken ∙ first_line (callback_text c.call) (map given_text c.orders) after in
     omega (arith, simp length-append at (ap length e))
 
-pub calls_taken : (names : NamesData) (object : ObjectId) (text : List ℕ) (calls : List CallNote) (rest : List ℕ) → CallsSoFar names object text calls rest → Stops (MayHear object) callback_text rest → AreCallsTaken names object text calls rest
+pub calls_taken : (names : NamesData) (object : ObjectId) (text : List ℕ) (calls : List CallNote) (rest : List ℕ) → CallsSoFar names object text calls rest → Stops (MayHear names.nums object) callback_text rest → AreCallsTaken names object text calls rest
 calls_taken names object text calls rest so_far stops = record { each = so_far.each; taken = so_far.taken; stops = stops; orders = so_far.orders }
 
 -- ---- images
 
 pub record ImagesSoFar (names : NamesData) (objects : List ObjectId) (text : List ℕ) (images : List LastImage) (left : List ObjectId) (rest : List ℕ) : Type 0 where
   pub pictures : ArePictures names objects images left
-  pub taken : text ≡ lines_text (map image_body images) ++ rest
+  pub taken : text ≡ lines_text (map image_text images) ++ rest
 
 behind_push : (objects : List ObjectId) (subs : List SubId) (sub : SubId) (left later : List ObjectId) → behind_all objects subs ≡ Some left → behind left sub ≡ Some later → behind_all objects (subs ++ sub ∷ []) ≡ Some later
 behind_push objects [] sub left later h k =
@@ -194,7 +207,7 @@ behind_push objects (s ∷ subs) sub left later h k =
     rw p.1 (behind_push p.0 subs sub left later p.2 k)
 
 pub image_more : (names : NamesData) (objects : List ObjectId) (text : List ℕ) (images grown : List LastImage) (left later : List ObjectId) (i : LastImage) (rest after : List ℕ) → ImagesSoFar names objects text images left rest
-    → IsLastImage names i × (behind left i.sub ≡ Some later) × (rest ≡ image_body i ++ 10 ∷ after) → grown ≡ images ++ i ∷ [] → ImagesSoFar names objects text grown later after
+    → IsLastImage names i × (behind left i.sub ≡ Some later) × (rest ≡ image_text i ++ 10 ∷ after) → grown ≡ images ++ i ∷ [] → ImagesSoFar names objects text grown later after
 image_more names objects text images grown left later i rest after so_far next e =
     let P : List LastImage → Type 0 = λ is. ImagesSoFar names objects text is later after in
     let sub : LastImage → SubId = λ x. x.sub in
@@ -204,11 +217,11 @@ image_more names objects text images grown left later i rest after so_far next e
         ordered = ap (behind_all objects) (map_push sub images i) ∙ behind_push objects (map sub images) i.sub left later so_far.pictures.ordered next.1;
       };
       taken =
-          so_far.taken ∙ ap (λ (t : List ℕ). lines_text (map image_body images) ++ t) next.2 ∙ text_push (map image_body images) (image_body i) after
-          ∙ ap (λ (ls : List (List ℕ)). lines_text ls ++ after) (sym (map_push image_body images i));
+          so_far.taken ∙ ap (λ (t : List ℕ). lines_text (map image_text images) ++ t) next.2 ∙ text_push (map image_text images) (image_text i) after
+          ∙ ap (λ (ls : List (List ℕ)). lines_text ls ++ after) (sym (map_push image_text images i));
     })
 
-pub images_taken : (names : NamesData) (objects : List ObjectId) (text : List ℕ) (images : List LastImage) (left : List ObjectId) (rest : List ℕ) → ImagesSoFar names objects text images left rest → Stops (IsPicture names left) image_body rest
+pub images_taken : (names : NamesData) (objects : List ObjectId) (text : List ℕ) (images : List LastImage) (left : List ObjectId) (rest : List ℕ) → ImagesSoFar names objects text images left rest → Stops (IsPicture names left) image_text rest
     → AreImagesTaken names objects text images rest
 images_taken names objects text images left rest so_far stops = record { left = left; pictures = so_far.pictures; taken = so_far.taken; stops = stops }
 
@@ -271,3 +284,96 @@ pub counting_stops : (text left rest : List ℕ) (number : ℕ) → length rest 
 counting_stops text left rest number more none h lines plain e =
     let c = h.counts lines plain e in
     absurd (feed_left left rest c.behind c.plain more c.spelled none)
+
+-- ---- lines are passed over
+
+-- what is left behind so many lines
+pub record IsPast (text left : List ℕ) (count : ℕ) : Type 0 where
+  pub past : (lines : List (List ℕ)) (rest : List ℕ) → All IsPlain lines → count ≤ length lines → text ≡ lines_text lines ++ rest → left ≡ lines_text (drop count lines) ++ rest
+
+pub past_none : (text : List ℕ) → IsPast text text 0
+past_none text = record { past = λ lines rest plain few e. e }
+
+-- the line behind so many
+record NextLine (lines : List (List ℕ)) (i : ℕ) : Type 0 where
+  pub line : List ℕ
+  pub is : drop i lines ≡ line ∷ drop (i + 1) lines
+  pub plain : IsPlain line
+
+next_line : (lines : List (List ℕ)) (i : ℕ) → ArePlain lines → i < length lines → NextLine lines i
+next_line [] i plain few = absurd (omega (arith, few))
+next_line (l ∷ ls) zero plain few = record { line = l; is = refl; plain = plain.0 }
+next_line (l ∷ ls) (suc i) plain few =
+    let n = next_line ls i plain.1 (omega (arith, few)) in
+    let next : suc (i + 1) ≡ suc i + 1 = omega arith in
+    record { line = n.line; is = n.is ∙ ap (λ (k : ℕ). n.line ∷ drop k (l ∷ ls)) next; plain = n.plain }
+
+at_next : (left line behind : List ℕ) (ls : List (List ℕ)) (rest : List ℕ) → left ≡ lines_text (line ∷ ls) ++ rest → IsPlain line → cut_at 10 left ≡ Some (line, lines_text ls ++ rest)
+at_next left line behind ls rest e plain = ap (cut_at 10) (e ∙ first_line line ls rest) ∙ cut_at_again 10 line (lines_text ls ++ rest) plain
+
+pub past_more : (text left line after : List ℕ) (count : ℕ) → Some (line, after) ≡ cut_at 10 left → IsPast text left count → IsPast text after (count + 1)
+past_more text left line after count cut h = record {
+  past = λ lines rest plain few e.
+      let n = next_line lines count (recursion_from_All IsPlain lines plain) (omega (arith, few)) in
+      let here : left ≡ lines_text (n.line ∷ drop (count + 1) lines) ++ rest = h.past lines rest plain (omega (arith, few)) e ∙ ap (λ (ls : List (List ℕ)). lines_text ls ++ rest) n.is in
+      let both : (line, after) ≡ (n.line, lines_text (drop (count + 1) lines) ++ rest) =
+      some_is (line, after) (n.line, lines_text (drop (count + 1) lines) ++ rest) (cut ∙ at_next left n.line after (drop (count + 1) lines) rest here n.plain) in
+      ap (λ (p : List ℕ × List ℕ). p.1) both;
+}
+
+-- with no line there, fewer were there than were to be passed
+pub past_stops : (text left : List ℕ) (i count : ℕ) → None ≡ cut_at 10 left → i < count → IsPast text left i → (lines : List (List ℕ)) (rest : List ℕ) → All IsPlain lines → count ≤ length lines → text ≡ lines_text lines ++ rest → left ≡ lines_text (drop count lines) ++ rest
+past_stops text left i count none lt h lines rest plain few e =
+    let n = next_line lines i (recursion_from_All IsPlain lines plain) (omega (arith, lt, few)) in
+    let here : left ≡ lines_text (n.line ∷ drop (i + 1) lines) ++ rest = h.past lines rest plain (omega (arith, lt, few)) e ∙ ap (λ (ls : List (List ℕ)). lines_text ls ++ rest) n.is in
+    absurd (no_cut (n.line, lines_text (drop (i + 1) lines) ++ rest) (none ∙ at_next left n.line left (drop (i + 1) lines) rest here n.plain))
+
+pub past_all : (text left : List ℕ) (i count : ℕ) → i ≡ count → IsPast text left i → (lines : List (List ℕ)) (rest : List ℕ) → All IsPlain lines → count ≤ length lines → text ≡ lines_text lines ++ rest → left ≡ lines_text (drop count lines) ++ rest
+past_all text left i count all h lines rest plain few e = let P : ℕ → Type 0 = λ k. IsPast text left k in (subst P all h).past lines rest plain few e
+
+-- past as many as were told, or past all
+drop_past : (count : ℕ) (lines : List (List ℕ)) → length lines ≤ count → drop count lines ≡ []
+drop_past zero [] h = refl
+drop_past zero (l ∷ ls) h = absurd (omega (arith, h))
+drop_past (suc count) [] h = refl
+drop_past (suc count) (l ∷ ls) h = drop_past count ls (omega (arith, h))
+
+pub drop_fewer : (count fewer : ℕ) (lines : List (List ℕ)) → (fewer ≡ count) ⊎ ((fewer ≡ length lines) × (length lines ≤ count)) → drop fewer lines ≡ drop count lines
+drop_fewer count fewer lines (inl same) = ap (λ (k : ℕ). drop k lines) same
+drop_fewer count fewer lines (inr past) = drop_past fewer lines (let e = past.0 in omega (arith, e)) ∙ sym (drop_past count lines past.1)
+
+-- ---- the number of lines that was told
+
+abbrev AreLines : List ℕ → List ℕ → List (List ℕ) → Type 0
+AreLines entries after lines = entries ≡ lines_text lines ++ after
+
+pub tally_nothing : (told : Told) (entries after : List ℕ) → told ≡ t.Nothing → (lines : List (List ℕ)) → All IsPlain lines → AreLines entries after lines → IsTally told (length lines)
+tally_nothing told entries after is lines plain e = let P : Told → Type 0 = λ x. IsTally x (length lines) in subst P (sym is) tt
+
+pub tally_same : (told : Told) (count read number : ℕ) (entries after : List ℕ) → told ≡ t.Lines count → read ≡ number - 1 → count ≡ read → ((lines : List (List ℕ)) → All IsPlain lines → AreLines entries after lines → number ≡ suc (length lines))
+    → (lines : List (List ℕ)) → All IsPlain lines → AreLines entries after lines → IsTally told (length lines)
+tally_same told count read number entries after is one same counted lines plain e =
+    let P : Told → Type 0 = λ x. IsTally x (length lines) in
+    let n = counted lines plain e in
+    subst P (sym is) (let same_count : count ≡ length lines = omega (arith, one, same, n) in same_count)
+
+pub tally_other : (told : Told) (count read number fewer : ℕ) (entries after rest : List ℕ) → told ≡ t.Lines count → read ≡ number - 1 → (count ≡ read → ⊥) → ((fewer ≡ count) × (count ≤ read)) ⊎ ((fewer ≡ read) × (read ≤ count))
+    → ((lines : List (List ℕ)) → All IsPlain lines → AreLines entries after lines → number ≡ suc (length lines))
+    → ((lines : List (List ℕ)) (behind : List ℕ) → All IsPlain lines → fewer ≤ length lines → entries ≡ lines_text lines ++ behind → rest ≡ lines_text (drop fewer lines) ++ behind)
+    → (lines : List (List ℕ)) → All IsPlain lines → AreLines entries after lines → (k : ℕ) × (told ≡ t.Lines k) × (k ≢ length lines) × (rest ≡ lines_text (drop k lines) ++ after)
+tally_other told count read number fewer entries after rest is one other least counted past lines plain e =
+    let n = counted lines plain e in
+    let read_is : read ≡ length lines = omega (arith, one, n) in (
+      count,
+      is,
+      λ same. other (same ∙ sym read_is),
+      past lines after plain (within least read_is) e ∙ ap (λ (ls : List (List ℕ)). lines_text ls ++ after) (drop_fewer count fewer lines (either least read_is)),
+    )
+  where
+    within : ((fewer ≡ count) × (count ≤ read)) ⊎ ((fewer ≡ read) × (read ≤ count)) → read ≡ length lines → fewer ≤ length lines
+    within (inl e) r = omega (arith, e.0, e.1, r)
+    within (inr e) r = omega (arith, e.0, r)
+
+    either : ((fewer ≡ count) × (count ≤ read)) ⊎ ((fewer ≡ read) × (read ≤ count)) → read ≡ length lines → (fewer ≡ count) ⊎ ((fewer ≡ length lines) × (length lines ≤ count))
+    either (inl e) r = inl e.0
+    either (inr e) r = inr (e.0 ∙ r, omega (arith, e.1, r))

@@ -1,26 +1,27 @@
 -- A record is its parts, and the text of the parts is its log.
-use Rattle.std.proofs.Common.{◌≡◌, ℕ, zero, suc, List, [], ◌∷◌, ◌++◌, length, map, refl, sym, ap, subst, ◌∙◌, append_assoc}
+use Rattle.std.proofs.Common.{◌≡◌, ℕ, zero, suc, true, List, [], ◌∷◌, ◌++◌, length, map, refl, sym, ap, subst, ◌∙◌, append_assoc}
 use Rattle.std.specs.Prelude.{codes}
 use Rattle.std.specs.List.{flat_map, All, AllByRecursion}
 use Rattle.std.proofs.lemmas.List.{append-nil}
+use Rattle.std.proofs.lemmas.List.Concat.{flat_map-append}
 use Rattle.mama_event.specs.declared.ids.ObjectId.{ObjectId}
-use Rattle.mama_event.specs.declared.callback.CallNote.{CallNote}
 use Rattle.mama_event.specs.declared.shape.Shape.{Shape}
+use Rattle.mama_event.specs.declared.shape.Strategy.{Strategy}
+use Rattle.mama_words.specs.declared.version.Version.{Version}
+use Rattle.mama_words.specs.declared.version.Version.TheVariants as version
 use Rattle.mama_event.specs.declared.to_bridge.BridgeNote.{BridgeNote}
 use Rattle.mama_event.specs.declared.to_timers.TimersNote.{TimersNote}
 use Rattle.mama_event.specs.declared.to_queue.QueueNote.{QueueNote}
 use Rattle.mama_event.specs.declared.publisher_entry.PublisherEntry.{PublisherEntry}
 use Rattle.mama_record.specs.RunData.{RunData, ObjectCalls, LastImage}
-use Rattle.mama_record.specs.LogText.{line, numbered, client_section, publisher_section, queue_section, object_section, call_lines, bridge_entry_line, timers_entry_line, publisher_entry_text, callback_text, image_line, log_text}
+use Rattle.mama_record.specs.LogText.{LogSection, lines_text, client_section, publisher_section, bridge_section, timers_section, queue_section, object_section, images_section, numbered, log_sections, counted, title, log_lines, log_text}
 use Rattle.mama_log_line.specs.Names.{NamesData}
 use Rattle.mama_log_line.specs.Entering.{MayEnterPublisher, MayEnterBridge, MayEnterTimers, MayEnterQueue}
 use Rattle.mama_log_read.specs.Logged.{IsMoment, MayHearAll}
-use Rattle.mama_log_read.specs.Unfit.{lines_text}
-use Rattle.mama_log_read.specs.Section.{head_of, numbered_from}
-use Rattle.mama_log_read.specs.Part.{Part, Bare, Moments, Sends, OnBridge, OnTimers, OnQueue, Heard, Pictures, Filled, Fits, FitsIn, ArePictures, lines_of, all_lines, call_bodies, order_body, clock_body, nothing, put, run_after}
+use Rattle.mama_log_read.specs.Section.{head_of, has_count, titles, numbered_from}
+use Rattle.mama_log_read.specs.Part.{Part, Bare, Moments, Sends, OnBridge, OnTimers, OnQueue, Heard, Pictures, Filled, Fits, FitsIn, ArePictures, bodies, lines_of, all_lines, nothing, put, run_after}
 use Rattle.mama_log_read.specs.declared.section.Section.{Section}
 use Rattle.mama_log_read.specs.declared.section.Section.TheVariants as s
-use Rattle.mama_log_read.proofs.Lines.{lines_text-append}
 
 -- ---- the parts of a record
 
@@ -34,97 +35,105 @@ heard_part c = (s.Object c.object, Heard c)
 abbrev pub last_parts : List LastImage → List Filled
 last_parts images = (s.Images, Pictures images) ∷ (s.End, Bare) ∷ []
 
-abbrev pub parts_of : RunData → List Filled
-parts_of run =
-    (s.Title, Bare) ∷ (numbered_parts s.Client Moments 0 run.clients ++ (numbered_parts s.Publisher Sends 0 run.publishers ++ (
-    (s.Bridge, OnBridge run.bridge) ∷ (s.Timers, OnTimers run.timers) ∷ (numbered_parts s.Queue OnQueue 0 run.queues ++ (map heard_part run.calls ++ last_parts run.images)))))
+abbrev pub title_parts : Version → Strategy → List Filled
+title_parts version.One strategy = (s.Title version.One, Bare) ∷ []
+title_parts version.Two strategy = (s.Title version.Two, Bare) ∷ (s.Strategy strategy, Bare) ∷ []
 
--- ---- the text of the parts
+-- those behind the titles
+abbrev pub body_parts : RunData → List Filled
+body_parts run =
+    numbered_parts s.Client Moments 0 run.clients ++ (numbered_parts s.Publisher Sends 0 run.publishers ++ (
+    (s.Bridge, OnBridge run.bridge) ∷ (s.Timers, OnTimers run.timers) ∷ (numbered_parts s.Queue OnQueue 0 run.queues ++ (map heard_part run.calls ++ last_parts run.images))))
 
-abbrev pub parts_text : Shape → List Filled → List ℕ
-parts_text shape fs = lines_text (all_lines shape fs)
+abbrev pub parts_of : Version → Strategy → RunData → List Filled
+parts_of v strategy run = title_parts v strategy ++ body_parts run
 
-mapped_text : {A : Type 0} (body : A → List ℕ) (xs : List A) → lines_text (map body xs) ≡ flat_map (λ x. line (body x)) xs
-mapped_text body [] = refl
-mapped_text body (x ∷ xs) = ap (λ (t : List ℕ). line (body x) ++ t) (mapped_text body xs)
+-- ---- the lines of the parts
 
-calls_text : (calls : List CallNote) → lines_text (flat_map call_bodies calls) ≡ flat_map call_lines calls
-calls_text [] = refl
-calls_text (c ∷ calls) =
-    lines_text-append (call_bodies c) (flat_map call_bodies calls)
-    ∙ ap (λ (t : List ℕ). (line (callback_text c.call) ++ t) ++ lines_text (flat_map call_bodies calls)) (mapped_text order_body c.orders)
-    ∙ ap (λ (t : List ℕ). call_lines c ++ t) (calls_text calls)
+pub lines-append : (v : Version) (shape : Shape) (fs ws : List Filled) → all_lines v shape (fs ++ ws) ≡ all_lines v shape fs ++ all_lines v shape ws
+lines-append v shape fs ws = flat_map-append (lines_of v shape) fs ws
 
--- the text of one part before others
-one_text : (shape : Shape) (f : Filled) (fs : List Filled) (text : List ℕ) → lines_text (lines_of shape f) ≡ text → parts_text shape (f ∷ fs) ≡ text ++ parts_text shape fs
-one_text shape f fs text e = lines_text-append (lines_of shape f) (all_lines shape fs) ∙ ap (λ (t : List ℕ). t ++ parts_text shape fs) e
+-- a section as a log has it
+abbrev pub shown : Shape → Filled → LogSection
+shown shape f = record { head = head_of f.0; lines = bodies shape f.1 }
 
-numbered_text : {A : Type 0} (shape : Shape) (section : ℕ → Section) (wrap : A → Part) (text : ℕ → A → List ℕ) → ((n : ℕ) (x : A) → lines_text (lines_of shape (section n, wrap x)) ≡ text n x)
-    → (n : ℕ) (xs : List A) (fs : List Filled) → parts_text shape (numbered_parts section wrap n xs ++ fs) ≡ numbered text n xs ++ parts_text shape fs
-numbered_text shape section wrap text each n [] fs = refl
-numbered_text shape section wrap text each n (x ∷ xs) fs =
-    one_text shape (section n, wrap x) (numbered_parts section wrap (suc n) xs ++ fs) (text n x) (each n x)
-    ∙ ap (λ (t : List ℕ). text n x ++ t) (numbered_text shape section wrap text each (suc n) xs fs)
-    ∙ sym (append_assoc (text n x) (numbered text (suc n) xs) (parts_text shape fs))
+-- a section whose lines are counted
+pub counted_lines : (v : Version) (shape : Shape) (f : Filled) → has_count version.Two f.0 ≡ true → lines_of v shape f ≡ counted v (shown shape f)
+counted_lines version.One shape f h = ap (λ (x : List ℕ). x ∷ bodies shape f.1) (sym (append-nil (head_of f.0)))
+counted_lines version.Two shape f h = rw h refl
 
-client_text : (shape : Shape) (n : ℕ) (moments : List ℕ) → lines_text (lines_of shape (s.Client n, Moments moments)) ≡ client_section n moments
-client_text shape n moments = ap (λ (t : List ℕ). line (head_of (s.Client n)) ++ t) (mapped_text clock_body moments)
+-- the lines of some sections of a log
+abbrev pub section_lines : Version → List LogSection → List (List ℕ)
+section_lines v ss = flat_map (counted v) ss
 
-publisher_text : (shape : Shape) (n : ℕ) (entries : List PublisherEntry) → lines_text (lines_of shape (s.Publisher n, Sends entries)) ≡ publisher_section n entries
-publisher_text shape n entries = ap (λ (t : List ℕ). line (head_of (s.Publisher n)) ++ t) (mapped_text publisher_entry_text entries)
+numbered_lines : {A : Type 0} (v : Version) (shape : Shape) (section : ℕ → Section) (wrap : A → Part) (own : ℕ → A → LogSection) → ((n : ℕ) → has_count version.Two (section n) ≡ true) → ((n : ℕ) (x : A) → shown shape (section n, wrap x) ≡ own n x)
+    → (n : ℕ) (xs : List A) → all_lines v shape (numbered_parts section wrap n xs) ≡ section_lines v (numbered own n xs)
+numbered_lines v shape section wrap own has each n [] = refl
+numbered_lines v shape section wrap own has each n (x ∷ xs) =
+    ap (λ (t : List (List ℕ)). t ++ all_lines v shape (numbered_parts section wrap (suc n) xs)) (counted_lines v shape (section n, wrap x) (has n) ∙ ap (counted v) (each n x))
+    ∙ ap (λ (t : List (List ℕ)). counted v (own n x) ++ t) (numbered_lines v shape section wrap own has each (suc n) xs)
 
-queue_text : (shape : Shape) (n : ℕ) (entries : List (ℕ × QueueNote)) → lines_text (lines_of shape (s.Queue n, OnQueue entries)) ≡ queue_section n entries
-queue_text shape n entries = ap (λ (t : List ℕ). line (head_of (s.Queue n)) ++ t) (mapped_text _ entries)
+heard_lines : (v : Version) (shape : Shape) (calls : List ObjectCalls) → all_lines v shape (map heard_part calls) ≡ section_lines v (map object_section calls)
+heard_lines v shape [] = refl
+heard_lines v shape (c ∷ calls) =
+    ap (λ (t : List (List ℕ)). t ++ all_lines v shape (map heard_part calls)) (counted_lines v shape (heard_part c) refl)
+    ∙ ap (λ (t : List (List ℕ)). counted v (object_section c) ++ t) (heard_lines v shape calls)
 
-heard_text : (shape : Shape) (calls : List ObjectCalls) (fs : List Filled) → parts_text shape (map heard_part calls ++ fs) ≡ flat_map object_section calls ++ parts_text shape fs
-heard_text shape [] fs = refl
-heard_text shape (c ∷ calls) fs =
-    one_text shape (heard_part c) (map heard_part calls ++ fs) (object_section c) (ap (λ (t : List ℕ). line (head_of (s.Object c.object)) ++ t) (calls_text c.calls))
-    ∙ ap (λ (t : List ℕ). object_section c ++ t) (heard_text shape calls fs)
-    ∙ sym (append_assoc (object_section c) (flat_map object_section calls) (parts_text shape fs))
+abbrev end : List (List ℕ)
+end = codes "end" ∷ []
 
-last_text : (shape : Shape) (images : List LastImage) → parts_text shape (last_parts images) ≡ line (codes "images") ++ (flat_map image_line images ++ line (codes "end"))
-last_text shape images =
-    one_text shape (s.Images, Pictures images) ((s.End, Bare) ∷ []) (line (codes "images") ++ flat_map image_line images) (ap (λ (t : List ℕ). line (codes "images") ++ t) (mapped_text _ images))
-    ∙ append_assoc (line (codes "images")) (flat_map image_line images) (line (codes "end") ++ [])
-    ∙ ap (λ (t : List ℕ). line (codes "images") ++ (flat_map image_line images ++ t)) (append-nil (line (codes "end")))
+end_lines : (v : Version) (shape : Shape) → lines_of v shape (s.End, Bare) ≡ end
+end_lines version.One shape = refl
+end_lines version.Two shape = refl
 
-regroup : (a b c d e f g h i j k l : List ℕ) → a ++ b ++ c ++ d ++ e ++ f ++ g ++ h ++ i ++ j ++ k ++ l ≡ a ++ (b ++ (c ++ (d ++ (e ++ (f ++ (g ++ (h ++ (i ++ (j ++ (k ++ l))))))))))
-regroup a b c d e f g h i j k l = simp append_assoc
+last_lines : (v : Version) (shape : Shape) (images : List LastImage) → all_lines v shape (last_parts images) ≡ section_lines v (images_section images ∷ []) ++ end
+last_lines v shape images =
+    let own = lines_of v shape (s.Images, Pictures images) in
+    ap (λ (t : List (List ℕ)). own ++ t) (append-nil (lines_of v shape (s.End, Bare)) ∙ end_lines v shape)
+    ∙ ap (λ (t : List (List ℕ)). t ++ end) (counted_lines v shape (s.Images, Pictures images) refl ∙ sym (append-nil (counted v (images_section images))))
 
--- the text of a record's parts is its log
-pub parts_spell : (shape : Shape) (run : RunData) → parts_text shape (parts_of run) ≡ log_text shape run
-parts_spell shape run =
-    let a = line (codes "mama log 1") in
-    let b = numbered client_section 0 run.clients in
-    let c = numbered publisher_section 0 run.publishers in
-    let d = line (codes "bridge") in
-    let e = flat_map (bridge_entry_line shape) run.bridge in
-    let f = line (codes "timers") in
-    let g = flat_map (timers_entry_line shape) run.timers in
-    let h = numbered queue_section 0 run.queues in
-    let i = flat_map object_section run.calls in
-    let j = line (codes "images") in
-    let k = flat_map image_line run.images in
-    let l = line (codes "end") in
+-- parts in front of others
+in_front : (v : Version) (shape : Shape) (fs ws : List Filled) (ss ts : List LogSection) → all_lines v shape fs ≡ section_lines v ss → all_lines v shape ws ≡ section_lines v ts ++ end → all_lines v shape (fs ++ ws) ≡ section_lines v (ss ++ ts) ++ end
+in_front v shape fs ws ss ts h k =
+    lines-append v shape fs ws ∙ ap (λ (t : List (List ℕ)). t ++ all_lines v shape ws) h ∙ ap (λ (t : List (List ℕ)). section_lines v ss ++ t) k
+    ∙ sym (append_assoc (section_lines v ss) (section_lines v ts) end) ∙ ap (λ (t : List (List ℕ)). t ++ end) (sym (flat_map-append (counted v) ss ts))
+
+pub body_lines : (v : Version) (shape : Shape) (run : RunData) → all_lines v shape (body_parts run) ≡ section_lines v (log_sections shape run) ++ end
+body_lines v shape run =
+    let images = images_section run.images ∷ [] in
+    let objects = map object_section run.calls ++ images in
+    let queues = numbered queue_section 0 run.queues ++ objects in
+    let services = bridge_section shape run.bridge ∷ timers_section shape run.timers ∷ [] in
+    let bridge = services ++ queues in
+    let publishers = numbered publisher_section 0 run.publishers ++ bridge in
     let at_end = last_parts run.images in
     let at_objects = map heard_part run.calls ++ at_end in
     let at_queues = numbered_parts s.Queue OnQueue 0 run.queues ++ at_objects in
-    let at_timers = (s.Timers, OnTimers run.timers) ∷ at_queues in
-    let at_bridge = (s.Bridge, OnBridge run.bridge) ∷ at_timers in
+    let service_parts : List Filled = (s.Bridge, OnBridge run.bridge) ∷ (s.Timers, OnTimers run.timers) ∷ [] in
+    let at_bridge = service_parts ++ at_queues in
     let at_publishers = numbered_parts s.Publisher Sends 0 run.publishers ++ at_bridge in
-    let text = parts_text shape in
-    let objects_are : text at_objects ≡ i ++ (j ++ (k ++ l)) = heard_text shape run.calls at_end ∙ ap (λ (t : List ℕ). i ++ t) (last_text shape run.images) in
-    let queues_are : text at_queues ≡ h ++ (i ++ (j ++ (k ++ l))) = numbered_text shape s.Queue OnQueue queue_section (queue_text shape) 0 run.queues at_objects ∙ ap (λ (t : List ℕ). h ++ t) objects_are in
-    let timers_are : text at_timers ≡ f ++ (g ++ (h ++ (i ++ (j ++ (k ++ l))))) =
-    one_text shape (s.Timers, OnTimers run.timers) at_queues (f ++ g) (ap (λ (t : List ℕ). f ++ t) (mapped_text _ run.timers)) ∙ append_assoc f g (text at_queues) ∙ ap (λ (t : List ℕ). f ++ (g ++ t)) queues_are in
-    let bridge_are : text at_bridge ≡ d ++ (e ++ (f ++ (g ++ (h ++ (i ++ (j ++ (k ++ l))))))) =
-    one_text shape (s.Bridge, OnBridge run.bridge) at_timers (d ++ e) (ap (λ (t : List ℕ). d ++ t) (mapped_text _ run.bridge)) ∙ append_assoc d e (text at_timers) ∙ ap (λ (t : List ℕ). d ++ (e ++ t)) timers_are in
-    let publishers_are : text at_publishers ≡ c ++ (d ++ (e ++ (f ++ (g ++ (h ++ (i ++ (j ++ (k ++ l)))))))) =
-    numbered_text shape s.Publisher Sends publisher_section (publisher_text shape) 0 run.publishers at_bridge ∙ ap (λ (t : List ℕ). c ++ t) bridge_are in
-    one_text shape (s.Title, Bare) (numbered_parts s.Client Moments 0 run.clients ++ at_publishers) a (append-nil a)
-    ∙ ap (λ (t : List ℕ). a ++ t) (numbered_text shape s.Client Moments client_section (client_text shape) 0 run.clients at_publishers ∙ ap (λ (t : List ℕ). b ++ t) publishers_are)
-    ∙ sym (regroup a b c d e f g h i j k l)
+    let services_are : all_lines v shape service_parts ≡ section_lines v services =
+    ap (λ (t : List (List ℕ)). t ++ (lines_of v shape (s.Timers, OnTimers run.timers) ++ [])) (counted_lines v shape (s.Bridge, OnBridge run.bridge) refl)
+    ∙ ap (λ (t : List (List ℕ)). counted v (bridge_section shape run.bridge) ++ (t ++ [])) (counted_lines v shape (s.Timers, OnTimers run.timers) refl) in
+    in_front v shape (numbered_parts s.Client Moments 0 run.clients) at_publishers (numbered client_section 0 run.clients) publishers (numbered_lines v shape s.Client Moments client_section (λ n. refl) (λ n x. refl) 0 run.clients)
+    (in_front v shape (numbered_parts s.Publisher Sends 0 run.publishers) at_bridge (numbered publisher_section 0 run.publishers) bridge (numbered_lines v shape s.Publisher Sends publisher_section (λ n. refl) (λ n x. refl) 0 run.publishers)
+    (in_front v shape service_parts at_queues services queues services_are
+    (in_front v shape (numbered_parts s.Queue OnQueue 0 run.queues) at_objects (numbered queue_section 0 run.queues) objects (numbered_lines v shape s.Queue OnQueue queue_section (λ n. refl) (λ n x. refl) 0 run.queues)
+    (in_front v shape (map heard_part run.calls) at_end (map object_section run.calls) images (heard_lines v shape run.calls) (last_lines v shape run.images)))))
+
+pub title_lines : (v : Version) (shape : Shape) (strategy : Strategy) → all_lines v shape (title_parts v strategy) ≡ title v strategy
+title_lines version.One shape strategy = refl
+title_lines version.Two shape strategy = refl
+
+-- the lines of a record's parts are those of its log
+pub parts_lines : (v : Version) (shape : Shape) (run : RunData) → all_lines v shape (parts_of v shape.strategy run) ≡ log_lines v shape run
+parts_lines v shape run =
+    lines-append v shape (title_parts v shape.strategy) (body_parts run)
+    ∙ ap (λ (t : List (List ℕ)). t ++ all_lines v shape (body_parts run)) (title_lines v shape shape.strategy)
+    ∙ ap (λ (t : List (List ℕ)). title v shape.strategy ++ t) (body_lines v shape run)
+
+pub parts_spell : (v : Version) (shape : Shape) (run : RunData) → lines_text (all_lines v shape (parts_of v shape.strategy run)) ≡ log_text v shape run
+parts_spell v shape run = ap lines_text (parts_lines v shape run)
 
 -- ---- the record of the parts
 
@@ -148,9 +157,8 @@ after_calls r [] fs = ap (λ (c : List ObjectCalls). run_after (record r { calls
 after_calls r (x ∷ xs) fs =
     after_calls (record r { calls = r.calls ++ x ∷ [] }) xs fs ∙ ap (λ (c : List ObjectCalls). run_after (record r { calls = c }) fs) (append_assoc r.calls (x ∷ []) xs)
 
--- putting the parts of a record together gives the record
-pub parts_make : (run : RunData) → run_after nothing (parts_of run) ≡ run
-parts_make run =
+body_make : (run : RunData) → run_after nothing (body_parts run) ≡ run
+body_make run =
     let at_end = last_parts run.images in
     let at_objects = map heard_part run.calls ++ at_end in
     let at_queues = numbered_parts s.Queue OnQueue 0 run.queues ++ at_objects in
@@ -163,6 +171,11 @@ parts_make run =
     ∙ after_publishers r1 0 run.publishers at_bridge
     ∙ after_queues r3 0 run.queues at_objects
     ∙ after_calls r4 run.calls at_end
+
+-- putting the parts of a record together gives the record
+pub parts_make : (v : Version) (strategy : Strategy) (run : RunData) → run_after nothing (parts_of v strategy run) ≡ run
+parts_make version.One strategy run = body_make run
+parts_make version.Two strategy run = body_make run
 
 -- a part more at the end
 pub run_push : (r : RunData) (fs : List Filled) (f : Filled) → run_after r (fs ++ f ∷ []) ≡ put f.1 (run_after r fs)
@@ -205,9 +218,13 @@ pub pictures_in : (names : NamesData) (objects : List ObjectId) (p : Part) → F
 pictures_in names objects (Pictures x) h = (x, refl, h)
 pictures_in names objects _ h = absurd h
 
-pub title_in : (names : NamesData) (objects : List ObjectId) (p : Part) → Fits names objects s.Title p → (x : Unit {0}) × (p ≡ Bare) × Unit {0}
-title_in names objects Bare h = (tt, refl, tt)
-title_in names objects _ h = absurd h
+pub title_in : (names : NamesData) (objects : List ObjectId) (v : Version) (p : Part) → Fits names objects (s.Title v) p → (x : Unit {0}) × (p ≡ Bare) × Unit {0}
+title_in names objects v Bare h = (tt, refl, tt)
+title_in names objects v _ h = absurd h
+
+pub strategy_in : (names : NamesData) (objects : List ObjectId) (strategy : Strategy) (p : Part) → Fits names objects (s.Strategy strategy) p → (x : Unit {0}) × (p ≡ Bare) × Unit {0}
+strategy_in names objects strategy Bare h = (tt, refl, tt)
+strategy_in names objects strategy _ h = absurd h
 
 pub end_in : (names : NamesData) (objects : List ObjectId) (p : Part) → Fits names objects s.End p → (x : Unit {0}) × (p ≡ Bare) × Unit {0}
 end_in names objects Bare h = (tt, refl, tt)
@@ -283,3 +300,18 @@ split_calls names objects (o ∷ those) left fs e h =
       name = r.name;
       fits = r.fits;
     }
+
+pub record SplitTitles (v : Version) (strategy : Strategy) (names : NamesData) (objects : List ObjectId) (left : List Section) (fs : List Filled) : Type 0 where
+  pub rest : List Filled
+  pub is : fs ≡ title_parts v strategy ++ rest
+  pub name : named rest ≡ left
+  pub fits : AllFit names objects rest
+
+pub split_titles : (v : Version) (strategy : Strategy) (names : NamesData) (objects : List ObjectId) (left : List Section) (fs : List Filled) → named fs ≡ titles v strategy ++ left → AllFit names objects fs → SplitTitles v strategy names objects left fs
+split_titles version.One strategy names objects left fs e h =
+    let t = first {A = Unit {0}} names objects (s.Title version.One) (λ x. Bare) (λ x. Unit {0}) (title_in names objects version.One) left fs e h in
+    record { rest = t.rest; is = t.is; name = t.name; fits = t.fits }
+split_titles version.Two strategy names objects left fs e h =
+    let t = first {A = Unit {0}} names objects (s.Title version.Two) (λ x. Bare) (λ x. Unit {0}) (title_in names objects version.Two) (s.Strategy strategy ∷ left) fs e h in
+    let u = first {A = Unit {0}} names objects (s.Strategy strategy) (λ x. Bare) (λ x. Unit {0}) (strategy_in names objects strategy) left t.rest t.name t.fits in
+    record { rest = u.rest; is = t.is ∙ ap (λ (x : List Filled). (s.Title version.Two, Bare) ∷ x) u.is; name = u.name; fits = u.fits }

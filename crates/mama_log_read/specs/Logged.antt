@@ -1,13 +1,20 @@
--- believed: The records that a log of a script can tell.
-use Rattle.std.specs.Prelude.{ℕ, ◌^◌, ◌<◌, ◌≤◌, length}
+-- believed: The records that a log of a script can tell, in either version.
+use Rattle.std.specs.Prelude.{◌≡◌, ℕ, ◌^◌, ◌<◌, ◌≤◌, length}
 use Rattle.std.specs.List.{All}
 use Rattle.mama_event.specs.declared.ids.ObjectId.{ObjectId}
 use Rattle.mama_event.specs.declared.callback.CallNote.{CallNote}
+use Rattle.mama_words.specs.declared.version.Version.{Version}
+use Rattle.mama_words.specs.declared.version.Version.TheVariants as version
 use Rattle.mama_script.specs.Script.{ScriptData}
 use Rattle.mama_record.specs.RunData.{RunData, ObjectCalls}
 use Rattle.mama_rules_legal.specs.Form.{IsFormed}
 use Rattle.mama_log_line.specs.Names.{NamesData, names_of}
 use Rattle.mama_log_line.specs.Entering.{MayEnterPublisher, MayEnterBridge, MayEnterTimers, MayEnterQueue, MayHear, MayOrder, IsLastImage}
+
+-- the versions that the logs of a script have: a script of version 1 has none of version 2
+abbrev pub HasLog : ScriptData → Version → Type 0
+HasLog script version.One = Unit {0}
+HasLog script version.Two = script.version ≡ version.Two
 
 -- a moment, as its type has it
 abbrev pub IsMoment : ℕ → Type 0
@@ -15,7 +22,7 @@ IsMoment moment = moment < 2 ^ 64
 
 -- a callback that this object may hear, with at most 8 orders of the script's objects and topics
 pub record MayCall (names : NamesData) (object : ObjectId) (n : CallNote) : Type 0 where
-  pub call : MayHear object n.call
+  pub call : MayHear names.nums object n.call
   pub orders : All (MayOrder names) n.orders
   pub few : length n.orders ≤ 8
 

@@ -1,27 +1,22 @@
 -- inner: What a section of a log says: its entries, and their lines.
-use Rattle.std.specs.Prelude.{◌≡◌, ℕ, codes, List, [], ◌∷◌, ◌++◌, map, Option, Some, None, option_and_then, if◌then◌else◌}
+use Rattle.std.specs.Prelude.{◌≡◌, ℕ, List, [], ◌∷◌, ◌++◌, length, map, Option, Some, None, option_and_then, if◌then◌else◌}
 use Rattle.std.specs.List.{All, flat_map}
-use Rattle.mama_edge.specs.Decimal.{decimal}
-use Rattle.mama_words.specs.Field.{fields_text}
-use Rattle.mama_words.specs.Order.{order_text, word_of}
 use Rattle.mama_event.specs.Object.{same_object}
 use Rattle.mama_event.specs.declared.shape.Shape.{Shape}
 use Rattle.mama_event.specs.declared.ids.SubId.{SubId}
 use Rattle.mama_event.specs.declared.ids.ObjectId.{ObjectId}
 use Rattle.mama_event.specs.declared.ids.ObjectId.TheVariants.{Sub}
-use Rattle.mama_event.specs.declared.order.Order.{Order}
-use Rattle.mama_event.specs.declared.callback.CallNote.{CallNote}
 use Rattle.mama_event.specs.declared.to_bridge.BridgeNote.{BridgeNote}
 use Rattle.mama_event.specs.declared.to_timers.TimersNote.{TimersNote}
 use Rattle.mama_event.specs.declared.to_queue.QueueNote.{QueueNote}
 use Rattle.mama_event.specs.declared.publisher_entry.PublisherEntry.{PublisherEntry}
-use Rattle.mama_rules_services.specs.Ports.{bridge_putter, timers_putter, queue_putter}
 use Rattle.mama_record.specs.RunData.{RunData, ObjectCalls, LastImage}
-use Rattle.mama_record.specs.LogText.{putter_text, bridge_note_text, timers_note_text, queue_note_text, publisher_entry_text, callback_text, image_head_text}
+use Rattle.mama_record.specs.LogText.{clock_text, publisher_entry_text, bridge_entry_text, timers_entry_text, queue_entry_text, call_texts, image_text}
+use Rattle.mama_words.specs.declared.version.Version.{Version}
 use Rattle.mama_log_line.specs.Names.{NamesData}
 use Rattle.mama_log_line.specs.Entering.{MayEnterPublisher, MayEnterBridge, MayEnterTimers, MayEnterQueue, IsLastImage}
 use Rattle.mama_log_read.specs.Logged.{IsMoment, MayHearAll}
-use Rattle.mama_log_read.specs.Section.{head_of}
+use Rattle.mama_log_read.specs.Section.{first_of}
 use Rattle.mama_log_read.specs.declared.section.Section.{Section}
 use Rattle.mama_log_read.specs.declared.section.Section.TheVariants as s
 
@@ -36,39 +31,16 @@ pub data Part : Type 0 where
   Heard : ObjectCalls → Part
   Pictures : List LastImage → Part
 
--- THE LINES OF ENTRIES, EACH WITHOUT ITS LF
-
-abbrev pub clock_body : ℕ → List ℕ
-clock_body moment = codes "clock " ++ decimal moment
-
-abbrev pub bridge_body : Shape → ℕ × BridgeNote → List ℕ
-bridge_body shape e = putter_text (bridge_putter shape e.0) ++ 32 ∷ bridge_note_text e.1
-
-abbrev pub timers_body : Shape → ℕ × TimersNote → List ℕ
-timers_body shape e = putter_text (timers_putter shape e.0) ++ 32 ∷ timers_note_text e.1
-
-abbrev pub queue_body : ℕ × QueueNote → List ℕ
-queue_body e = putter_text (queue_putter e.0) ++ 32 ∷ queue_note_text e.1
-
-abbrev pub order_body : Order → List ℕ
-order_body o = codes "order " ++ order_text (word_of o)
-
-abbrev pub call_bodies : CallNote → List (List ℕ)
-call_bodies c = callback_text c.call ∷ map order_body c.orders
-
-abbrev pub image_body : LastImage → List ℕ
-image_body i = image_head_text i.sub i.head ++ fields_text i.body
-
 -- the lines of a part's entries
 abbrev pub bodies : Shape → Part → List (List ℕ)
 bodies shape Bare = []
-bodies shape (Moments moments) = map clock_body moments
+bodies shape (Moments moments) = map clock_text moments
 bodies shape (Sends entries) = map publisher_entry_text entries
-bodies shape (OnBridge entries) = map (bridge_body shape) entries
-bodies shape (OnTimers entries) = map (timers_body shape) entries
-bodies shape (OnQueue entries) = map queue_body entries
-bodies shape (Heard heard) = flat_map call_bodies heard.calls
-bodies shape (Pictures images) = map image_body images
+bodies shape (OnBridge entries) = map (bridge_entry_text shape) entries
+bodies shape (OnTimers entries) = map (timers_entry_text shape) entries
+bodies shape (OnQueue entries) = map queue_entry_text entries
+bodies shape (Heard heard) = flat_map call_texts heard.calls
+bodies shape (Pictures images) = map image_text images
 
 -- WHICH ENTRIES A SECTION MAY HAVE
 
@@ -89,7 +61,8 @@ pub record ArePictures (names : NamesData) (objects : List ObjectId) (images : L
 
 -- a part that the section may have
 abbrev pub Fits : NamesData → List ObjectId → Section → Part → Type 0
-Fits names objects s.Title Bare = Unit {0}
+Fits names objects (s.Title v) Bare = Unit {0}
+Fits names objects (s.Strategy strategy) Bare = Unit {0}
 Fits names objects (s.Client n) (Moments moments) = All IsMoment moments
 Fits names objects (s.Publisher n) (Sends entries) = All (MayEnterPublisher names) entries
 Fits names objects s.Bridge (OnBridge entries) = All (MayEnterBridge names) entries
@@ -110,11 +83,11 @@ abbrev pub FitsIn : NamesData → List ObjectId → Filled → Type 0
 FitsIn names objects f = Fits names objects f.0 f.1
 
 -- the lines of a section
-abbrev pub lines_of : Shape → Filled → List (List ℕ)
-lines_of shape f = head_of f.0 ∷ bodies shape f.1
+abbrev pub lines_of : Version → Shape → Filled → List (List ℕ)
+lines_of v shape f = first_of v f.0 (length (bodies shape f.1)) ∷ bodies shape f.1
 
-abbrev pub all_lines : Shape → List Filled → List (List ℕ)
-all_lines shape fs = flat_map (lines_of shape) fs
+abbrev pub all_lines : Version → Shape → List Filled → List (List ℕ)
+all_lines v shape fs = flat_map (lines_of v shape) fs
 
 -- the record of nothing
 abbrev pub nothing : RunData

@@ -196,7 +196,8 @@ impl Built {
         ensures { IfOk result (λ rest. IsPartRead names.now objects.now section text.now self.old self.new rest.now) }
     {
         match section {
-            Section::Title => Ok(text),
+            Section::Title(_) => Ok(text),
+            Section::Strategy(_) => Ok(text),
             Section::Client(number) => self.read_client(alloc, names, objects, number, text),
             Section::Publisher(number) => self.read_publisher(alloc, names, objects, number, text),
             Section::Bridge => self.read_bridge(alloc, names, objects, text),

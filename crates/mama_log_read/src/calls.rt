@@ -1,7 +1,7 @@
 //! The callbacks of an object with their orders, as many as stand at the head of a text.
 ghost use Rattle.std.specs.Prelude.{◌≡◌, map, IfOk};
 ghost use Rattle.std.specs.Option.{option_map};
-ghost use Rattle.mama_record.specs.LogText.{callback_text};
+ghost use Rattle.mama_record.specs.LogText.{callback_text, given_text};
 ghost use Rattle.mama_log_line.specs.Entering.{MayHear, MayOrder};
 ghost use Rattle.mama_log_read.specs.Part as part;
 ghost use Rattle.mama_log_read.specs.Reading as reading;
@@ -17,7 +17,7 @@ fn next_order<'a>(
     names: &Names,
     text: &'a [u8],
 ) -> Result<Option<(Order, &'a [u8])>, OutOfMemory>
-    ensures { IfOk result (λ o. reading.IsNext (MayOrder names.now) part.order_body text.now (option_map (λ next. (next.0, next.1.now)) o)) }
+    ensures { IfOk result (λ o. reading.IsNext (MayOrder names.now) given_text text.now (option_map (λ next. (next.0, next.1.now)) o)) }
 {
     match cut_at(b'\n', text) {
         Some((line, after)) => match order_line_in(alloc, names, line)? {
@@ -52,13 +52,14 @@ fn read_orders<'a>(
 
 fn next_callback<'a>(
     alloc: Global,
+    names: &Names,
     object: ObjectId,
     text: &'a [u8],
 ) -> Result<Option<(Callback, &'a [u8])>, OutOfMemory>
-    ensures { IfOk result (λ o. reading.IsNext (MayHear object) callback_text text.now (option_map (λ next. (next.0, next.1.now)) o)) }
+    ensures { IfOk result (λ o. reading.IsNext (MayHear names.now.nums object) callback_text text.now (option_map (λ next. (next.0, next.1.now)) o)) }
 {
     match cut_at(b'\n', text) {
-        Some((line, after)) => match call_in(alloc, object, line)? {
+        Some((line, after)) => match call_in(alloc, names.nums(), object, line)? {
             Some(call) => Ok(Some((call, after))),
             None => Ok(None),
         },
@@ -74,7 +75,7 @@ fn next_call<'a>(
 ) -> Result<Option<(CallNote, &'a [u8])>, OutOfMemory>
     ensures { IfOk result (λ o. reading.IsNextCall names.now object text.now (option_map (λ next. (next.0, next.1.now)) o)) }
 {
-    match next_callback(alloc, object, text)? {
+    match next_callback(alloc, names, object, text)? {
         Some((call, after)) => {
             let (orders, rest) = read_orders(alloc, names, after)?;
             Ok(Some((CallNote { call, orders }, rest)))

@@ -1,10 +1,9 @@
 //! The entries of each kind of section, as many as stand at the head of a text.
 ghost use Rattle.std.specs.Prelude.{◌≡◌, ℕ, map, IfOk};
 ghost use Rattle.std.specs.Option.{option_map};
-ghost use Rattle.mama_record.specs.LogText.{publisher_entry_text};
+ghost use Rattle.mama_record.specs.LogText.{clock_text, publisher_entry_text, bridge_entry_text, timers_entry_text, queue_entry_text};
 ghost use Rattle.mama_log_line.specs.Entering.{MayEnterPublisher, MayEnterBridge, MayEnterTimers, MayEnterQueue};
 ghost use Rattle.mama_log_read.specs.Logged.{IsMoment};
-ghost use Rattle.mama_log_read.specs.Part as part;
 ghost use Rattle.mama_log_read.specs.Reading as reading;
 
 use mama_event::{BridgeNote, PublisherEntry, QueueNote, TimersNote};
@@ -16,7 +15,7 @@ use mama_words::cut_at;
 use std::alloc::Global;
 
 fn next_moment<'a>(alloc: Global, text: &'a [u8]) -> Result<Option<(u64, &'a [u8])>, OutOfMemory>
-    ensures { IfOk result (λ o. reading.IsNext IsMoment part.clock_body text.now (option_map (λ next. (next.0, next.1.now)) o)) }
+    ensures { IfOk result (λ o. reading.IsNext IsMoment clock_text text.now (option_map (λ next. (next.0, next.1.now)) o)) }
 {
     match cut_at(b'\n', text) {
         Some((line, after)) => match clock_in(alloc, line)? {
@@ -29,7 +28,7 @@ fn next_moment<'a>(alloc: Global, text: &'a [u8]) -> Result<Option<(u64, &'a [u8
 
 /// Reads the moments of a client, as many lines as are some, and says what follows them.
 pub fn read_moments<'a>(alloc: Global, text: &'a [u8]) -> Result<(Vec<u64>, &'a [u8]), OutOfMemory>
-    ensures { IfOk result (λ read. reading.AreTaken IsMoment part.clock_body text.now read.0.items read.1.now) }
+    ensures { IfOk result (λ read. reading.AreTaken IsMoment clock_text text.now read.0.items read.1.now) }
 {
     let mut entries = Vec::new(alloc);
     let mut rest = text;
@@ -83,7 +82,7 @@ fn next_bridge_entry<'a>(
     names: &Names,
     text: &'a [u8],
 ) -> Result<Option<((u32, BridgeNote), &'a [u8])>, OutOfMemory>
-    ensures { IfOk result (λ o. reading.IsNext (MayEnterBridge names.now) (part.bridge_body names.now.shape) text.now (option_map (λ next. (next.0, next.1.now)) o)) }
+    ensures { IfOk result (λ o. reading.IsNext (MayEnterBridge names.now) (bridge_entry_text names.now.shape) text.now (option_map (λ next. (next.0, next.1.now)) o)) }
 {
     match cut_at(b'\n', text) {
         Some((line, after)) => match bridge_entry_in(alloc, names, line)? {
@@ -100,7 +99,7 @@ pub fn read_bridge_entries<'a>(
     names: &Names,
     text: &'a [u8],
 ) -> Result<(Vec<(u32, BridgeNote)>, &'a [u8]), OutOfMemory>
-    ensures { IfOk result (λ read. reading.AreTaken (MayEnterBridge names.now) (part.bridge_body names.now.shape) text.now read.0.items read.1.now) }
+    ensures { IfOk result (λ read. reading.AreTaken (MayEnterBridge names.now) (bridge_entry_text names.now.shape) text.now read.0.items read.1.now) }
 {
     let mut entries = Vec::new(alloc);
     let mut rest = text;
@@ -116,7 +115,7 @@ fn next_timers_entry<'a>(
     names: &Names,
     text: &'a [u8],
 ) -> Result<Option<((u32, TimersNote), &'a [u8])>, OutOfMemory>
-    ensures { IfOk result (λ o. reading.IsNext (MayEnterTimers names.now) (part.timers_body names.now.shape) text.now (option_map (λ next. (next.0, next.1.now)) o)) }
+    ensures { IfOk result (λ o. reading.IsNext (MayEnterTimers names.now) (timers_entry_text names.now.shape) text.now (option_map (λ next. (next.0, next.1.now)) o)) }
 {
     match cut_at(b'\n', text) {
         Some((line, after)) => match timers_entry_in(alloc, names, line)? {
@@ -133,7 +132,7 @@ pub fn read_timers_entries<'a>(
     names: &Names,
     text: &'a [u8],
 ) -> Result<(Vec<(u32, TimersNote)>, &'a [u8]), OutOfMemory>
-    ensures { IfOk result (λ read. reading.AreTaken (MayEnterTimers names.now) (part.timers_body names.now.shape) text.now read.0.items read.1.now) }
+    ensures { IfOk result (λ read. reading.AreTaken (MayEnterTimers names.now) (timers_entry_text names.now.shape) text.now read.0.items read.1.now) }
 {
     let mut entries = Vec::new(alloc);
     let mut rest = text;
@@ -149,7 +148,7 @@ fn next_queue_entry<'a>(
     names: &Names,
     text: &'a [u8],
 ) -> Result<Option<((u32, QueueNote), &'a [u8])>, OutOfMemory>
-    ensures { IfOk result (λ o. reading.IsNext (MayEnterQueue names.now) part.queue_body text.now (option_map (λ next. (next.0, next.1.now)) o)) }
+    ensures { IfOk result (λ o. reading.IsNext (MayEnterQueue names.now) queue_entry_text text.now (option_map (λ next. (next.0, next.1.now)) o)) }
 {
     match cut_at(b'\n', text) {
         Some((line, after)) => match queue_entry_in(alloc, names, line)? {
@@ -166,7 +165,7 @@ pub fn read_queue_entries<'a>(
     names: &Names,
     text: &'a [u8],
 ) -> Result<(Vec<(u32, QueueNote)>, &'a [u8]), OutOfMemory>
-    ensures { IfOk result (λ read. reading.AreTaken (MayEnterQueue names.now) part.queue_body text.now read.0.items read.1.now) }
+    ensures { IfOk result (λ read. reading.AreTaken (MayEnterQueue names.now) queue_entry_text text.now read.0.items read.1.now) }
 {
     let mut entries = Vec::new(alloc);
     let mut rest = text;

@@ -3,21 +3,22 @@ ghost use Rattle.std.specs.List.{All};
 ghost use Rattle.mama_event.specs.Ports.{queues_of};
 ghost use Rattle.mama_rules_legal.specs.Form.{objects_of};
 ghost use Rattle.mama_log_read.specs.Section as log;
-ghost use Rattle.mama_log_read.specs.declared.section.Section.TheVariants.{Client, Publisher, Queue, Object};
+ghost use Rattle.mama_log_read.specs.declared.section.Section.TheVariants.{Client, Publisher, Queue, Object, Strategy as StrategyOf};
 ghost use Rattle.mama_edge.specs.Decimal.{decimal};
 
 use mama_edge::print_u64;
-use mama_event::{InboxId, ObjectId, SubId, TimerId};
+use mama_event::{InboxId, ObjectId, Strategy, SubId, TimerId};
 use mama_memory::OutOfMemory;
 use mama_plans::plans_of;
 use mama_script::Script;
-use mama_words::print_object_id;
+use mama_words::{Version, print_object_id, print_strategy};
 use std::alloc::Global;
 
 /// A section of a log, by the line that begins it.
 #[derive(Clone, Copy, Debug, PartialEq, Eq)]
 pub enum Section {
-    Title,
+    Title(Version),
+    Strategy(Strategy),
     Client(u64),
     Publisher(u64),
     Bridge,
@@ -26,6 +27,28 @@ pub enum Section {
     Object(ObjectId),
     Images,
     End,
+}
+
+/// How many lines the line tells that begins a section.
+#[derive(Clone, Copy, Debug, PartialEq, Eq)]
+pub enum Told {
+    Nothing,
+    Lines(u64),
+}
+
+impl Section {
+    /// Whether the line that begins the section tells how many lines are behind it.
+    pub fn has_count(self, version: Version) -> bool
+        ensures { result ≡ log.has_count version self }
+    {
+        match (version, self) {
+            (Version::One, _) => false,
+            (_, Section::Title(_)) => false,
+            (_, Section::Strategy(_)) => false,
+            (_, Section::End) => false,
+            _ => true,
+        }
+    }
 }
 
 fn put_number(word: &[u8], number: u64, out: &mut Vec<u8>) -> Result<(), OutOfMemory>
@@ -42,6 +65,13 @@ fn put_object(object: ObjectId, out: &mut Vec<u8>) -> Result<(), OutOfMemory>
     print_object_id(object, out)
 }
 
+fn put_strategy(strategy: Strategy, out: &mut Vec<u8>) -> Result<(), OutOfMemory>
+    ensures { OnOk result (out.new.items ≡ out.old.items ++ log.head_of (StrategyOf strategy)) }
+{
+    out.extend_from_slice(b"strategy ")?;
+    print_strategy(strategy, out)
+}
+
 fn put_word(word: &[u8], out: &mut Vec<u8>) -> Result<(), OutOfMemory>
     ensures { OnOk result (out.new.items ≡ out.old.items ++ word.now) }
 {
@@ -52,7 +82,9 @@ fn put_head(section: Section, out: &mut Vec<u8>) -> Result<(), OutOfMemory>
     ensures { OnOk result (out.new.items ≡ out.old.items ++ log.head_of section) }
 {
     match section {
-        Section::Title => put_word(b"mama log 1", out),
+        Section::Title(Version::One) => put_word(b"mama log 1", out),
+        Section::Title(Version::Two) => put_word(b"mama log 2", out),
+        Section::Strategy(strategy) => put_strategy(strategy, out),
         Section::Client(number) => put_number(b"client ", number, out),
         Section::Publisher(number) => put_number(b"publisher ", number, out),
         Section::Bridge => put_word(b"bridge", out),
@@ -64,7 +96,7 @@ fn put_head(section: Section, out: &mut Vec<u8>) -> Result<(), OutOfMemory>
     }
 }
 
-/// The line that begins a section, without its line feed.
+/// The line that begins a section, without its line feed, and without the number of lines that version 2 tells in it.
 pub fn head_line(alloc: Global, section: Section) -> Result<Vec<u8>, OutOfMemory>
     ensures { IfOk result (λ head. head.items ≡ log.head_of section) }
 {
@@ -143,17 +175,34 @@ fn add_objects(sections: &mut Vec<Section>, objects: &[ObjectId]) -> Result<(), 
     Ok(())
 }
 
+// The sections that tell the version and the strategy.
+fn add_titles(
+    sections: &mut Vec<Section>,
+    version: Version,
+    strategy: Strategy,
+) -> Result<(), OutOfMemory>
+    ensures { OnOk result (sections.new.items ≡ sections.old.items ++ log.titles version strategy) }
+{
+    sections.push(Section::Title(version))?;
+    match version {
+        Version::One => Ok(()),
+        Version::Two => Ok(sections.push(Section::Strategy(strategy))?),
+    }
+}
+
 fn list_sections(
     alloc: Global,
+    version: Version,
+    strategy: Strategy,
     clients: usize,
     publishers: usize,
     queues: u32,
     objects: &[ObjectId],
 ) -> Result<Vec<Section>, OutOfMemory>
-    ensures { IfOk result (λ sections. sections.items ≡ log.sections_with clients publishers queues objects.now) }
+    ensures { IfOk result (λ sections. sections.items ≡ log.sections_with version strategy clients publishers queues objects.now) }
 {
     let mut sections = Vec::new(alloc);
-    sections.push(Section::Title)?;
+    add_titles(&mut sections, version, strategy)?;
     add_clients(&mut sections, clients)?;
     add_publishers(&mut sections, publishers)?;
     sections.push(Section::Bridge)?;
@@ -165,17 +214,21 @@ fn list_sections(
     Ok(sections)
 }
 
-/// The sections of a log of a script, in order.
+/// The sections of a log of a script in a version, in order.
 pub fn sections_in(
     alloc: Global,
+    version: Version,
     script: &Script,
     objects: &[ObjectId],
 ) -> Result<Vec<Section>, OutOfMemory>
-    ensures listed { IfOk result (λ sections. sections.items ≡ log.sections_with (length script.now.clients) (length script.now.publishers) (queues_of script.now.shape) objects.now) }
+    ensures listed { IfOk result (λ sections. sections.items ≡ log.sections_with version script.now.shape.strategy (length script.now.clients) (length script.now.publishers) (queues_of script.now.shape) objects.now) }
     ensures plain { IfOk result (λ sections. All (λ o. log.HasPlainHead (Object o)) objects.now → All (λ s. log.HasPlainHead s) sections.items) }
 {
     let queues = script.shape().bounds.queues;
+    let strategy = script.shape().strategy;
     let clients = script.clients().len();
     let publishers = script.publishers().len();
-    list_sections(alloc, clients, publishers, queues, objects)
+    list_sections(
+        alloc, version, strategy, clients, publishers, queues, objects,
+    )
 }

@@ -4,3 +4,5 @@ pub mod VerdictLemmas
 pub mod CommandLemmas
 pub mod AnswerLemmas
 pub mod OwnLemmas
+pub mod RewriteLemmas
+pub mod KeptLemmas

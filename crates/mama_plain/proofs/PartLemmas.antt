@@ -149,9 +149,9 @@ not_log (lines.Order (orders.Ask id topic fids)) = refl
 not_log (lines.Now moment) = refl
 not_log lines.NowClock = refl
 
-line_lacks : (l : Line) → IsLine l → lacks 10 (line_text l) ≡ false
-line_lacks l h =
-    let p = chosen_some (is_parted (line_text l)) (words (line_text l)) (line_words l) (line_parted l h) in
+line_lacks : (v : Version) (l : Line) → IsLine v l → lacks 10 (line_text l) ≡ false
+line_lacks v l h =
+    let p = chosen_some (is_parted (line_text l)) (words (line_text l)) (line_words l) (line_parted v l h) in
     let q = and_parts (list_all is_plain (line_text l) && is_outside (place_after Outside (line_text l))) (not (list_any is_empty_word (words (line_text l)))) p.0 in
     let r = and_parts (list_all is_plain (line_text l)) (is_outside (place_after Outside (line_text l))) q.0 in
     all_lack is_plain 10 (line_text l) refl r.0
@@ -168,7 +168,7 @@ past_line text rest behind front log whole other more =
 lines_cut : (b : Before) (ls : List Line) (log : List ℕ) → FitFrom b ls → cut_at_log (flat_map ended ls ++ (line (codes "log") ++ log)) ≡ Some (flat_map ended ls, log)
 lines_cut b [] log h = cut_at_line (line (codes "log") ++ log) (codes "log") log true (line_then (codes "log") log refl) refl
 lines_cut b (l ∷ ls) log h =
-    past_line (line_text l) (flat_map ended ls) (line (codes "log") ++ log) (flat_map ended ls) log (line_lacks l h.0.form) (not_log l) (lines_cut (after b l) ls log h.1)
+    past_line (line_text l) (flat_map ended ls) (line (codes "log") ++ log) (flat_map ended ls) log (line_lacks b.version l h.0.form) (not_log l) (lines_cut (after b l) ls log h.1)
 
 first_lacks : (v : Version) → lacks 10 (first_line v) ≡ false
 first_lacks version.One = refl

@@ -3,13 +3,14 @@ use Rattle.std.proofs.Common.{◌≡◌, ℕ, ◌+◌, ◌<◌, ◌≤◌, Bool,
 use Rattle.std.specs.Prelude.{codes}
 use Rattle.mama_edge.specs.Told.{Appended}
 use Rattle.mama_words.specs.Parting.{pieces, onto_first}
+use Rattle.mama_words.specs.declared.version.Version.{Version}
 use Rattle.mama_script.specs.Script.{ScriptData}
 use Rattle.mama_script.specs.Tree.{IsScript, script_text, lines_of}
 use Rattle.mama_script.proofs.Parsed.{found_script, only_that}
 use Rattle.mama_script.proofs.Whole.{script_again}
 use Rattle.mama_record.specs.RunData.{RunData}
 use Rattle.mama_record.specs.LogText.{line, log_text}
-use Rattle.mama_log_read.specs.Logged.{IsLogged}
+use Rattle.mama_log_read.specs.Logged.{HasLog, IsLogged}
 use Rattle.mama_log_read.specs.Unfit.{IsFirstUnfit, Unfit}
 use Rattle.mama_check.specs.declared.verdict.Verdict.{Verdict}
 use Rattle.mama_check.specs.declared.verdict.Verdict.TheVariants as verdict
@@ -57,12 +58,13 @@ script_is : (s t : ScriptData) → found_script s ≡ found_script t → s ≡ t
 script_is s t e = cc
 
 -- a log of the one script is a log of the other, which the same text spells
-pub record Fits (script : ScriptData) (log : List ℕ) (run : RunData) : Type 0 where
+pub record Fits (script : ScriptData) (log : List ℕ) (v : Version) (run : RunData) : Type 0 where
+  pub known : HasLog script v
   pub logged : IsLogged script run
-  pub whole : log ≡ log_text script.shape run
+  pub whole : log ≡ log_text v script.shape run
 
-pub same_fits : (s t : ScriptData) (log : List ℕ) (run : RunData) → found_script s ≡ found_script t → IsLogged s run → log ≡ log_text s.shape run → Fits t log run
-same_fits s t log run e logged whole = subst (λ (x : ScriptData). Fits x log run) (script_is s t e) (record { logged = logged; whole = whole })
+pub same_fits : (s t : ScriptData) (log : List ℕ) (v : Version) (run : RunData) → found_script s ≡ found_script t → HasLog s v → IsLogged s run → log ≡ log_text v s.shape run → Fits t log v run
+same_fits s t log v run e known logged whole = subst (λ (x : ScriptData). Fits x log v run) (script_is s t e) (record { known = known; logged = logged; whole = whole })
 
 -- ---- one text, one script and one log
 
@@ -84,15 +86,15 @@ pair_is a b c d e =
 one_script : (s t : ScriptData) → IsScript s → IsScript t → script_text t ≡ script_text s → found_script s ≡ found_script t
 one_script s t is other same = only_that (script_text t) s t other (script_again (lines_of t) other.accepted) is same
 
-tells_only : (script : ScriptData) (text log : List ℕ) (run : RunData) → IsScript script → text ≡ script_text script ++ (line (codes "log") ++ log)
-    → ((other : RunData) → IsLogged script other → log ≡ log_text script.shape other → run ≡ other) → TellsOnly text script run
-tells_only script text log run accepted whole only s r is logged told =
-    let cut : pair_of (script_text script) log ≡ pair_of (script_text s) (log_text s.shape r) =
-    sym (ap cut_at_log whole ∙ script_is_cut script log accepted) ∙ ap cut_at_log told ∙ script_is_cut s (log_text s.shape r) is in
-    let parts = pair_is (script_text script) log (script_text s) (log_text s.shape r) cut in
+pub tells_only : (script : ScriptData) (text log : List ℕ) (run : RunData) → IsScript script → text ≡ script_text script ++ (line (codes "log") ++ log)
+    → ((v : Version) (other : RunData) → HasLog script v → IsLogged script other → log ≡ log_text v script.shape other → run ≡ other) → TellsOnly text script run
+tells_only script text log run accepted whole only s v r is known logged told =
+    let cut : pair_of (script_text script) log ≡ pair_of (script_text s) (log_text v s.shape r) =
+    sym (ap cut_at_log whole ∙ script_is_cut script log accepted) ∙ ap cut_at_log told ∙ script_is_cut s (log_text v s.shape r) is in
+    let parts = pair_is (script_text script) log (script_text s) (log_text v s.shape r) cut in
     let same : found_script s ≡ found_script script = one_script s script is accepted parts.0 in
-    let fits : Fits script log r = same_fits s script log r same logged parts.1 in
-    (script_is s script same, sym (only r fits.logged fits.whole))
+    let fits : Fits script log v r = same_fits s script log v r same known logged parts.1 in
+    (script_is s script same, sym (only v r fits.known fits.logged fits.whole))
 
 pub judged_text : (script : ScriptData) (front log : List ℕ) (v : Verdict) → IsScript script → front ≡ script_text script → IsJudged script log v
     → IsVerdictOf (front ++ (line (codes "log") ++ log)) v (verdict_text v)
@@ -104,6 +106,8 @@ judged_text script front log v accepted spelled j =
       accepted = accepted;
       run = j.run;
       logged = j.logged;
+      version = j.version;
+      known = j.known;
       whole = whole ∙ ap (λ (t : List ℕ). script_text script ++ (line (codes "log") ++ t)) j.whole;
       only = tells_only script text log j.run accepted whole j.only;
       judged = j.judged;
@@ -130,18 +134,20 @@ pub record AreParts (front log : List ℕ) : Type 0 where
   pub spelled : front ≡ script_text script
   pub run : RunData
   pub logged : IsLogged script run
-  pub whole : log ≡ log_text script.shape run
+  pub version : Version
+  pub known : HasLog script version
+  pub whole : log ≡ log_text version script.shape run
 
-checked_is_cut : (text : List ℕ) (checked : IsChecked text) → cut_at_log text ≡ pair_of (script_text checked.script) (log_text checked.script.shape checked.run)
-checked_is_cut text checked = ap cut_at_log checked.whole ∙ script_is_cut checked.script (log_text checked.script.shape checked.run) checked.accepted
+checked_is_cut : (text : List ℕ) (checked : IsChecked text) → cut_at_log text ≡ pair_of (script_text checked.script) (log_text checked.version checked.script.shape checked.run)
+checked_is_cut text checked = ap cut_at_log checked.whole ∙ script_is_cut checked.script (log_text checked.version checked.script.shape checked.run) checked.accepted
 
 pub checked_parts : (text front log : List ℕ) → Some (front, log) ≡ cut_at_log text → IsChecked text → AreParts front log
 checked_parts text front log cut checked =
-    let p = pair_is front log (script_text checked.script) (log_text checked.script.shape checked.run) (cut ∙ checked_is_cut text checked) in
-    record { script = checked.script; accepted = checked.accepted; spelled = p.0; run = checked.run; logged = checked.logged; whole = p.1 }
+    let p = pair_is front log (script_text checked.script) (log_text checked.version checked.script.shape checked.run) (cut ∙ checked_is_cut text checked) in
+    record { script = checked.script; accepted = checked.accepted; spelled = p.0; run = checked.run; logged = checked.logged; version = checked.version; known = checked.known; whole = p.1 }
 
 pub checked_has_log : (text : List ℕ) → None ≡ cut_at_log text → IsChecked text → ⊥
-checked_has_log text cut checked = let e : None ≡ pair_of (script_text checked.script) (log_text checked.script.shape checked.run) = cut ∙ checked_is_cut text checked in cc
+checked_has_log text cut checked = let e : None ≡ pair_of (script_text checked.script) (log_text checked.version checked.script.shape checked.run) = cut ∙ checked_is_cut text checked in cc
 
 -- the script of a text that is checked is accepted
 pub checked_script : (text : List ℕ) (checked : IsChecked text) → script_in (script_part text) ≡ Ok (lines_of checked.script)

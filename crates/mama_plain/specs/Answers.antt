@@ -6,7 +6,8 @@ use Rattle.mama_record.specs.RunData.{RunData}
 use Rattle.mama_record.specs.LogText.{log_text}
 use Rattle.mama_rules_rounds.specs.Round.{IsRound}
 use Rattle.mama_seats.specs.Moments.{AreHeard}
-use Rattle.mama_log_read.specs.Logged.{IsLogged}
+use Rattle.mama_words.specs.declared.version.Version.{Version}
+use Rattle.mama_log_read.specs.Logged.{HasLog, IsLogged}
 use Rattle.mama_plain.specs.declared.status.Status.{Status}
 use Rattle.mama_plain.specs.declared.status.Status.TheVariants as s
 
@@ -21,8 +22,8 @@ pub record IsAccepted (text : List ℕ) : Type 0 where
   pub accepted : IsScript script
   pub spelled : text ≡ script_text script
 
--- The text spells an accepted script. The log, its ports named by the script's shape, is that of the record that the
--- script has when it is played in rounds, of which there is at most one for the moments that its clients read; and the log
+-- The text spells an accepted script. The log, in the version of the script and with its ports named by the script's shape,
+-- is that of the record that the script has when it is played in rounds, of which there is at most one for the moments that its clients read; and the log
 -- tells no other record. The clock was called once for each line that reads it, in the order in which the rounds come to
 -- those lines, and the moments in the record are its answers, where these moments were left to it before and are left to
 -- it after the run.
@@ -33,9 +34,9 @@ pub record IsLogOf (before after : Option (List ℕ)) (text log : List ℕ) : Ty
   pub run : RunData
   pub round : IsRound script run
   pub heard : AreHeard before after script.clients run.clients
-  pub told : log ≡ log_text script.shape run
+  pub told : log ≡ log_text script.version script.shape run
   pub logged : IsLogged script run
-  pub only : (other : RunData) → IsLogged script other → log ≡ log_text script.shape other → run ≡ other
+  pub only : (v : Version) (other : RunData) → HasLog script v → IsLogged script other → log ≡ log_text v script.shape other → run ≡ other
 
 -- a fact of each answer before which no script was played
 abbrev pub OnUnplayed : Status → Type 0 → Type 0

@@ -15,6 +15,12 @@ is_check [] = false
 is_check (word ∷ []) = bytes_eq word (codes "check")
 is_check (word ∷ next ∷ more) = false
 
+-- the words are the one word rewrite
+abbrev pub is_rewrite : List (List ℕ) → Bool
+is_rewrite [] = false
+is_rewrite (word ∷ []) = bytes_eq word (codes "rewrite")
+is_rewrite (word ∷ next ∷ more) = false
+
 -- the seed where the words are gen and a seed: a number below 2 ^ 64 in its one decimal spelling
 abbrev pub seed_in : List (List ℕ) → Option ℕ
 seed_in [] = None
@@ -33,4 +39,4 @@ is_gen words = is_there (seed_in words)
 
 -- the words are a command
 abbrev pub is_command : List (List ℕ) → Bool
-is_command words = is_serial words || (is_check words || is_gen words)
+is_command words = is_serial words || (is_check words || (is_rewrite words || is_gen words))

@@ -5,7 +5,8 @@ use Rattle.mama_script.specs.Reading.{script_in}
 use Rattle.mama_script.specs.declared.fault.ScriptFault.TheVariants as f
 use Rattle.mama_record.specs.RunData.{RunData}
 use Rattle.mama_record.specs.LogText.{log_text}
-use Rattle.mama_log_read.specs.Logged.{IsLogged}
+use Rattle.mama_words.specs.declared.version.Version.{Version}
+use Rattle.mama_log_read.specs.Logged.{HasLog, IsLogged}
 use Rattle.mama_check.specs.declared.verdict.Verdict.{Verdict}
 use Rattle.mama_check.specs.Verdict.{Judges}
 use Rattle.mama_plain.specs.Verdict.{IsBadLog}
@@ -16,8 +17,10 @@ use Rattle.mama_plain.specs.declared.check.NoVerdict.TheVariants as n
 pub record IsJudged (script : ScriptData) (log : List ℕ) (verdict : Verdict) : Type 0 where
   pub run : RunData
   pub logged : IsLogged script run
-  pub whole : log ≡ log_text script.shape run
-  pub only : (other : RunData) → IsLogged script other → log ≡ log_text script.shape other → run ≡ other
+  pub version : Version
+  pub known : HasLog script version
+  pub whole : log ≡ log_text version script.shape run
+  pub only : (v : Version) (other : RunData) → HasLog script v → IsLogged script other → log ≡ log_text v script.shape other → run ≡ other
   pub judged : Judges script run verdict
 
 -- why there is no verdict: what is wrong with the script or, where it is accepted, with its log; or want of memory

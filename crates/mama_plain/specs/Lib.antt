@@ -8,3 +8,5 @@ pub mod Causes
 pub mod Promises
 pub mod Status
 pub mod Own
+pub mod Rewritten
+pub mod Kept

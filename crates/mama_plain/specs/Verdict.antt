@@ -6,7 +6,8 @@ use Rattle.mama_script.specs.Script.{ScriptData}
 use Rattle.mama_script.specs.Tree.{IsScript, script_text}
 use Rattle.mama_record.specs.RunData.{RunData}
 use Rattle.mama_record.specs.LogText.{line, log_text}
-use Rattle.mama_log_read.specs.Logged.{IsLogged}
+use Rattle.mama_words.specs.declared.version.Version.{Version}
+use Rattle.mama_log_read.specs.Logged.{HasLog, IsLogged}
 use Rattle.mama_log_read.specs.Unfit.{IsFirstUnfit}
 use Rattle.mama_check.specs.declared.verdict.Actor.{Actor}
 use Rattle.mama_check.specs.declared.verdict.Actor.TheVariants as actor
@@ -37,17 +38,19 @@ verdict_text (verdict.NotLegal rule actor) = line (codes "not legal L" ++ decima
 
 -- THE VERDICT ON A TEXT
 
--- a text is an accepted script, the line `log`, and a log that the script can have
+-- a text is an accepted script, the line `log`, and a log that the script can have, in either version that it knows
 pub record IsChecked (text : List ℕ) : Type 0 where
   pub script : ScriptData
   pub accepted : IsScript script
   pub run : RunData
   pub logged : IsLogged script run
-  pub whole : text ≡ script_text script ++ (line (codes "log") ++ log_text script.shape run)
+  pub version : Version
+  pub known : HasLog script version
+  pub whole : text ≡ script_text script ++ (line (codes "log") ++ log_text version script.shape run)
 
 -- a text tells this record of this script, and no other of any
 abbrev pub TellsOnly : List ℕ → ScriptData → RunData → Type 0
-TellsOnly text script run = (s : ScriptData) (r : RunData) → IsScript s → IsLogged s r → text ≡ script_text s ++ (line (codes "log") ++ log_text s.shape r)
+TellsOnly text script run = (s : ScriptData) (v : Version) (r : RunData) → IsScript s → HasLog s v → IsLogged s r → text ≡ script_text s ++ (line (codes "log") ++ log_text v s.shape r)
     → (s ≡ script) × (r ≡ run)
 
 -- The text is an accepted script, the line `log`, and the log of a record of that script, and tells no other; the verdict
@@ -57,7 +60,9 @@ pub record IsVerdictOf (text : List ℕ) (verdict : Verdict) (out : List ℕ) : 
   pub accepted : IsScript script
   pub run : RunData
   pub logged : IsLogged script run
-  pub whole : text ≡ script_text script ++ (line (codes "log") ++ log_text script.shape run)
+  pub version : Version
+  pub known : HasLog script version
+  pub whole : text ≡ script_text script ++ (line (codes "log") ++ log_text version script.shape run)
   pub only : TellsOnly text script run
   pub judged : Judges script run verdict
   pub told : out ≡ verdict_text verdict

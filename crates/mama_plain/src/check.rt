@@ -8,7 +8,8 @@ ghost use Rattle.mama_script.specs.Tree.{IsScript, script_text};
 ghost use Rattle.mama_script.specs.declared.fault.ScriptFault.TheVariants as script_fault;
 ghost use Rattle.mama_record.specs.RunData.{RunData};
 ghost use Rattle.mama_record.specs.LogText as texts;
-ghost use Rattle.mama_log_read.specs.Logged.{IsLogged};
+ghost use Rattle.mama_log_read.specs.Logged.{HasLog, IsLogged};
+ghost use Rattle.mama_words.specs.declared.version.Version.{Version};
 ghost use Rattle.mama_log_read.specs.Unfit.{IsFirstUnfit, IfBad, OnlyMemory};
 ghost use Rattle.mama_check.specs.declared.verdict.Actor.{Actor};
 ghost use Rattle.mama_check.specs.declared.verdict.Verdict.{Verdict};
@@ -112,7 +113,7 @@ fn write_verdict<K: Sink>(alloc: Global, text: &[u8], sink: &mut K) -> Status
 }
 
 /// The answer where there is no verdict.
-fn status_of(cause: NoVerdict) -> Status
+pub(crate) fn status_of(cause: NoVerdict) -> Status
     requires { (line limit : ℕ) → cause ≡ NoVerdict.Script (script_fault.OverLimit line limit) → line ≢ 0 }
     ensures words { result ≢ Status.BadWords }
     ensures read { result ≢ Status.ReadFault }
@@ -170,7 +171,7 @@ fn verdict_on(alloc: Global, front: &[u8], log: &[u8]) -> Result<Verdict, NoVerd
     ensures verdict { IfOk result (λ verdict. IsVerdictOf (front.now ++ (texts.line (codes "log") ++ log.now)) verdict (said.verdict_text verdict)) }
     ensures cause { IfErr result (λ cause. IsNoVerdict front.now (Some log.now) cause) }
     ensures fitting { (script : ScriptData) (run : RunData) → IsScript script → front.now ≡ script_text script → IsLogged script run
-        → log.now ≡ texts.log_text script.shape run → (line : ℕ) → result ≢ Err (NoVerdict.Log line) }
+        → (v : Version) → HasLog script v → log.now ≡ texts.log_text v script.shape run → (line : ℕ) → result ≢ Err (NoVerdict.Log line) }
 {
     let script = match parse(alloc, front) {
         Ok(script) => script,
@@ -189,7 +190,7 @@ fn verdict_on(alloc: Global, front: &[u8], log: &[u8]) -> Result<Verdict, NoVerd
 fn judge(alloc: Global, script: &Script, log: &[u8]) -> Result<Verdict, LogFault>
     ensures verdict { IfOk result (IsJudged script.now log.now) }
     ensures unfit { IfErr result (λ fault. IfBad fault (IsFirstUnfit script.now log.now)) }
-    ensures fitting { (run : RunData) → IsLogged script.now run → log.now ≡ texts.log_text script.now.shape run → IfErr result OnlyMemory }
+    ensures fitting { (v : Version) (run : RunData) → HasLog script.now v → IsLogged script.now run → log.now ≡ texts.log_text v script.now.shape run → IfErr result OnlyMemory }
 {
     let run = match parse_log(alloc, script, log) {
         Ok(run) => run,

@@ -10,6 +10,8 @@ pub enum Command {
     Serial,
     /// Judges whether a log is that of a legal run of its script.
     Check,
+    /// Writes a script, or a script and its log, in version 2.
+    Rewrite,
     /// Writes the script of a seed.
     Gen { seed: u64 },
 }
@@ -33,6 +35,8 @@ fn command_named(name: &str) -> Option<Command>
         Some(Command::Serial)
     } else if name == "check" {
         Some(Command::Check)
+    } else if name == "rewrite" {
+        Some(Command::Rewrite)
     } else {
         None
     }

@@ -10,6 +10,7 @@ mod check;
 mod command;
 mod laws;
 mod parts;
+mod rewrite;
 mod run;
 mod seed;
 mod status;
@@ -18,7 +19,7 @@ pub use check::NoVerdict;
 pub use command::Command;
 pub use laws::{
     legal_records_keep_promises, logs_of_serial_are_lawful, logs_of_serial_are_legal,
-    scripts_of_seeds_are_accepted,
+    rewritten_is_kept, scripts_of_seeds_are_accepted,
 };
 pub use run::{MOST_INPUT, NoLog, run_plain};
 pub use status::Status;

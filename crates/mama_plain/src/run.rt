@@ -12,23 +12,25 @@ ghost use Rattle.mama_check.specs.declared.verdict.Actor.{Actor};
 ghost use Rattle.mama_check.specs.declared.verdict.Verdict.{Verdict};
 ghost use Rattle.mama_check.specs.declared.verdict.Verdict.TheVariants as verdicts;
 ghost use Rattle.mama_gen.specs.Generated.{generated};
-ghost use Rattle.mama_plain.specs.Command.{is_serial, is_check, is_command, seed_in};
+ghost use Rattle.mama_plain.specs.Command.{is_serial, is_check, is_rewrite, is_command, seed_in};
 ghost use Rattle.mama_plain.specs.Parts.{script_part, log_part};
 ghost use Rattle.mama_plain.specs.Verdict.{IsChecked, IsVerdictOf, IsBadLog};
 ghost use Rattle.mama_plain.specs.Answers.{GaveAll, IsAccepted, IsLogOf, IsEndOfGen, OnUnplayed, OnSilent};
 ghost use Rattle.mama_plain.specs.Causes.{IsCause};
+ghost use Rattle.mama_plain.specs.Rewritten.{IsInTwo, IsTaken};
 ghost use Rattle.mama_plain.specs.Promises.{KeepsPromises, IsLawfulRun};
 
 use crate::check::judge_input;
 use crate::command::{Command, command_of};
 use crate::laws::{legal_records_keep_promises, logs_of_serial_are_lawful};
+use crate::rewrite::rewrite_input;
 use crate::seed::write_script;
 use crate::status::{Status, script_status};
 use mama_check::legal_records_are_formed;
 use mama_drive::serial;
 use mama_edge::{Clock, ReadAll, Sink, Source, read_all, write_all_counted};
 use mama_laws_legal::round_is_legal;
-use mama_laws_logged::{legal_records_are_logged, logs_tell_one_record, moments_fit};
+use mama_laws_logged::{legal_records_are_logged, log_fits, logs_tell_one_record, moments_fit};
 use mama_memory::OutOfMemory;
 use mama_record::{RunRecord, print_log};
 use mama_script::{Script, ScriptFault, first_fault_is_told, parse};
@@ -48,7 +50,8 @@ pub enum NoLog {
 
 /// Serves the command that the words name. `serial` reads a script from the source, plays it on one thread and writes
 /// its log to the sink. `check` reads a script, a line `log`, and a log, and writes whether the log is that of a legal run
-/// of the script. `gen` with a seed reads nothing, and writes the script of that seed. It always returns.
+/// of the script. `rewrite` reads a script, or a script, a line `log`, and a log, and writes the same in version 2. `gen` with a
+/// seed reads nothing, and writes the script of that seed. It always returns.
 ///
 /// At `Ok` of `serial` the log is that of the record that the script has where its clients read the moments of that record:
 /// `IsLogOf`; and that record keeps all promises of a run: `IsLawfulRun`. Where the clock tells its moments, those of the
@@ -113,11 +116,12 @@ pub fn run_plain<S: Source, K: Sink, C: Clock>(
     ensures over_limit_part { is_check (map string_bytes words.now) ≡ true → (line limit : ℕ) → result ≡ Status.OverLimit line limit → line ≢ 0
         → (text : List ℕ) × GaveAll (S.left source.old) (S.left source.new) text × (script_in (script_part text) ≡ Err (script.OverLimit line limit)) }
 
-    // A log is bad only for check, where the script is accepted, and the line is the first behind it that does not fit. It
-    // never is where the source tells an accepted script, the line `log`, and a log that the script can have; nor is that
-    // script refused then.
-    ensures bad_log { (line : ℕ) → result ≡ Status.BadLog line → (is_check (map string_bytes words.now) ≡ true)
-        × (text : List ℕ) × GaveAll (S.left source.old) (S.left source.new) text × IsBadLog (script_part text) (log_part text) line }
+    // A log is bad only for check and rewrite. For check it is where the script is accepted, and the line is the first behind it
+    // that does not fit. It never is where the source tells an accepted script, the line `log`, and a log that the script can
+    // have; nor is that script refused by check then.
+    ensures bad_log_only { (line : ℕ) → result ≡ Status.BadLog line → (is_check (map string_bytes words.now) ≡ true) ⊎ (is_rewrite (map string_bytes words.now) ≡ true) }
+    ensures bad_log { is_check (map string_bytes words.now) ≡ true → (line : ℕ) → result ≡ Status.BadLog line
+        → (text : List ℕ) × GaveAll (S.left source.old) (S.left source.new) text × IsBadLog (script_part text) (log_part text) line }
     ensures fitting { (text : List ℕ) → S.left source.old ≡ Some text → IsChecked text → (line : ℕ) → result ≢ Status.BadLog line }
     ensures fitting_script { is_check (map string_bytes words.now) ≡ true → (text : List ℕ) → S.left source.old ≡ Some text → IsChecked text
         → ((line fault : ℕ) → result ≢ Status.BadScript line fault) × ((line limit : ℕ) → result ≡ Status.OverLimit line limit → line ≡ 0) }
@@ -132,6 +136,27 @@ pub fn run_plain<S: Source, K: Sink, C: Clock>(
     ensures verdict_part { is_check (map string_bytes words.now) ≡ true → (written : ℕ) → result ≡ Status.WriteFault written → (verdict : Verdict) × (text : List ℕ) × (out : List ℕ)
         × GaveAll (S.left source.old) (S.left source.new) text × IsVerdictOf text verdict out × (written < length out) × Appended (K.written sink.old) (K.written sink.new) (take written out) }
     ensures legal_promises { (causal : Bool) (text out : List ℕ) (v : IsVerdictOf text (verdicts.Legal causal) out) → KeepsPromises v.script v.run }
+
+    // REWRITE
+
+    // A fault or a limit is that of the script, as for check. A log is bad where there is a line `log`, the script is accepted,
+    // and the line is the first behind it that does not fit. None of these comes where the source tells an accepted script
+    // alone, or one with the line `log` and a log that it can have.
+    ensures rewrite_bad_script { is_rewrite (map string_bytes words.now) ≡ true → (line fault : ℕ) → result ≡ Status.BadScript line fault
+        → (text : List ℕ) × GaveAll (S.left source.old) (S.left source.new) text × (script_in (script_part text) ≡ Err (script.Bad line fault)) }
+    ensures rewrite_over_limit { is_rewrite (map string_bytes words.now) ≡ true → (line limit : ℕ) → result ≡ Status.OverLimit line limit → line ≢ 0
+        → (text : List ℕ) × GaveAll (S.left source.old) (S.left source.new) text × (script_in (script_part text) ≡ Err (script.OverLimit line limit)) }
+    ensures rewrite_bad_log { is_rewrite (map string_bytes words.now) ≡ true → (line : ℕ) → result ≡ Status.BadLog line
+        → (text log : List ℕ) × GaveAll (S.left source.old) (S.left source.new) text × (log_part text ≡ Some log) × IsBadLog (script_part text) (Some log) line }
+    ensures rewrite_fitting { is_rewrite (map string_bytes words.now) ≡ true → (text : List ℕ) → S.left source.old ≡ Some text → IsTaken text
+        → ((line : ℕ) → result ≢ Status.BadLog line) × ((line fault : ℕ) → result ≢ Status.BadScript line fault) × ((line limit : ℕ) → result ≡ Status.OverLimit line limit → line ≡ 0) }
+
+    // What was written is the text of the same script and record in version 2, and at a write fault a part of it, which is not
+    // the whole.
+    ensures rewritten { is_rewrite (map string_bytes words.now) ≡ true → result ≡ Status.Ok → (text out : List ℕ)
+        × GaveAll (S.left source.old) (S.left source.new) text × IsInTwo text out × Appended (K.written sink.old) (K.written sink.new) out }
+    ensures rewritten_part { is_rewrite (map string_bytes words.now) ≡ true → (written : ℕ) → result ≡ Status.WriteFault written → (text out : List ℕ)
+        × GaveAll (S.left source.old) (S.left source.new) text × IsInTwo text out × (written < length out) × Appended (K.written sink.old) (K.written sink.new) (take written out) }
 
     // GEN
 
@@ -148,6 +173,7 @@ pub fn run_plain<S: Source, K: Sink, C: Clock>(
     match command_of(words) {
         Some(Command::Serial) => play_input(alloc, source, sink, clock),
         Some(Command::Check) => judge_input(alloc, source, sink),
+        Some(Command::Rewrite) => rewrite_input(alloc, source, sink),
         Some(Command::Gen { seed }) => write_script(alloc, seed, sink),
         None => Status::BadWords,
     }
@@ -243,8 +269,11 @@ fn log_of<C: Clock>(alloc: Global, text: &[u8], clock: &mut C) -> Result<Vec<u8>
     };
     let _shape = script.shape();
     logs_tell_one_record();
-    match print_log(alloc, script.shape(), &run) {
-        Ok(log) => Ok(log),
+    match print_log(alloc, script.shape(), &run, script.version()) {
+        Ok(log) => {
+            log_fits(log.as_slice());
+            Ok(log)
+        }
         Err(OutOfMemory) => Err(NoLog::Memory),
     }
 }

@@ -6,7 +6,6 @@ use Rattle.mama_msg.specs.Equality.{same_message}
 use Rattle.mama_event.specs.Object.{same_sub, same_timer, same_object}
 use Rattle.mama_event.specs.Equality.{same_quality, same_call_note, same_publisher_entry, same_queue_note, same_bridge_note}
 use Rattle.mama_event.specs.declared.market.ImageHead.{ImageHead}
-use Rattle.mama_event.specs.declared.callback.CallNote.{CallNote}
 use Rattle.mama_event.specs.declared.publisher_entry.PublisherEntry.{PublisherEntry}
 use Rattle.mama_event.specs.declared.to_bridge.BridgeNote.{BridgeNote}
 use Rattle.mama_event.specs.declared.to_queue.QueueNote.{QueueNote}

@@ -1,19 +1,20 @@
--- believed: The text of a log: the record of a run, line by line. Each line is ended by one LF.
-use Rattle.std.specs.Prelude.{ℕ, zero, suc, ◌-◌, List, [], ◌∷◌, ◌++◌, length, codes}
+-- believed: The text of a log: the record of a run, line by line, in either version. Each line is ended by one LF.
+use Rattle.std.specs.Prelude.{ℕ, suc, List, [], ◌∷◌, ◌++◌, length, map, codes}
 use Rattle.std.specs.List.{flat_map}
 use Rattle.mama_edge.specs.Decimal.{decimal}
-use Rattle.mama_msg.specs.Field.{FieldData}
 use Rattle.mama_words.specs.Id.{sub_text, timer_text, inbox_text, object_text}
-use Rattle.mama_words.specs.Kind.{msg_kind_text, quality_text}
+use Rattle.mama_words.specs.Kind.{msg_kind_text, quality_text, strategy_text}
+use Rattle.mama_words.specs.declared.version.Version.{Version}
+use Rattle.mama_words.specs.declared.version.Version.TheVariants as version
 use Rattle.mama_words.specs.Field.{fields_text}
 use Rattle.mama_words.specs.Order.{order_text, word_of, spaced_number}
 use Rattle.mama_event.specs.declared.ids.SubId.{SubId}
 use Rattle.mama_event.specs.declared.shape.Shape.{Shape}
+use Rattle.mama_event.specs.declared.shape.Strategy.{Strategy}
 use Rattle.mama_event.specs.declared.market.MarketMsg.{MarketMsg}
 use Rattle.mama_event.specs.declared.market.Quality.{Quality}
 use Rattle.mama_event.specs.declared.market.ImageHead.{ImageHead}
 use Rattle.mama_event.specs.declared.order.Order.{Order}
-use Rattle.mama_event.specs.declared.order.Order.TheVariants as order
 use Rattle.mama_event.specs.declared.callback.Callback.{Callback}
 use Rattle.mama_event.specs.declared.callback.Callback.TheVariants as on
 use Rattle.mama_event.specs.declared.callback.CallNote.{CallNote}
@@ -33,6 +34,10 @@ use Rattle.mama_record.specs.RunData.{RunData, ObjectCalls, LastImage}
 -- a line of this text
 abbrev pub line : List ℕ → List ℕ
 line text = text ++ 10 ∷ []
+
+-- the text of some lines, each ended by one LF
+abbrev pub lines_text : List (List ℕ) → List ℕ
+lines_text lines = flat_map line lines
 
 -- who put an event
 abbrev pub putter_text : Putter → List ℕ
@@ -92,14 +97,27 @@ publisher_entry_text Done = codes "done"
 publisher_entry_text (Took note) = publisher_note_text note
 
 -- an entry that came by a port: who put it, and its note
+abbrev pub bridge_entry_text : Shape → ℕ × BridgeNote → List ℕ
+bridge_entry_text shape e = putter_text (bridge_putter shape e.0) ++ 32 ∷ bridge_note_text e.1
+
+abbrev pub timers_entry_text : Shape → ℕ × TimersNote → List ℕ
+timers_entry_text shape e = putter_text (timers_putter shape e.0) ++ 32 ∷ timers_note_text e.1
+
+abbrev pub queue_entry_text : ℕ × QueueNote → List ℕ
+queue_entry_text e = putter_text (queue_putter e.0) ++ 32 ∷ queue_note_text e.1
+
+-- the line of an entry of each journal
+abbrev pub publisher_entry_line : PublisherEntry → List ℕ
+publisher_entry_line e = line (publisher_entry_text e)
+
 abbrev pub bridge_entry_line : Shape → ℕ × BridgeNote → List ℕ
-bridge_entry_line shape e = line (putter_text (bridge_putter shape e.0) ++ 32 ∷ bridge_note_text e.1)
+bridge_entry_line shape e = line (bridge_entry_text shape e)
 
 abbrev pub timers_entry_line : Shape → ℕ × TimersNote → List ℕ
-timers_entry_line shape e = line (putter_text (timers_putter shape e.0) ++ 32 ∷ timers_note_text e.1)
+timers_entry_line shape e = line (timers_entry_text shape e)
 
 abbrev pub queue_entry_line : ℕ × QueueNote → List ℕ
-queue_entry_line e = line (putter_text (queue_putter e.0) ++ 32 ∷ queue_note_text e.1)
+queue_entry_line e = line (queue_entry_text e)
 
 -- CALLBACKS
 
@@ -119,56 +137,98 @@ callback_text on.Destroy = codes "destroy"
 callback_text (on.Tick moment) = codes "tick " ++ decimal moment
 callback_text (on.Reply body) = codes "reply" ++ fields_text body
 
+abbrev pub given_text : Order → List ℕ
+given_text o = codes "order " ++ order_text (word_of o)
+
 abbrev pub order_line : Order → List ℕ
-order_line o = line (codes "order " ++ order_text (word_of o))
+order_line o = line (given_text o)
 
--- a callback and its orders
-abbrev pub call_lines : CallNote → List ℕ
-call_lines c = line (callback_text c.call) ++ flat_map order_line c.orders
+-- the lines of a callback and its orders
+abbrev pub call_texts : CallNote → List (List ℕ)
+call_texts c = callback_text c.call ∷ map given_text c.orders
 
--- SECTIONS
-
--- the sections of a list that are numbered from n
-abbrev pub numbered : {A : Type 0} → (ℕ → A → List ℕ) → ℕ → List A → List ℕ
-numbered section n [] = []
-numbered section n (x ∷ xs) = section n x ++ numbered section (suc n) xs
-
-abbrev pub clock_line : ℕ → List ℕ
-clock_line moment = line (codes "clock " ++ decimal moment)
-
-abbrev pub client_section : ℕ → List ℕ → List ℕ
-client_section n moments = line (codes "client " ++ decimal n) ++ flat_map clock_line moments
-
-abbrev pub publisher_entry_line : PublisherEntry → List ℕ
-publisher_entry_line e = line (publisher_entry_text e)
-
-abbrev pub publisher_section : ℕ → List PublisherEntry → List ℕ
-publisher_section n journal = line (codes "publisher " ++ decimal n) ++ flat_map publisher_entry_line journal
-
-abbrev pub queue_section : ℕ → List (ℕ × QueueNote) → List ℕ
-queue_section n journal = line (codes "queue " ++ decimal n) ++ flat_map queue_entry_line journal
-
-abbrev pub object_section : ObjectCalls → List ℕ
-object_section o = line (codes "on " ++ object_text o.object) ++ flat_map call_lines o.calls
+-- IMAGES
 
 abbrev pub image_head_text : SubId → ImageHead → List ℕ
 image_head_text sub head = sub_text sub ++ 32 ∷ quality_text head.quality ++ spaced_number head.sender ++ spaced_number head.last
 
-abbrev pub image_line : LastImage → List ℕ
-image_line i = line (image_head_text i.sub i.head ++ fields_text i.body)
+abbrev pub image_text : LastImage → List ℕ
+image_text i = image_head_text i.sub i.head ++ fields_text i.body
 
--- the log of a run, for a system of this shape
-abbrev pub log_text : Shape → RunData → List ℕ
-log_text shape run =
-    line (codes "mama log 1")
-    ++ numbered client_section 0 run.clients
-    ++ numbered publisher_section 0 run.publishers
-    ++ line (codes "bridge")
-    ++ flat_map (bridge_entry_line shape) run.bridge
-    ++ line (codes "timers")
-    ++ flat_map (timers_entry_line shape) run.timers
-    ++ numbered queue_section 0 run.queues
-    ++ flat_map object_section run.calls
-    ++ line (codes "images")
-    ++ flat_map image_line run.images
-    ++ line (codes "end")
+abbrev pub image_line : LastImage → List ℕ
+image_line i = line (image_text i)
+
+-- CLOCKS
+
+abbrev pub clock_text : ℕ → List ℕ
+clock_text moment = codes "clock " ++ decimal moment
+
+abbrev pub clock_line : ℕ → List ℕ
+clock_line moment = line (clock_text moment)
+
+-- SECTIONS
+
+-- a section of a log: the line that begins it, and the lines behind it, each without its LF
+pub record LogSection : Type 0 where
+  pub head : List ℕ
+  pub lines : List (List ℕ)
+
+abbrev pub client_section : ℕ → List ℕ → LogSection
+client_section n moments = record { head = codes "client " ++ decimal n; lines = map clock_text moments }
+
+abbrev pub publisher_section : ℕ → List PublisherEntry → LogSection
+publisher_section n journal = record { head = codes "publisher " ++ decimal n; lines = map publisher_entry_text journal }
+
+abbrev pub bridge_section : Shape → List (ℕ × BridgeNote) → LogSection
+bridge_section shape journal = record { head = codes "bridge"; lines = map (bridge_entry_text shape) journal }
+
+abbrev pub timers_section : Shape → List (ℕ × TimersNote) → LogSection
+timers_section shape journal = record { head = codes "timers"; lines = map (timers_entry_text shape) journal }
+
+abbrev pub queue_section : ℕ → List (ℕ × QueueNote) → LogSection
+queue_section n journal = record { head = codes "queue " ++ decimal n; lines = map queue_entry_text journal }
+
+abbrev pub object_section : ObjectCalls → LogSection
+object_section o = record { head = codes "on " ++ object_text o.object; lines = flat_map call_texts o.calls }
+
+abbrev pub images_section : List LastImage → LogSection
+images_section images = record { head = codes "images"; lines = map image_text images }
+
+-- the sections of a list that are numbered from n
+abbrev pub numbered : {A : Type 0} → (ℕ → A → LogSection) → ℕ → List A → List LogSection
+numbered section n [] = []
+numbered section n (x ∷ xs) = section n x ∷ numbered section (suc n) xs
+
+-- the sections of a record's log, for a system of this shape
+abbrev pub log_sections : Shape → RunData → List LogSection
+log_sections shape run =
+    numbered client_section 0 run.clients
+    ++ (numbered publisher_section 0 run.publishers
+    ++ (bridge_section shape run.bridge ∷ timers_section shape run.timers
+    ∷ (numbered queue_section 0 run.queues
+    ++ (map object_section run.calls
+    ++ images_section run.images ∷ []))))
+
+-- VERSIONS
+
+-- version 2 tells behind the first line of a section how many lines follow
+abbrev pub told : Version → ℕ → List ℕ
+told version.One count = []
+told version.Two count = 32 ∷ decimal count
+
+-- the lines of a section. Those of version 2 are those of version 1, with their number told.
+abbrev pub counted : Version → LogSection → List (List ℕ)
+counted v s = (s.head ++ told v (length s.lines)) ∷ s.lines
+
+-- the lines before the sections: version 2 tells the strategy
+abbrev pub title : Version → Strategy → List (List ℕ)
+title version.One strategy = codes "mama log 1" ∷ []
+title version.Two strategy = codes "mama log 2" ∷ (codes "strategy " ++ strategy_text strategy) ∷ []
+
+-- the lines of the log of a run in a version
+abbrev pub log_lines : Version → Shape → RunData → List (List ℕ)
+log_lines v shape run = title v shape.strategy ++ (flat_map (counted v) (log_sections shape run) ++ codes "end" ∷ [])
+
+-- the log of a run in a version
+abbrev pub log_text : Version → Shape → RunData → List ℕ
+log_text v shape run = lines_text (log_lines v shape run)

@@ -1,6 +1,7 @@
 ghost use Rattle.std.specs.Prelude.{◌≡◌, ◌++◌, OnOk};
 ghost use Rattle.std.specs.List.{flat_map};
 ghost use Rattle.mama_record.specs.LogText as text;
+ghost use Rattle.mama_record.specs.SectionText.{call_lines};
 
 use crate::words::{put_number, put_spaced_number};
 use mama_edge::print_u64;
@@ -81,7 +82,7 @@ fn put_order_line(order: &Order, out: &mut Vec<u8>) -> Result<(), OutOfMemory>
 
 /// A callback, and the orders that were given in it.
 pub fn put_call(note: &CallNote, out: &mut Vec<u8>) -> Result<(), OutOfMemory>
-    ensures { OnOk result (out.new.items ≡ out.old.items ++ text.call_lines note.now) }
+    ensures { OnOk result (out.new.items ≡ out.old.items ++ call_lines note.now) }
 {
     put_callback(&note.call, out)?;
     out.push(b'\n')?;

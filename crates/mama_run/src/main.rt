@@ -1,5 +1,6 @@
 //! Plays scripts of publishers, subscribers and link faults, on one thread or on many, and writes what every actor took and
-//! called back; judges whether such a log is that of a legal run; writes the scripts of seeds, and plays and judges them at once.
+//! called back; judges whether such a log is that of a legal run; writes scripts and logs in version 2; writes the scripts of
+//! seeds, and plays and judges them at once.
 //!
 //! The program is [`run`] over standard input and output, the clock and an open gate; it tells on standard error how it ended,
 //! and by its exit status.
@@ -18,6 +19,7 @@ use std::{env, io};
 const HELP: &str = "usage: mama_run serial
        mama_run play W
        mama_run check
+       mama_run rewrite
        mama_run gen SEED
        mama_run soak SEED W
 
@@ -27,6 +29,8 @@ play       does the same on threads, so that each run may have another log: one 
 check      reads a script, a line that is just log, and a log from standard input, and writes to standard output whether
            the log is that of a legal run of the script: 'legal' and a line 'causal yes' or 'causal no', or
            'not legal L', the number of the first rule that is broken, and the first actor that breaks it
+rewrite    reads a script, or a script, a line that is just log, and a log, each of either version, and writes the same in
+           version 2 to standard output
 gen        reads nothing, and writes to standard output the script of a seed, a decimal number from 0 to 2^64 - 1
 soak       plays the script of a seed on threads, as play does, judges its record, and writes what that counts: 'sends N',
            'subscriptions N', 'notices N', and 'legal'

@@ -42,7 +42,7 @@ or_then {A} {B} (Err d) f e h = inl (ap (λ (x : ScriptFault). failed x) (failed
 record Told (b : Before) (k : ℕ) (text : List ℕ) (e : ScriptFault) : Type 0 where
   found : Flaw
   number : e ≡ at_line k found
-  has : flaw_of b (form_in b.place text) ≡ Some found
+  has : flaw_of b (form_in b.version b.place text) ≡ Some found
 
 judged_flaw : (b : Before) (k : ℕ) (l : Line) (o : Option Flaw) (e : ScriptFault) → flaw b l ≡ o → unless_flawed k l o ≡ Err e → (found : Flaw) × (e ≡ at_line k found) × (flaw b l ≡ Some found)
 judged_flaw b k l None e h u = absurd cc
@@ -58,7 +58,7 @@ end_told b k rest true true e h = absurd cc
 end_told b k rest true false e h = (Fault 3, sym (failed_is {A = List Line} (Bad k 3) e h), refl)
 end_told b k rest false may e h = (Fault 2, sym (failed_is {A = List Line} (Bad k 2) e h), refl)
 
-first_here : (b : Before) (k : ℕ) (text next : List ℕ) (more : List (List ℕ)) (e : ScriptFault) → ((found : Flaw) × (e ≡ at_line k found) × (flaw_of b (form_in b.place text) ≡ Some found)) → FirstFrom b k (text ∷ next ∷ more) e
+first_here : (b : Before) (k : ℕ) (text next : List ℕ) (more : List (List ℕ)) (e : ScriptFault) → ((found : Flaw) × (e ≡ at_line k found) × (flaw_of b (form_in b.version b.place text) ≡ Some found)) → FirstFrom b k (text ∷ next ∷ more) e
 first_here b k text next more e t = record { lines = []; rest = text ∷ next ∷ more; found = t.0; number = t.1 ∙ ap (λ (n : ℕ). at_line n t.0) (omega arith); begins = refl; fit = tt; has = t.2 }
 
 first_later : (b : Before) (k : ℕ) (text next : List ℕ) (more : List (List ℕ)) (e : ScriptFault) (l : Line) → line_in b k text ≡ Ok l → FirstFrom (after b l) (suc k) (next ∷ more) e → FirstFrom b k (text ∷ next ∷ more) e
@@ -85,7 +85,7 @@ first_from b k (rest ∷ []) e some h =
     record { lines = []; rest = rest ∷ []; found = t.0; number = t.1 ∙ ap (λ (n : ℕ). at_line n t.0) (omega arith); begins = refl; fit = tt; has = t.2 }
 first_from b k (text ∷ next ∷ more) e some h =
     elim (or_then (line_in b k text) (λ line. and_then (read_from (after b line) (suc k) (next ∷ more)) (line_first line)) e h) [
-      | inl p ↦ first_here b k text next more e (judged_told b k (form_in b.place text) e p)
+      | inl p ↦ first_here b k text next more e (judged_told b k (form_in b.version b.place text) e p)
       | inr p ↦ first_later b k text next more e p.0 p.1 (first_from (after b p.0) (suc k) (next ∷ more) e (omega arith) (behind_failed p.0 (read_from (after b p.0) (suc k) (next ∷ more)) e p.2))
     ]
 

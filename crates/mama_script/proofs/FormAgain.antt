@@ -20,7 +20,8 @@ use Rattle.mama_words.proofs.Numbers.{number_in_again}
 use Rattle.mama_words.proofs.Cutting.{decimal_lacks}
 use Rattle.mama_words.proofs.KindLaws.{sub_kind_again, strategy_again}
 use Rattle.mama_words.proofs.ValueLaws.{text_again}
-use Rattle.mama_words.specs.declared.nums.Nums.TheVariants.{Unknown}
+use Rattle.mama_words.specs.declared.version.Version.{Version}
+use Rattle.mama_words.specs.Value.{nums_of}
 use Rattle.mama_words.proofs.FieldLaws.{message_again}
 use Rattle.mama_words.proofs.OrderLaws.{order_again}
 use Rattle.mama_words.proofs.Sentences.{parted_again, is_simple, piece_simple}
@@ -50,11 +51,11 @@ fault_again index (Hold by) low high h = rw (between_again 1 4294967295 index lo
 order_line_again : (o : OrderWord) → IsOrder o → order_line_in (order_words o) ≡ Ok (lines.Order o)
 order_line_again o h = ap (λ (r : Result OrderWord ℕ). r >>= λ order. Ok (lines.Order order)) (order_again o h)
 
-order_body_again : (o : OrderWord) → IsOrder o → body_in (head_of_order o) (order_words o) ≡ Ok (lines.Order o)
-order_body_again (orders.Stop id) h = order_line_again (orders.Stop id) h
-order_body_again (orders.Disarm id) h = order_line_again (orders.Disarm id) h
-order_body_again (orders.Close id) h = order_line_again (orders.Close id) h
-order_body_again (orders.Ask id topic fids) h = order_line_again (orders.Ask id topic fids) h
+order_body_again : (v : Version) (o : OrderWord) → IsOrder o → body_in v (head_of_order o) (order_words o) ≡ Ok (lines.Order o)
+order_body_again v (orders.Stop id) h = order_line_again (orders.Stop id) h
+order_body_again v (orders.Disarm id) h = order_line_again (orders.Disarm id) h
+order_body_again v (orders.Close id) h = order_line_again (orders.Close id) h
+order_body_again v (orders.Ask id topic fids) h = order_line_again (orders.Ask id topic fids) h
 
 strategy_line_again : (s : Strategy) → strategy_line_in (codes "strategy" ∷ strategy_text s ∷ []) ≡ Ok (lines.Strategy s)
 unfolding strategy_line_in
@@ -86,24 +87,24 @@ alone_again : (l : Line) (word : List ℕ) → alone_in l (word ∷ []) ≡ Ok l
 unfolding alone_in
 alone_again l word = refl
 
-body_again : (l : Line) → IsLine l → body_in (head_of l) (line_words l) ≡ Ok l
-body_again (lines.Strategy s) h = strategy_line_again s
-body_again (lines.Queues n) h = queues_again n h.0 h.1
-body_again (lines.Topic name) h = topic_again name h.0 h.1
-body_again (lines.Publisher topic base) h = unfold publisher_in in rw (number_in_again topic h.0, message_again Unknown base h.1) refl
-body_again (lines.Update update) h = unfold update_in in rw (message_again Unknown update h) refl
-body_again lines.Recap h = alone_again lines.Recap (codes "recap")
-body_again (lines.Pause rounds) h = pause_again rounds h.0 h.1
-body_again lines.Client h = alone_again lines.Client (codes "client")
-body_again (lines.Sub topic kind queue cache recaps) h =
+body_again : (v : Version) (l : Line) → IsLine v l → body_in v (head_of l) (line_words l) ≡ Ok l
+body_again v (lines.Strategy s) h = strategy_line_again s
+body_again v (lines.Queues n) h = queues_again n h.0 h.1
+body_again v (lines.Topic name) h = topic_again name h.0 h.1
+body_again v (lines.Publisher topic base) h = unfold publisher_in in rw (number_in_again topic h.0, message_again (nums_of v) base h.1) refl
+body_again v (lines.Update update) h = unfold update_in in rw (message_again (nums_of v) update h) refl
+body_again v lines.Recap h = alone_again lines.Recap (codes "recap")
+body_again v (lines.Pause rounds) h = pause_again rounds h.0 h.1
+body_again v lines.Client h = alone_again lines.Client (codes "client")
+body_again v (lines.Sub topic kind queue cache recaps) h =
     unfold sub_in in rw (sub_kind_again kind, number_in_again topic h.0, queue_again queue h.1, between_again 0 4096 cache (omega arith) h.2 (omega (arith, h.2)), between_again 0 1000000 recaps (omega arith) h.3 (omega (arith, h.3))) refl
-body_again (lines.Timer queue interval) h = unfold timer_in in rw (queue_again queue h.0, between_again 0 4294967295 interval (omega arith) h.1 (omega (arith, h.1))) refl
-body_again (lines.Inbox queue) h = unfold inbox_in in rw (queue_again queue h) refl
-body_again (lines.Fault row) h = fault_again row.index row.fault h.0 h.1 h.2
-body_again (lines.At call order) h = unfold at_in in rw (between_again 1 4294967295 call h.0 h.1 (omega (arith, h.1)), order_again order h.2) refl
-body_again (lines.Order order) h = order_body_again order h
-body_again (lines.Now moment) h = now_again moment h
-body_again lines.NowClock h = clock_again
+body_again v (lines.Timer queue interval) h = unfold timer_in in rw (queue_again queue h.0, between_again 0 4294967295 interval (omega arith) h.1 (omega (arith, h.1))) refl
+body_again v (lines.Inbox queue) h = unfold inbox_in in rw (queue_again queue h) refl
+body_again v (lines.Fault row) h = fault_again row.index row.fault h.0 h.1 h.2
+body_again v (lines.At call order) h = unfold at_in in rw (between_again 1 4294967295 call h.0 h.1 (omega (arith, h.1)), order_again order h.2) refl
+body_again v (lines.Order order) h = order_body_again v order h
+body_again v (lines.Now moment) h = now_again moment h
+body_again v lines.NowClock h = clock_again
 
 -- a word of small letters
 fixed : (w : List ℕ) → list_all is_simple w ≡ true → is_empty_word w ≡ false → IsWord w
@@ -118,24 +119,24 @@ fault_are_words index Lose high h = (fixed (codes "lose") refl refl, (decimal_wo
 fault_are_words index Dup high h = (fixed (codes "dup") refl refl, (decimal_word index (omega (arith, high)), tt))
 fault_are_words index (Hold by) high h = (fixed (codes "hold") refl refl, (decimal_word index (omega (arith, high)), (decimal_word by (omega (arith, h.1)), tt)))
 
-line_are_words : (l : Line) → IsLine l → AreWords (line_words l)
-line_are_words (lines.Strategy s) h = (fixed (codes "strategy") refl refl, (strategy_word s, tt))
-line_are_words (lines.Queues n) h = (fixed (codes "queues") refl refl, (decimal_word n h.1, tt))
-line_are_words (lines.Topic name) h = (fixed (codes "topic") refl refl, (quoted_word name h.0.printable, tt))
-line_are_words (lines.Publisher topic base) h = (fixed (codes "publisher") refl refl, (decimal_word topic h.0, field_words Unknown base h.1.fields))
-line_are_words (lines.Update update) h = (fixed (codes "update") refl refl, field_words Unknown update h.fields)
-line_are_words lines.Recap h = (fixed (codes "recap") refl refl, tt)
-line_are_words (lines.Pause rounds) h = (fixed (codes "pause") refl refl, (decimal_word rounds (omega (arith, h.1)), tt))
-line_are_words lines.Client h = (fixed (codes "client") refl refl, tt)
-line_are_words (lines.Sub topic kind queue cache recaps) h =
+line_are_words : (v : Version) (l : Line) → IsLine v l → AreWords (line_words l)
+line_are_words v (lines.Strategy s) h = (fixed (codes "strategy") refl refl, (strategy_word s, tt))
+line_are_words v (lines.Queues n) h = (fixed (codes "queues") refl refl, (decimal_word n h.1, tt))
+line_are_words v (lines.Topic name) h = (fixed (codes "topic") refl refl, (quoted_word name h.0.printable, tt))
+line_are_words v (lines.Publisher topic base) h = (fixed (codes "publisher") refl refl, (decimal_word topic h.0, field_words (nums_of v) base h.1.fields))
+line_are_words v (lines.Update update) h = (fixed (codes "update") refl refl, field_words (nums_of v) update h.fields)
+line_are_words v lines.Recap h = (fixed (codes "recap") refl refl, tt)
+line_are_words v (lines.Pause rounds) h = (fixed (codes "pause") refl refl, (decimal_word rounds (omega (arith, h.1)), tt))
+line_are_words v lines.Client h = (fixed (codes "client") refl refl, tt)
+line_are_words v (lines.Sub topic kind queue cache recaps) h =
     (fixed (codes "sub") refl refl, (decimal_word topic h.0, (sub_kind_word kind, (queue_word queue h.1, (decimal_word cache (omega (arith, h.2)), (decimal_word recaps (omega (arith, h.3)), tt))))))
-line_are_words (lines.Timer queue interval) h = (fixed (codes "timer") refl refl, (queue_word queue h.0, (decimal_word interval (omega (arith, h.1)), tt)))
-line_are_words (lines.Inbox queue) h = (fixed (codes "inbox") refl refl, (queue_word queue h, tt))
-line_are_words (lines.Fault row) h = (fixed (codes "fault") refl refl, fault_are_words row.index row.fault h.1 h.2)
-line_are_words (lines.At call order) h = (fixed (codes "at") refl refl, (decimal_word call (omega (arith, h.1)), order_word order h.2))
-line_are_words (lines.Order order) h = order_word order h
-line_are_words (lines.Now moment) h = (fixed (codes "now") refl refl, (decimal_word moment (omega (arith, h)), tt))
-line_are_words lines.NowClock h = (fixed (codes "now") refl refl, (fixed (codes "clock") refl refl, tt))
+line_are_words v (lines.Timer queue interval) h = (fixed (codes "timer") refl refl, (queue_word queue h.0, (decimal_word interval (omega (arith, h.1)), tt)))
+line_are_words v (lines.Inbox queue) h = (fixed (codes "inbox") refl refl, (queue_word queue h, tt))
+line_are_words v (lines.Fault row) h = (fixed (codes "fault") refl refl, fault_are_words row.index row.fault h.1 h.2)
+line_are_words v (lines.At call order) h = (fixed (codes "at") refl refl, (decimal_word call (omega (arith, h.1)), order_word order h.2))
+line_are_words v (lines.Order order) h = order_word order h
+line_are_words v (lines.Now moment) h = (fixed (codes "now") refl refl, (decimal_word moment (omega (arith, h)), tt))
+line_are_words v lines.NowClock h = (fixed (codes "now") refl refl, (fixed (codes "clock") refl refl, tt))
 
 -- the words of a line behind its head
 abbrev tail : List (List ℕ) → List (List ℕ)
@@ -167,16 +168,16 @@ line_begins (lines.Now moment) = refl
 line_begins lines.NowClock = refl
 
 -- the words of a line's text are the line's
-pub line_parted : (l : Line) → IsLine l → parted_in (line_text l) ≡ Some (line_words l)
-line_parted l h =
+pub line_parted : (v : Version) (l : Line) → IsLine v l → parted_in (line_text l) ≡ Some (line_words l)
+line_parted v l h =
     let first = head_text (head_of l) in
     let rest = tail (line_words l) in
     let e = line_begins l in
-    let words : AreWords (first ∷ rest) = subst (λ (ws : List (List ℕ)). AreWords ws) e (line_are_words l h) in
+    let words : AreWords (first ∷ rest) = subst (λ (ws : List (List ℕ)). AreWords ws) e (line_are_words v l h) in
     ap (λ (ws : List (List ℕ)). parted_in (sentence ws)) e ∙ parted_again first rest words ∙ ap (λ (ws : List (List ℕ)). Some ws) (sym e)
 
-pub form_again : (place : Place) (l : Line) → IsLine l → allows place (head_of l) ≡ true → form_in place (line_text l) ≡ Ok l
+pub form_again : (v : Version) (place : Place) (l : Line) → IsLine v l → allows place (head_of l) ≡ true → form_in v place (line_text l) ≡ Ok l
 unfolding form_in
-form_again place l h stands =
+form_again v place l h stands =
     let begins : head_at place (line_words l) ≡ Some (head_of l) = ap (head_at place) (line_begins l) ∙ head_at_again place (head_of l) (tail (line_words l)) stands in
-    rw (line_parted l h) (rw begins (body_again l h))
+    rw (line_parted v l h) (rw begins (body_again v l h))

@@ -361,15 +361,18 @@ some_client : (b : Before) (cs : List (List ClientLine)) → may_end b.place ≡
 some_client b [] ends h = let bad : true ≡ false = sym h ∙ ends in absurd cc
 some_client b (c ∷ cs) ends h = omega arith
 
--- behind the line that tells the strategy all is as at the beginning of version 1
-body_fits : (v : Version) (told : Strategy) (queues : ℕ) (ls : List Line) → FitFrom (start (version_of (strategy_lines v told ++ lines.Queues queues ∷ ls))) (strategy_lines v told ++ lines.Queues queues ∷ ls) → FitFrom (start version.One) (lines.Queues queues ∷ ls)
+-- in front of the queues
+abbrev opened : Version → Before
+opened v = record (start v) { place = places.Start }
+
+body_fits : (v : Version) (told : Strategy) (queues : ℕ) (ls : List Line) → FitFrom (start (version_of (strategy_lines v told ++ lines.Queues queues ∷ ls))) (strategy_lines v told ++ lines.Queues queues ∷ ls) → FitFrom (opened v) (lines.Queues queues ∷ ls)
 body_fits version.One told queues ls h = h
 body_fits version.Two told queues ls h = h.1
 
 pub script_within : (s : ScriptData) → IsScript s → IsWithin s
 script_within s is =
     let q = s.shape.bounds.queues in
-    let b = after_queues q (start version.One) in
+    let b = after_queues q (opened s.version) in
     let clients = flat_map client_lines s.clients in
     let publishers = flat_map publisher_lines s.publishers ++ clients in
     let fit = body_fits s.version s.shape.strategy q (map topic_line s.topics ++ publishers) is.accepted.fit in

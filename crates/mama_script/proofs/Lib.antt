@@ -13,3 +13,4 @@ pub mod Naming
 pub mod Keeping
 pub mod Counted
 pub mod Standing
+pub mod InTwo

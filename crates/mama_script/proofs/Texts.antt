@@ -62,7 +62,7 @@ body_text_is s =
     ∙ ap (λ (t : List ℕ). joined_text q (flat_map topic_text s.topics) t (flat_map ended clients)) (flat_map-flat_map publisher_lines s.publishers)
     ∙ ap (λ (t : List ℕ). joined_text q (flat_map topic_text s.topics) (flat_map publisher_text s.publishers) t) (flat_map-flat_map client_lines s.clients)
 
-version_told : (v : Version) (told : Strategy) (queues : ℕ) (ls : List Line) → version_of (strategy_lines v told ++ lines.Queues queues ∷ ls) ≡ v
+pub version_told : (v : Version) (told : Strategy) (queues : ℕ) (ls : List Line) → version_of (strategy_lines v told ++ lines.Queues queues ∷ ls) ≡ v
 version_told version.One told queues ls = refl
 version_told version.Two told queues ls = refl
 

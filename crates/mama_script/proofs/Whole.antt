@@ -91,12 +91,12 @@ judged_ok b k (Ok m) l e = let p = unless_ok b k m l (flaw b m) refl e in (ap (�
 
 pub line_found : (b : Before) (k : ℕ) (text : List ℕ) (l : Line) → line_in b k text ≡ Ok l → Fits b l × (text ≡ line_text l)
 line_found b k text l e =
-    let p = judged_ok b k (form_in b.place text) l e in
-    let f = form_found b.place text l p.0 in
+    let p = judged_ok b k (form_in b.version b.place text) l e in
+    let f = form_found b.version b.place text l p.0 in
     (record { form = f.fits; place = f.stands; sound = p.1 }, f.text_is)
 
 line_again : (b : Before) (k : ℕ) (l : Line) → Fits b l → line_in b k (line_text l) ≡ Ok l
-line_again b k l fits = ap (judged b k) (form_again b.place l fits.form fits.place) ∙ ap (unless_flawed k l) fits.sound
+line_again b k l fits = ap (judged b k) (form_again b.version b.place l fits.form fits.place) ∙ ap (unless_flawed k l) fits.sound
 
 end_tests : (empty may : Bool) (k : ℕ) → cond empty (cond may None (Some (Bad k 3))) (Some (Bad k 2)) ≡ None → (empty ≡ true) × (may ≡ true)
 end_tests true true k e = (refl, refl)
@@ -130,21 +130,21 @@ whole_found b k (text ∷ next ∷ more) ls e =
     subst (λ (x : List Line). FitFrom b x × (text ++ 10 ∷ joined (next ∷ more) ≡ flat_map ended x)) (done_is (l.0 ∷ r.0) ls r.2) ((f.0, w.0), same)
 
 -- no line has an end in it
-line_lacks : (l : Line) → IsLine l → lacks 10 (line_text l) ≡ false
-line_lacks l h =
-    let p = chosen_some (is_parted (line_text l)) (words (line_text l)) (line_words l) (line_parted l h) in
+line_lacks : (v : Version) (l : Line) → IsLine v l → lacks 10 (line_text l) ≡ false
+line_lacks v l h =
+    let p = chosen_some (is_parted (line_text l)) (words (line_text l)) (line_words l) (line_parted v l h) in
     let q = and_parts (list_all is_plain (line_text l) && is_outside (place_after Outside (line_text l))) (not (list_any is_empty_word (words (line_text l)))) p.0 in
     let r = and_parts (list_all is_plain (line_text l)) (is_outside (place_after Outside (line_text l))) q.0 in
     all_lack is_plain 10 (line_text l) refl r.0
 
-line_cut : (l : Line) (rest : List ℕ) → IsLine l → pieces 10 (ended l ++ rest) ≡ line_text l ∷ pieces 10 rest
-line_cut l rest h = ap (pieces 10) (ended_then l rest) ∙ pieces_at_some 10 (line_text l ++ 10 ∷ rest) (line_text l) rest (cut_at_again 10 (line_text l) rest (line_lacks l h))
+line_cut : (v : Version) (l : Line) (rest : List ℕ) → IsLine v l → pieces 10 (ended l ++ rest) ≡ line_text l ∷ pieces 10 rest
+line_cut v l rest h = ap (pieces 10) (ended_then l rest) ∙ pieces_at_some 10 (line_text l ++ 10 ∷ rest) (line_text l) rest (cut_at_again 10 (line_text l) rest (line_lacks v l h))
 
 whole_again : (b : Before) (k : ℕ) (ls : List Line) → FitFrom b ls → read_from b k (pieces 10 (flat_map ended ls)) ≡ Ok ls
 whole_again b k [] h = rw h refl
 whole_again b k (l ∷ ls) h =
     let rest = flat_map ended ls in
-    ap (read_from b k) (line_cut l rest h.0.form) ∙ read_from_line b k (line_text l) (pieces 10 rest) (pieces_some 10 rest)
+    ap (read_from b k) (line_cut b.version l rest h.0.form) ∙ read_from_line b k (line_text l) (pieces 10 rest) (pieces_some 10 rest)
     ∙ ap (λ (r : Result Line ScriptFault). and_then r (λ line. and_then (read_from (after b line) (suc k) (pieces 10 rest)) (line_first line))) (line_again b k l h.0)
     ∙ ap (λ (r : Result (List Line) ScriptFault). and_then r (line_first l)) (whole_again (after b l) (suc k) ls h.1)
 
@@ -218,3 +218,22 @@ script_again ls h =
     let v = version_of ls in
     let read : lines_in (pieces 10 (spelling ls)) ≡ Ok ls = ap lines_in (first_cut v (flat_map ended ls)) ∙ lines_again v (pieces 10 (flat_map ended ls)) ls (whole_again (start v) 2 ls h.fit) in
     ap (λ (r : Result (List Line) ScriptFault). and_then r named_or_fault) read ∙ ap (unless_unnamed ls) h.named
+
+-- all lines are of the version of the first
+pub version_kept : (b : Before) (l : Line) → (after b l).version ≡ b.version
+version_kept b (lines.Strategy s) = refl
+version_kept b (lines.Queues n) = refl
+version_kept b (lines.Topic name) = refl
+version_kept b (lines.Publisher topic base) = refl
+version_kept b (lines.Update update) = refl
+version_kept b lines.Recap = refl
+version_kept b (lines.Pause rounds) = refl
+version_kept b lines.Client = refl
+version_kept b (lines.Sub topic kind queue cache recaps) = refl
+version_kept b (lines.Timer queue interval) = refl
+version_kept b (lines.Inbox queue) = refl
+version_kept b (lines.Fault row) = refl
+version_kept b (lines.At call order) = refl
+version_kept b (lines.Order order) = refl
+version_kept b (lines.Now moment) = refl
+version_kept b lines.NowClock = refl

@@ -10,7 +10,7 @@ use Rattle.mama_msg.specs.Message.{apply}
 use Rattle.mama_words.specs.declared.order.OrderWord.{OrderWord}
 use Rattle.mama_words.specs.declared.order.OrderWord.TheVariants as orders
 use Rattle.mama_words.specs.declared.version.Version.{Version}
-use Rattle.mama_words.specs.declared.version.Version.TheVariants as version
+use Rattle.mama_words.specs.declared.version.Version.TheVariants as versions
 use Rattle.mama_script.specs.declared.head.Place.{Place}
 use Rattle.mama_script.specs.declared.head.Place.TheVariants as places
 use Rattle.mama_script.specs.declared.fault.Flaw.{Flaw}
@@ -22,6 +22,8 @@ use Rattle.mama_script.specs.declared.line.Line.TheVariants as lines
 
 -- what was declared so far, and what the section and the object at hand have
 pub record Before : Type 0 where
+  -- the version of the text
+  pub version : Version
   -- where the next line stands
   pub place : Place
   -- the numbers of queues, topics, publishers, clients and subscriptions
@@ -45,12 +47,13 @@ pub record Before : Type 0 where
 
 -- where the line behind the first stands: version 2 tells its strategy there
 abbrev pub opening : Version → Place
-opening version.One = places.Start
-opening version.Two = places.Strategy
+opening versions.One = places.Start
+opening versions.Two = places.Strategy
 
 -- behind the first line of a version
 abbrev pub start : Version → Before
 start v = record {
+  version = v;
   place = opening v;
   queues = 0;
   topics = 0;

@@ -35,7 +35,7 @@ flaw_at_end b rest = if length rest == 0 then (if may_end b.place then None else
 abbrev pub HasFlaw : Before → List (List ℕ) → Flaw → Type 0
 HasFlaw b [] found = ⊥
 HasFlaw b (rest ∷ []) found = flaw_at_end b rest ≡ Some found
-HasFlaw b (text ∷ next ∷ more) found = flaw_of b (form_in b.place text) ≡ Some found
+HasFlaw b (text ∷ next ∷ more) found = flaw_of b (form_in b.version b.place text) ≡ Some found
 
 -- the first line says no version
 abbrev pub IsHeadless : List (List ℕ) → Type 0

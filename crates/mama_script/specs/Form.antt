@@ -8,8 +8,8 @@ use Rattle.mama_words.specs.Reading.{◌>>=◌, or_fault, both}
 use Rattle.mama_words.specs.Parting.{parted_in}
 use Rattle.mama_words.specs.Number.{number_in, between_in}
 use Rattle.mama_words.specs.Kind.{sub_kind_in, strategy_in}
-use Rattle.mama_words.specs.Value.{text_in}
-use Rattle.mama_words.specs.declared.nums.Nums.TheVariants.{Unknown}
+use Rattle.mama_words.specs.Value.{text_in, nums_of}
+use Rattle.mama_words.specs.declared.version.Version.{Version}
 use Rattle.mama_words.specs.Field.{message_in}
 use Rattle.mama_words.specs.Order.{order_in}
 use Rattle.mama_script.specs.declared.head.Head.{Head}
@@ -44,16 +44,17 @@ unfoldable pub topic_in : List (List ℕ) → Result Line ℕ
 topic_in (first ∷ word ∷ []) = or_fault 6 (text_in word) >>= topic_or_fault
 topic_in words = Err 4
 
-unfoldable pub publisher_in : List (List ℕ) → Result Line ℕ
-publisher_in (first ∷ topic ∷ fields) = do
+-- version 2 knows lists of numbers as fields
+unfoldable pub publisher_in : Version → List (List ℕ) → Result Line ℕ
+publisher_in version (first ∷ topic ∷ fields) = do
   topic ← or_fault 5 (number_in topic)
-  base ← message_in Unknown fields
+  base ← message_in (nums_of version) fields
   Ok (lines.Publisher topic base)
-publisher_in words = Err 4
+publisher_in version words = Err 4
 
-unfoldable pub update_in : List (List ℕ) → Result Line ℕ
-update_in (first ∷ fields) = message_in Unknown fields >>= λ update. Ok (lines.Update update)
-update_in words = Err 4
+unfoldable pub update_in : Version → List (List ℕ) → Result Line ℕ
+update_in version (first ∷ fields) = message_in (nums_of version) fields >>= λ update. Ok (lines.Update update)
+update_in version words = Err 4
 
 -- a line of one word
 unfoldable pub alone_in : Line → List (List ℕ) → Result Line ℕ
@@ -119,25 +120,25 @@ now_in (first ∷ word ∷ []) =
 now_in words = Err 4
 
 -- the line that the words spell, the first of which is its head
-abbrev pub body_in : Head → List (List ℕ) → Result Line ℕ
-body_in heads.Strategy words = strategy_line_in words
-body_in heads.Queues words = queues_in words
-body_in heads.Topic words = topic_in words
-body_in heads.Publisher words = publisher_in words
-body_in heads.Update words = update_in words
-body_in heads.Recap words = alone_in lines.Recap words
-body_in heads.Pause words = pause_in words
-body_in heads.Client words = alone_in lines.Client words
-body_in heads.Sub words = sub_in words
-body_in heads.Timer words = timer_in words
-body_in heads.Inbox words = inbox_in words
-body_in heads.Fault words = fault_in words
-body_in heads.At words = at_in words
-body_in heads.Stop words = order_line_in words
-body_in heads.Disarm words = order_line_in words
-body_in heads.Close words = order_line_in words
-body_in heads.Ask words = order_line_in words
-body_in heads.Now words = now_in words
+abbrev pub body_in : Version → Head → List (List ℕ) → Result Line ℕ
+body_in version heads.Strategy words = strategy_line_in words
+body_in version heads.Queues words = queues_in words
+body_in version heads.Topic words = topic_in words
+body_in version heads.Publisher words = publisher_in version words
+body_in version heads.Update words = update_in version words
+body_in version heads.Recap words = alone_in lines.Recap words
+body_in version heads.Pause words = pause_in words
+body_in version heads.Client words = alone_in lines.Client words
+body_in version heads.Sub words = sub_in words
+body_in version heads.Timer words = timer_in words
+body_in version heads.Inbox words = inbox_in words
+body_in version heads.Fault words = fault_in words
+body_in version heads.At words = at_in words
+body_in version heads.Stop words = order_line_in words
+body_in version heads.Disarm words = order_line_in words
+body_in version heads.Close words = order_line_in words
+body_in version heads.Ask words = order_line_in words
+body_in version heads.Now words = now_in words
 
 -- the head, if it may stand here
 abbrev pub if_allowed : Place → Option Head → Option Head
@@ -149,9 +150,9 @@ abbrev pub head_at : Place → List (List ℕ) → Option Head
 head_at place [] = None
 head_at place (first ∷ words) = if_allowed place (head_in first)
 
--- the line that a text spells at this place
-unfoldable pub form_in : Place → List ℕ → Result Line ℕ
-form_in place text = do
+-- the line that a text spells at this place of a script of this version
+unfoldable pub form_in : Version → Place → List ℕ → Result Line ℕ
+form_in version place text = do
   words ← or_fault 2 (parted_in text)
   head ← or_fault 3 (head_at place words)
-  body_in head words
+  body_in version head words

@@ -6,7 +6,8 @@ use Rattle.mama_edge.specs.Decimal.{decimal}
 use Rattle.mama_edge.specs.Quoted.{quoted}
 use Rattle.mama_msg.specs.Value.{IsText}
 use Rattle.mama_words.specs.Kind.{sub_kind_text, strategy_text}
-use Rattle.mama_words.specs.declared.nums.Nums.TheVariants.{Unknown}
+use Rattle.mama_words.specs.declared.version.Version.{Version}
+use Rattle.mama_words.specs.Value.{nums_of}
 use Rattle.mama_words.specs.Field.{field_text, IsMessage}
 use Rattle.mama_words.specs.Order.{order_words, IsOrder}
 use Rattle.mama_words.specs.declared.order.OrderWord.{OrderWord}
@@ -91,21 +92,21 @@ IsFault Lose = Unit {0}
 IsFault Dup = Unit {0}
 IsFault (Hold by) = (1 ≤ by) × (by ≤ 4294967295)
 
--- a line with each number in its range
-abbrev pub IsLine : Line → Type 0
-IsLine (lines.Strategy strategy) = Unit {0}
-IsLine (lines.Queues n) = (1 ≤ n) × (n < 2 ^ 64)
-IsLine (lines.Topic name) = IsText name × ((length name == 0) ≡ false)
-IsLine (lines.Publisher topic base) = (topic < 2 ^ 64) × IsMessage Unknown base
-IsLine (lines.Update update) = IsMessage Unknown update
-IsLine lines.Recap = Unit {0}
-IsLine (lines.Pause rounds) = (1 ≤ rounds) × (rounds ≤ 1000000)
-IsLine lines.Client = Unit {0}
-IsLine (lines.Sub topic kind queue cache recaps) = (topic < 2 ^ 64) × IsQueueName queue × (cache ≤ 4096) × (recaps ≤ 1000000)
-IsLine (lines.Timer queue interval) = IsQueueName queue × (interval ≤ 4294967295)
-IsLine (lines.Inbox queue) = IsQueueName queue
-IsLine (lines.Fault row) = (1 ≤ row.index) × (row.index ≤ 4294967295) × IsFault row.fault
-IsLine (lines.At call order) = (1 ≤ call) × (call ≤ 4294967295) × IsOrder order
-IsLine (lines.Order order) = IsOrder order
-IsLine (lines.Now moment) = moment ≤ 9223372036854775807
-IsLine lines.NowClock = Unit {0}
+-- a line with each number in its range, and fields that the version knows
+abbrev pub IsLine : Version → Line → Type 0
+IsLine version (lines.Strategy strategy) = Unit {0}
+IsLine version (lines.Queues n) = (1 ≤ n) × (n < 2 ^ 64)
+IsLine version (lines.Topic name) = IsText name × ((length name == 0) ≡ false)
+IsLine version (lines.Publisher topic base) = (topic < 2 ^ 64) × IsMessage (nums_of version) base
+IsLine version (lines.Update update) = IsMessage (nums_of version) update
+IsLine version lines.Recap = Unit {0}
+IsLine version (lines.Pause rounds) = (1 ≤ rounds) × (rounds ≤ 1000000)
+IsLine version lines.Client = Unit {0}
+IsLine version (lines.Sub topic kind queue cache recaps) = (topic < 2 ^ 64) × IsQueueName queue × (cache ≤ 4096) × (recaps ≤ 1000000)
+IsLine version (lines.Timer queue interval) = IsQueueName queue × (interval ≤ 4294967295)
+IsLine version (lines.Inbox queue) = IsQueueName queue
+IsLine version (lines.Fault row) = (1 ≤ row.index) × (row.index ≤ 4294967295) × IsFault row.fault
+IsLine version (lines.At call order) = (1 ≤ call) × (call ≤ 4294967295) × IsOrder order
+IsLine version (lines.Order order) = IsOrder order
+IsLine version (lines.Now moment) = moment ≤ 9223372036854775807
+IsLine version lines.NowClock = Unit {0}

@@ -39,7 +39,7 @@ judged b k (Ok line) = unless_flawed k line (flaw b line)
 
 -- the line of this number that a text spells behind the lines before it
 abbrev pub line_in : Before → ℕ → List ℕ → Result Line ScriptFault
-line_in b k text = judged b k (form_in b.place text)
+line_in b k text = judged b k (form_in b.version b.place text)
 
 -- what is wrong with what stands behind the last line's end: it is to be nothing, at a place where a script may end
 abbrev pub end_fault : Place → ℕ → List ℕ → Option ScriptFault
@@ -105,7 +105,7 @@ spelling ls = (first_line (version_of ls) ++ 10 ∷ []) ++ flat_map ended ls
 
 -- a line fits those before it
 pub record Fits (b : Before) (l : Line) : Type 0 where
-  pub form : IsLine l
+  pub form : IsLine b.version l
   pub place : allows b.place (head_of l) ≡ true
   pub sound : flaw b l ≡ None
 

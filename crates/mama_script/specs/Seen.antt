@@ -4,6 +4,7 @@ use Rattle.mama_script.specs.Before.{Before}
 
 abbrev pub seen : Context → Before
 seen c = record {
+  version = c.version;
   place = c.place;
   queues = c.queues;
   topics = c.topics;

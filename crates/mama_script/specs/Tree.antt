@@ -82,6 +82,10 @@ script_text s = spelling (lines_of s)
 abbrev pub topic_of_part : PublisherPart → ℕ
 topic_of_part part = part.topic
 
+-- the same script in version 2, which tells the strategy that it has
+abbrev pub in_two : ScriptData → ScriptData
+in_two s = record s { version = version.Two }
+
 -- a script of version 1 has the first strategy
 abbrev pub HasStrategy : Version → Strategy → Type 0
 HasStrategy version.One s = s ≡ strategy.One

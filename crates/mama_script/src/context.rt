@@ -35,6 +35,7 @@ const MOST_ORDERS: u8 = 8;
 /// What was declared so far, and what the section and the object at hand have.
 #[derive(Drop)]
 pub struct Context {
+    version: Version,
     place: Place,
     queues: u64,
     topics: u64,
@@ -67,6 +68,7 @@ impl Context {
         ensures { seen result ≡ before.start version }
     {
         Context {
+            version,
             place: Place::opening(version),
             queues: 0,
             topics: 0,
@@ -81,6 +83,13 @@ impl Context {
             indexes: BTreeSet::new(alloc),
             calls: BTreeMap::new(alloc),
         }
+    }
+
+    /// The version of the text.
+    pub fn version(&self) -> Version
+        ensures { result ≡ self.now.version }
+    {
+        self.version
     }
 
     /// Where the next line stands.

@@ -9,21 +9,26 @@ use crate::head::{Head, Place, read_head};
 use crate::line::{Line, QueueName};
 use mama_link::{Fault, FaultRow};
 use mama_words::{
-    Nums, ReadError, parted, read_between, read_message, read_number, read_order, read_strategy,
-    read_sub_kind, read_text,
+    Nums, ReadError, Version, parted, read_between, read_message, read_number, read_order,
+    read_strategy, read_sub_kind, read_text,
 };
 use std::alloc::Global;
 
 const MOST_U32: u64 = 4_294_967_295;
 
-/// The line that a text spells at this place, or the lowest of its faults from 2 to 8.
+/// The line that a text spells at this place of a script of this version, or the lowest of its faults from 2 to 8.
 #[tactic(auto, unfolding(crate::specs::Form::form_in))]
-pub fn read_form(alloc: Global, place: Place, text: &[u8]) -> Result<Line, ReadError>
-    ensures { Gives (λ l. l) result (forms.form_in place text.now) }
+pub fn read_form(
+    alloc: Global,
+    version: Version,
+    place: Place,
+    text: &[u8],
+) -> Result<Line, ReadError>
+    ensures { Gives (λ l. l) result (forms.form_in version place text.now) }
 {
     let words = parted(alloc, text)?;
     let head = head_at(place, &words).ok_or(ReadError::Fault(3))?;
-    read_body(alloc, head, &words)
+    read_body(alloc, version, head, &words)
 }
 
 // What the first word begins, if it may stand here.
@@ -46,15 +51,20 @@ fn if_allowed(place: Place, head: Option<Head>) -> Option<Head>
 }
 
 // The line that the words spell, the first of which is its head.
-fn read_body(alloc: Global, head: Head, words: &[&[u8]]) -> Result<Line, ReadError>
-    ensures { Gives (λ l. l) result (forms.body_in head (map (λ w. w.now) words.now)) }
+fn read_body(
+    alloc: Global,
+    version: Version,
+    head: Head,
+    words: &[&[u8]],
+) -> Result<Line, ReadError>
+    ensures { Gives (λ l. l) result (forms.body_in version head (map (λ w. w.now) words.now)) }
 {
     match head {
         Head::Strategy => read_strategy_line(words),
         Head::Queues => read_queues(words),
         Head::Topic => read_topic(alloc, words),
-        Head::Publisher => read_publisher(alloc, words),
-        Head::Update => read_update(alloc, words),
+        Head::Publisher => read_publisher(alloc, version, words),
+        Head::Update => read_update(alloc, version, words),
         Head::Recap => read_recap(words),
         Head::Pause => read_pause(words),
         Head::Client => read_client(words),
@@ -152,13 +162,13 @@ fn read_topic(alloc: Global, words: &[&[u8]]) -> Result<Line, ReadError>
 }
 
 #[tactic(auto, unfolding(crate::specs::Form::publisher_in))]
-fn read_publisher(alloc: Global, words: &[&[u8]]) -> Result<Line, ReadError>
-    ensures { Gives (λ l. l) result (forms.publisher_in (map (λ w. w.now) words.now)) }
+fn read_publisher(alloc: Global, version: Version, words: &[&[u8]]) -> Result<Line, ReadError>
+    ensures { Gives (λ l. l) result (forms.publisher_in version (map (λ w. w.now) words.now)) }
 {
     match words {
         [_, topic, fields @ ..] => {
             let topic = read_number(topic).ok_or(ReadError::Fault(5))?;
-            let base = read_message(alloc, Nums::Unknown, fields)?;
+            let base = read_message(alloc, Nums::of(version), fields)?;
             Ok(Line::Publisher { topic, base })
         }
         _ => Err(ReadError::Fault(4)),
@@ -166,12 +176,12 @@ fn read_publisher(alloc: Global, words: &[&[u8]]) -> Result<Line, ReadError>
 }
 
 #[tactic(auto, unfolding(crate::specs::Form::update_in))]
-fn read_update(alloc: Global, words: &[&[u8]]) -> Result<Line, ReadError>
-    ensures { Gives (λ l. l) result (forms.update_in (map (λ w. w.now) words.now)) }
+fn read_update(alloc: Global, version: Version, words: &[&[u8]]) -> Result<Line, ReadError>
+    ensures { Gives (λ l. l) result (forms.update_in version (map (λ w. w.now) words.now)) }
 {
     match words {
         [_, fields @ ..] => {
-            let update = read_message(alloc, Nums::Unknown, fields)?;
+            let update = read_message(alloc, Nums::of(version), fields)?;
             Ok(Line::Update(update))
         }
         _ => Err(ReadError::Fault(4)),

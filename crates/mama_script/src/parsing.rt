@@ -129,7 +129,7 @@ fn read_line(
     ensures exact { Gives (λ l. l) result (reading.line_in (seen context.old) number text.now) }
     ensures after { IfOk result (λ l. seen context.new ≡ before.after (seen context.old) l) }
 {
-    match read_form(alloc, context.place(), text) {
+    match read_form(alloc, context.version(), context.place(), text) {
         Ok(line) => admit_line(context, number, line),
         Err(ReadError::Memory) => Err(ScriptFault::OutOfMemory),
         Err(ReadError::Fault(fault)) => Err(ScriptFault::Bad {

@@ -69,7 +69,7 @@ impl Eq for Script {
 
 impl Script {
     ghost use Rattle.mama_script.specs.Taken.{script_of_parts};
-    ghost use Rattle.mama_script.specs.Tree.{IsScript};
+    ghost use Rattle.mama_script.specs.Tree.{IsScript, in_two};
     ghost use Rattle.mama_script.specs.Within.{IsWithin};
 
     // The script of these parts, which an accepted text says.
@@ -108,6 +108,26 @@ impl Script {
         ensures { result ≡ self.now.version }
     {
         self.version
+    }
+
+    /// The same script in version 2. A script of version 1 has the first strategy, which version 2 tells.
+    pub fn into_two(self) -> Script
+        ensures { result ≡ in_two self }
+    {
+        let Script {
+            version: _,
+            shape,
+            topics,
+            publishers,
+            clients,
+        } = self;
+        Script {
+            version: Version::Two,
+            shape,
+            topics,
+            publishers,
+            clients,
+        }
     }
 
     /// The names of the topics, in order of the topics' numbers.

@@ -31,9 +31,9 @@ fn read(alloc: Global, script: &Script, log: &[u8]) -> Option<RunRecord> {
 
 // The log of a record.
 fn printed(alloc: Global, script: &Script, run: &RunRecord) -> Option<Vec<u8>> {
-    match print_log(alloc, script.shape(), run) {
+    match print_log(alloc, script.shape(), run, script.version()) {
         Ok(log) => Some(log),
-        Err(_) => print_log(alloc, script.shape(), run).ok(),
+        Err(_) => print_log(alloc, script.shape(), run, script.version()).ok(),
     }
 }
 
@@ -71,7 +71,9 @@ fn gives(alloc: Global, text: &str, moments: Vec<u64>, log: &[u8]) -> Result<boo
     let script = parsed(alloc, text)?;
     let run = SerialRun::new(alloc, &script)?;
     match record_of(run, moments) {
-        Some(record) => Ok(print_log(alloc, script.shape(), &record)?.as_slice() == log),
+        Some(record) => Ok(
+            print_log(alloc, script.shape(), &record, script.version())?.as_slice() == log,
+        ),
         None => Ok(false),
     }
 }

@@ -10,6 +10,7 @@ use mama_event::{CallNote, Callback, ImageHead, ObjectId, Orders, SubId, TimerId
 use mama_log_line::{Names, call_in, image_in};
 use mama_memory::OutOfMemory;
 use mama_msg::Msg;
+use mama_words::Nums;
 use std::alloc::Global;
 use std::test::Fail;
 
@@ -165,7 +166,7 @@ const TIMER: ObjectId = ObjectId::Timer(TimerId {
 });
 
 fn heard(alloc: Global, line: &str) -> Result<Option<Callback>, OutOfMemory> {
-    call_in(alloc, TIMER, line.as_bytes())
+    call_in(alloc, Nums::Unknown, TIMER, line.as_bytes())
 }
 
 fn call_of(alloc: Global, line: &str) -> Result<CallNote, Fail> {

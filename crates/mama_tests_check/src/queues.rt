@@ -90,7 +90,7 @@ fn left(alloc: Global, plans: &Plans, queue: &ServedQueue) -> Result<RunRecord, 
 }
 
 fn printed(alloc: Global, script: &Script, run: &RunRecord) -> Result<Vec<u8>, OutOfMemory> {
-    print_log(alloc, script.shape(), run)
+    print_log(alloc, script.shape(), run, script.version())
 }
 
 // Whether the log of a record with no journals has this row behind its heads.

@@ -14,6 +14,8 @@ mod played;
 #[cfg(test)]
 mod refused;
 #[cfg(test)]
+mod rewritten;
+#[cfg(test)]
 mod serial;
 #[cfg(test)]
 mod worlds;

@@ -11,6 +11,7 @@ use mama_memory::OutOfMemory;
 use mama_msg::Msg;
 use mama_record::{RunRecord, print_log};
 use mama_script::{Script, ScriptFault, parse};
+use mama_words::Version;
 use std::alloc::Global;
 use std::test::Fail;
 
@@ -79,7 +80,7 @@ pub fn record_of(
 }
 
 fn printed(alloc: Global, shape: &Shape, run: &RunRecord) -> Result<Vec<u8>, OutOfMemory> {
-    print_log(alloc, shape, run)
+    print_log(alloc, shape, run, Version::One)
 }
 
 /// Whether a text is the log of a record.

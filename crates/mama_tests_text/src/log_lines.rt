@@ -9,6 +9,7 @@ use mama_log_line::{
 };
 use mama_memory::OutOfMemory;
 use mama_script::parse;
+use mama_words::Nums;
 use std::alloc::Global;
 use std::test::Fail;
 
@@ -287,7 +288,7 @@ const INBOX_CALLS: &str = "1 reply
 fn calls_fit(alloc: Global, object: ObjectId, rows: &str) -> Result<bool, OutOfMemory> {
     for row in rows.lines() {
         let (wanted, line) = numbered(row);
-        let found = call_in(alloc, object, line.as_bytes())?.is_some();
+        let found = call_in(alloc, Nums::Known, object, line.as_bytes())?.is_some();
         if fits(found) != wanted {
             return Ok(false);
         }

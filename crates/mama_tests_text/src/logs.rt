@@ -62,7 +62,7 @@ fn script_of(alloc: Global, row: &str) -> Result<Script, Fail> {
 fn a_log_is_printed_as_it_was_read(rt: HostRuntime) -> Result<(), Fail> {
     let script = script_of(rt.alloc(), SCRIPT)?;
     let run = parse_log(rt.alloc(), &script, LOG.as_bytes())?;
-    let printed = print_log(rt.alloc(), script.shape(), &run)?;
+    let printed = print_log(rt.alloc(), script.shape(), &run, script.version())?;
     assert_eq!(rt; printed.as_slice(), LOG.as_bytes());
     assert!(rt; parse_log(rt.alloc(), &script, &printed)? == run);
     Ok(())

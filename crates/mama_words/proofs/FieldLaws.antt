@@ -9,6 +9,7 @@ use Rattle.mama_msg.specs.Name.{is_name_byte, IsNameText}
 use Rattle.mama_msg.specs.Field.{FieldData, IsKeyed}
 use Rattle.mama_msg.specs.declared.value.Value.{Value}
 use Rattle.mama_words.specs.declared.nums.Nums.{Nums}
+use Rattle.mama_words.specs.declared.nums.Nums.TheVariants.{Unknown, Known}
 use Rattle.mama_words.specs.declared.value_type.ValueType.{ValueType}
 use Rattle.mama_words.specs.declared.value_type.ValueType.TheVariants as types
 use Rattle.mama_words.specs.Reading.{◌>>=◌, or_fault, both}
@@ -115,3 +116,15 @@ message_found nums ws fs e =
     let q = guard_ok (are_distinct p.0) 8 p.0 fs p.2 in
     let r = fields_found nums ws p.0 p.1 in
     subst (λ (x : List FieldData). IsMessage nums x × (ws ≡ map field_text x)) q.1 (record { fields = r.0; distinct = q.0 }, r.1)
+
+-- what some text knows, a text knows that knows lists of numbers
+pub message_known : (nums : Nums) (fs : List FieldData) → IsMessage nums fs → IsMessage Known fs
+message_known nums fs h = record { fields = all fs h.fields; distinct = h.distinct }
+  where
+    all : (fs : List FieldData) → AllByRecursion (IsField nums) fs → AllByRecursion (IsField Known) fs
+    all [] k = tt
+    all (f ∷ fs) k = (record { fid = k.0.fid; name = k.0.name; keyed = k.0.keyed; known = refl; value = k.0.value }, all fs k.1)
+
+pub message_any : (nums : Nums) (fs : List FieldData) → IsMessage Unknown fs → IsMessage nums fs
+message_any Unknown fs h = h
+message_any Known fs h = message_known Unknown fs h

@@ -11,6 +11,8 @@ use Rattle.mama_words.specs.declared.value_type.ValueType.{ValueType}
 use Rattle.mama_words.specs.declared.value_type.ValueType.TheVariants as types
 use Rattle.mama_words.specs.declared.nums.Nums.{Nums}
 use Rattle.mama_words.specs.declared.nums.Nums.TheVariants.{Unknown, Known}
+use Rattle.mama_words.specs.declared.version.Version.{Version}
+use Rattle.mama_words.specs.declared.version.Version.TheVariants.{One, Two}
 use Rattle.mama_words.specs.Parting.{cut_at}
 use Rattle.mama_words.specs.Number.{number_in, below_in, int_in, is_within}
 use Rattle.mama_words.specs.Quote.{quoted_in}
@@ -54,6 +56,11 @@ any_type_in word =
     else (if bytes_eq word (codes "price") then Some types.Price
     else (if bytes_eq word (codes "moment") then Some types.Moment
     else (if bytes_eq word (codes "nums") then Some types.Numbers else None))))))))))))))
+
+-- texts of version 2 know lists of numbers
+abbrev pub nums_of : Version → Nums
+nums_of One = Unknown
+nums_of Two = Known
 
 -- the types that a text knows: all, or all but nums
 abbrev pub is_known : Nums → ValueType → Bool

@@ -1,6 +1,6 @@
 use Rattle.std.specs.Prelude.{map, string_bytes}
-use Rattle.mama_commands.proofs.EndLemmas.{accepted_fits}
-use Rattle.mama_commands.proofs.WordsLemmas.{not_serial, not_check}
+use Rattle.mama_commands.proofs.EndLemmas.{accepted_fits, no_log}
+use Rattle.mama_commands.proofs.WordsLemmas.{not_serial, not_check, not_rewrite}
 use Rattle.mama_commands.proofs.command.run.Goals as goal
 
 pub returns-in-Some-clause-play_accepted : goal.returns-in-Some-clause-play_accepted
@@ -19,3 +19,29 @@ returns-in-Some-clause-accepted g c = λ serial text given accepted. not_serial 
 
 pub returns-in-Some-clause-over_limit_part : goal.returns-in-Some-clause-over_limit_part
 returns-in-Some-clause-over_limit_part g c = λ check line limit is some. not_check (map string_bytes c.args.words.now) c.in-Some.workers c.in-Some.ensures.value check
+
+pub returns-in-Some-clause-bad_log_only : goal.returns-in-Some-clause-bad_log_only
+returns-in-Some-clause-bad_log_only g c = λ line is.
+    absurd (no_log (g.S.Source.left c.args.source.now) (g.S.Source.left c.play_input.new.source) (g.K.Sink.written c.args.sink.now)
+    (g.K.Sink.written c.play_input.new.sink) c.play_input.result c.play_input.ensures.end line is)
+
+pub returns-in-Some-clause-bad_log : goal.returns-in-Some-clause-bad_log
+returns-in-Some-clause-bad_log g c = λ check. not_check (map string_bytes c.args.words.now) c.in-Some.workers c.in-Some.ensures.value check
+
+pub returns-in-Some-clause-rewrite_bad_script : goal.returns-in-Some-clause-rewrite_bad_script
+returns-in-Some-clause-rewrite_bad_script g c = λ rewrite. not_rewrite (map string_bytes c.args.words.now) c.in-Some.workers c.in-Some.ensures.value rewrite
+
+pub returns-in-Some-clause-rewrite_over_limit : goal.returns-in-Some-clause-rewrite_over_limit
+returns-in-Some-clause-rewrite_over_limit g c = λ rewrite. not_rewrite (map string_bytes c.args.words.now) c.in-Some.workers c.in-Some.ensures.value rewrite
+
+pub returns-in-Some-clause-rewrite_bad_log : goal.returns-in-Some-clause-rewrite_bad_log
+returns-in-Some-clause-rewrite_bad_log g c = λ rewrite. not_rewrite (map string_bytes c.args.words.now) c.in-Some.workers c.in-Some.ensures.value rewrite
+
+pub returns-in-Some-clause-rewrite_fitting : goal.returns-in-Some-clause-rewrite_fitting
+returns-in-Some-clause-rewrite_fitting g c = λ rewrite. not_rewrite (map string_bytes c.args.words.now) c.in-Some.workers c.in-Some.ensures.value rewrite
+
+pub returns-in-Some-clause-rewritten : goal.returns-in-Some-clause-rewritten
+returns-in-Some-clause-rewritten g c = λ rewrite. not_rewrite (map string_bytes c.args.words.now) c.in-Some.workers c.in-Some.ensures.value rewrite
+
+pub returns-in-Some-clause-rewritten_part : goal.returns-in-Some-clause-rewritten_part
+returns-in-Some-clause-rewritten_part g c = λ rewrite. not_rewrite (map string_bytes c.args.words.now) c.in-Some.workers c.in-Some.ensures.value rewrite

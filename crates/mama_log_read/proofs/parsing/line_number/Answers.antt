@@ -11,11 +11,18 @@ loop-left-preserved c =
     let shorter = cut_is_shorter c.loop-left.left.now c.in-Some.field-0-0.now c.in-Some.after.now c.in-Some.ensures in
     record {
       counting = counting_goes_on c.args.text.now c.loop-left.left.now c.args.rest.now c.in-Some.field-0-0.now c.in-Some.after.now c.loop-left.number (c.loop-left.number + 1) refl c.loop-left-test.true c.in-Some.ensures c.loop-left.invariant.counting;
+      first = omega arith;
       few = omega (arith, shorter, c.loop-left.invariant.few);
     }
 
-pub returns-in-None : goal.returns-in-None
-returns-in-None c = counting_stops c.args.text.now c.loop-left.left.now c.args.rest.now c.loop-left.number c.loop-left-test.true c.in-None.ensures c.loop-left.invariant.counting
+pub returns-in-None-clause-value : goal.returns-in-None-clause-value
+returns-in-None-clause-value c = counting_stops c.args.text.now c.loop-left.left.now c.args.rest.now c.loop-left.number c.loop-left-test.true c.in-None.ensures c.loop-left.invariant.counting
 
-pub returns : goal.returns
-returns c = counting_ends c.args.text.now c.loop-left.left.now c.args.rest.now c.loop-left.number c.loop-left-test.false c.loop-left.invariant.counting
+pub returns-clause-value : goal.returns-clause-value
+returns-clause-value c = counting_ends c.args.text.now c.loop-left.left.now c.args.rest.now c.loop-left.number c.loop-left-test.false c.loop-left.invariant.counting
+
+pub returns-in-None-clause-first : goal.returns-in-None-clause-first
+returns-in-None-clause-first c = c.loop-left.invariant.first
+
+pub returns-clause-first : goal.returns-clause-first
+returns-clause-first c = c.loop-left.invariant.first

@@ -1,4 +1,4 @@
-use Rattle.std.proofs.Common.{◌≡◌, ◌∙◌, List, length, ap}
+use Rattle.std.proofs.Common.{◌≡◌, ◌∙◌, List, length, ap, arith}
 use Rattle.mama_event.specs.declared.ids.ObjectId.{ObjectId}
 use Rattle.mama_event.specs.Ports.{queues_of}
 use Rattle.mama_log_read.specs.Section.{sections, sections_with}
@@ -7,35 +7,38 @@ use Rattle.mama_log_read.proofs.parsing.parse_log.Goals as goal
 
 pub returns-clause-found : goal.returns-clause-found
 returns-clause-found c =
+    let v = c.log_version-version.result in
     let script = c.args.script.now in
     let objects = c.deref.ensures.value ∙ c.in_ok-objects.ensures.named in
-    let listed : c.in_ok-sections.sections.items ≡ sections script =
-    c.in_ok-sections.ensures.listed ∙ ap (λ (o : List ObjectId). sections_with (length c.args.script.now.clients) (length c.args.script.now.publishers) (queues_of c.args.script.now.shape) o) objects in
+    let listed : c.in_ok-sections.sections.items ≡ sections v script =
+    c.in_ok-sections.ensures.listed ∙ ap (λ (o : List ObjectId). sections_with v script.shape.strategy (length script.clients) (length script.publishers) (queues_of script.shape) o) objects in
     let answer =
-    answer_of script c.in_ok-names.names c.deref-2.result.now c.deref-3.result.now c.args.text.now c.read_sections.result c.in_ok-names.ensures (c.deref-2.ensures.value ∙ c.in_ok-objects.ensures.named) (c.deref-3.ensures.value ∙ listed)
+    answer_of v script c.in_ok-names.names c.deref-2.result.now c.deref-3.result.now c.args.text.now c.read_sections.result c.in_ok-names.ensures (c.deref-2.ensures.value ∙ c.in_ok-objects.ensures.named) (c.deref-3.ensures.value ∙ listed)
     c.read_sections.ensures in
-    answer_found script c.args.text.now c.read_sections.result answer
+    answer_found v script c.args.text.now c.read_sections.result c.log_version-version.ensures answer
 
 pub returns-clause-again : goal.returns-clause-again
 returns-clause-again c =
+    let v = c.log_version-version.result in
     let script = c.args.script.now in
     let objects = c.deref.ensures.value ∙ c.in_ok-objects.ensures.named in
-    let listed : c.in_ok-sections.sections.items ≡ sections script =
-    c.in_ok-sections.ensures.listed ∙ ap (λ (o : List ObjectId). sections_with (length c.args.script.now.clients) (length c.args.script.now.publishers) (queues_of c.args.script.now.shape) o) objects in
+    let listed : c.in_ok-sections.sections.items ≡ sections v script =
+    c.in_ok-sections.ensures.listed ∙ ap (λ (o : List ObjectId). sections_with v script.shape.strategy (length script.clients) (length script.publishers) (queues_of script.shape) o) objects in
     let answer =
-    answer_of script c.in_ok-names.names c.deref-2.result.now c.deref-3.result.now c.args.text.now c.read_sections.result c.in_ok-names.ensures (c.deref-2.ensures.value ∙ c.in_ok-objects.ensures.named) (c.deref-3.ensures.value ∙ listed)
+    answer_of v script c.in_ok-names.names c.deref-2.result.now c.deref-3.result.now c.args.text.now c.read_sections.result c.in_ok-names.ensures (c.deref-2.ensures.value ∙ c.in_ok-objects.ensures.named) (c.deref-3.ensures.value ∙ listed)
     c.read_sections.ensures in
-    let plain = plain_heads script c.in_ok-sections.sections.items c.in_ok-objects.objects.items c.deref.result.now c.deref.ensures.value c.in_ok-objects.ensures.plain c.in_ok-sections.ensures.plain listed in
-    answer_again script c.args.text.now c.read_sections.result plain answer
+    let plain = plain_heads v script c.in_ok-sections.sections.items c.in_ok-objects.objects.items c.deref.result.now c.deref.ensures.value c.in_ok-objects.ensures.plain c.in_ok-sections.ensures.plain listed in
+    answer_again v script c.args.text.now c.read_sections.result (omega arith) c.log_version-version.ensures plain answer
 
 pub returns-clause-bad : goal.returns-clause-bad
 returns-clause-bad c =
+    let v = c.log_version-version.result in
     let script = c.args.script.now in
     let objects = c.deref.ensures.value ∙ c.in_ok-objects.ensures.named in
-    let listed : c.in_ok-sections.sections.items ≡ sections script =
-    c.in_ok-sections.ensures.listed ∙ ap (λ (o : List ObjectId). sections_with (length c.args.script.now.clients) (length c.args.script.now.publishers) (queues_of c.args.script.now.shape) o) objects in
+    let listed : c.in_ok-sections.sections.items ≡ sections v script =
+    c.in_ok-sections.ensures.listed ∙ ap (λ (o : List ObjectId). sections_with v script.shape.strategy (length script.clients) (length script.publishers) (queues_of script.shape) o) objects in
     let answer =
-    answer_of script c.in_ok-names.names c.deref-2.result.now c.deref-3.result.now c.args.text.now c.read_sections.result c.in_ok-names.ensures (c.deref-2.ensures.value ∙ c.in_ok-objects.ensures.named) (c.deref-3.ensures.value ∙ listed)
+    answer_of v script c.in_ok-names.names c.deref-2.result.now c.deref-3.result.now c.args.text.now c.read_sections.result c.in_ok-names.ensures (c.deref-2.ensures.value ∙ c.in_ok-objects.ensures.named) (c.deref-3.ensures.value ∙ listed)
     c.read_sections.ensures in
-    let plain = plain_heads script c.in_ok-sections.sections.items c.in_ok-objects.objects.items c.deref.result.now c.deref.ensures.value c.in_ok-objects.ensures.plain c.in_ok-sections.ensures.plain listed in
-    answer_bad script c.args.text.now c.read_sections.result plain answer
+    let plain = plain_heads v script c.in_ok-sections.sections.items c.in_ok-objects.objects.items c.deref.result.now c.deref.ensures.value c.in_ok-objects.ensures.plain c.in_ok-sections.ensures.plain listed in
+    answer_bad v script c.args.text.now c.read_sections.result (omega arith) c.log_version-version.ensures plain answer

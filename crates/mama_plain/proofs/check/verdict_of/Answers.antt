@@ -14,7 +14,7 @@ returns-in-Some-clause-verdict c =
 
 pub returns-in-Some-clause-fitting : goal.returns-in-Some-clause-fitting
 returns-in-Some-clause-fitting c = λ checked.
-    let p = checked_parts c.args.text.now c.in-Some.front.now c.in-Some.log.now c.in-Some.ensures checked in c.verdict_on.ensures.fitting p.script p.run p.accepted p.spelled p.logged p.whole
+    let p = checked_parts c.args.text.now c.in-Some.front.now c.in-Some.log.now c.in-Some.ensures checked in c.verdict_on.ensures.fitting p.script p.run p.accepted p.spelled p.logged p.version p.known p.whole
 
 pub returns-in-None-clause-fitting : goal.returns-in-None-clause-fitting
 returns-in-None-clause-fitting c = λ checked. absurd (checked_has_log c.args.text.now c.in-None.ensures checked)

@@ -1,13 +1,13 @@
-use Rattle.std.proofs.Common.{ℕ, ◌<◌, length, take, map, string_bytes, refl, sym, ap, subst, true≢false, ◌∙◌}
+use Rattle.std.proofs.Common.{inl, inr, ℕ, ◌<◌, length, take, map, string_bytes, refl, sym, ap, subst, true≢false, ◌∙◌}
 use Rattle.std.specs.Global.{Global}
 use Rattle.mama_edge.specs.Told.{Appended}
 use Rattle.mama_gen.specs.Generated.{generated}
 use Rattle.mama_plain.specs.declared.command.Command.{Command}
-use Rattle.mama_plain.specs.declared.command.Command.TheVariants.{Serial, Check, Gen}
+use Rattle.mama_plain.specs.declared.command.Command.TheVariants.{Serial, Check, Rewrite, Gen}
 use Rattle.mama_plain.specs.declared.status.Status.{Status}
 use Rattle.mama_plain.specs.Answers.{IsEndOfGen}
 use Rattle.mama_plain.proofs.AnswerLemmas.{nothing_lost}
-use Rattle.mama_plain.proofs.CommandLemmas.{some_command, serial_is, check_is, gen_is, none_is, some_is, none_no_seed, serial_no_check, serial_no_seed, check_no_seed, one_seed}
+use Rattle.mama_plain.proofs.CommandLemmas.{some_command, serial_is, check_is, rewrite_is, gen_is, none_is, some_is, none_no_seed, serial_no_check, serial_no_rewrite, check_no_rewrite, serial_no_seed, check_no_seed, rewrite_no_seed, one_seed}
 use Rattle.mama_plain.proofs.run.run_plain.Goals as goal
 
 pub returns-in-Some-Serial-clause-bad_words : goal.returns-in-Some-Serial-clause-bad_words
@@ -28,7 +28,7 @@ returns-in-Some-Serial-clause-still g c =
 
 pub returns-in-Some-Serial-clause-bad_log : goal.returns-in-Some-Serial-clause-bad_log
 returns-in-Some-Serial-clause-bad_log g c =
-    λ line is. absurd (c.play_input.ensures.bad_log line is)
+    λ checks line is. absurd (c.play_input.ensures.bad_log line is)
 
 pub returns-in-Some-Serial-clause-fitting : goal.returns-in-Some-Serial-clause-fitting
 returns-in-Some-Serial-clause-fitting g c =
@@ -130,7 +130,7 @@ pub returns-in-Some-Check-clause-bad_log : goal.returns-in-Some-Check-clause-bad
 returns-in-Some-Check-clause-bad_log g c =
     let words = map (string_bytes {Z = Global}) c.args.words.now in
     let chosen = ap (λ (command : Command). some_command command) (sym c.in-Some-Check.field-0-is) ∙ c.in-Some-Check.ensures in
-    λ line is. let told = c.judge_input.ensures.bad_log line is in (check_is words chosen, told.0, told.1, told.2)
+    λ checks line is. c.judge_input.ensures.bad_log line is
 
 pub returns-in-Some-Check-clause-not_legal : goal.returns-in-Some-Check-clause-not_legal
 returns-in-Some-Check-clause-not_legal g c =
@@ -240,7 +240,7 @@ returns-in-Some-Gen-clause-verdict_part g c =
 
 pub returns-in-Some-Gen-clause-bad_log : goal.returns-in-Some-Gen-clause-bad_log
 returns-in-Some-Gen-clause-bad_log g c =
-    λ line is. absurd (subst (λ (status : Status). IsEndOfGen status) is c.write_script.ensures.end)
+    λ checks line is. absurd (subst (λ (status : Status). IsEndOfGen status) is c.write_script.ensures.end)
 
 pub returns-in-Some-Gen-clause-fitting : goal.returns-in-Some-Gen-clause-fitting
 returns-in-Some-Gen-clause-fitting g c =
@@ -308,4 +308,242 @@ returns-in-Some-Gen-clause-promises g c =
 
 pub returns-in-None-clause-promises : goal.returns-in-None-clause-promises
 returns-in-None-clause-promises g c =
+    λ text log l. c.logs_of_serial_are_lawful.ensures _ _ text log l
+
+pub returns-in-Some-Serial-clause-rewrite_bad_script : goal.returns-in-Some-Serial-clause-rewrite_bad_script
+returns-in-Some-Serial-clause-rewrite_bad_script g c =
+    let words = map (string_bytes {Z = Global}) c.args.words.now in
+    let chosen = ap (λ (command : Command). some_command command) (sym c.in-Some-Serial.field-0-is) ∙ c.in-Some-Serial.ensures in
+    λ rewrites. absurd (serial_no_rewrite words (serial_is words chosen) rewrites)
+
+pub returns-in-Some-Check-clause-rewrite_bad_script : goal.returns-in-Some-Check-clause-rewrite_bad_script
+returns-in-Some-Check-clause-rewrite_bad_script g c =
+    let words = map (string_bytes {Z = Global}) c.args.words.now in
+    let chosen = ap (λ (command : Command). some_command command) (sym c.in-Some-Check.field-0-is) ∙ c.in-Some-Check.ensures in
+    λ rewrites. absurd (check_no_rewrite words (check_is words chosen) rewrites)
+
+pub returns-in-Some-Gen-clause-rewrite_bad_script : goal.returns-in-Some-Gen-clause-rewrite_bad_script
+returns-in-Some-Gen-clause-rewrite_bad_script g c =
+    let words = map (string_bytes {Z = Global}) c.args.words.now in
+    let chosen = ap (λ (command : Command). some_command command) (sym c.in-Some-Gen.field-0-is) ∙ c.in-Some-Gen.ensures in
+    λ rewrites. absurd (rewrite_no_seed words c.in-Some-Gen.seed rewrites (gen_is words c.in-Some-Gen.seed chosen))
+
+pub returns-in-Some-Serial-clause-rewrite_over_limit : goal.returns-in-Some-Serial-clause-rewrite_over_limit
+returns-in-Some-Serial-clause-rewrite_over_limit g c =
+    let words = map (string_bytes {Z = Global}) c.args.words.now in
+    let chosen = ap (λ (command : Command). some_command command) (sym c.in-Some-Serial.field-0-is) ∙ c.in-Some-Serial.ensures in
+    λ rewrites. absurd (serial_no_rewrite words (serial_is words chosen) rewrites)
+
+pub returns-in-Some-Check-clause-rewrite_over_limit : goal.returns-in-Some-Check-clause-rewrite_over_limit
+returns-in-Some-Check-clause-rewrite_over_limit g c =
+    let words = map (string_bytes {Z = Global}) c.args.words.now in
+    let chosen = ap (λ (command : Command). some_command command) (sym c.in-Some-Check.field-0-is) ∙ c.in-Some-Check.ensures in
+    λ rewrites. absurd (check_no_rewrite words (check_is words chosen) rewrites)
+
+pub returns-in-Some-Gen-clause-rewrite_over_limit : goal.returns-in-Some-Gen-clause-rewrite_over_limit
+returns-in-Some-Gen-clause-rewrite_over_limit g c =
+    let words = map (string_bytes {Z = Global}) c.args.words.now in
+    let chosen = ap (λ (command : Command). some_command command) (sym c.in-Some-Gen.field-0-is) ∙ c.in-Some-Gen.ensures in
+    λ rewrites. absurd (rewrite_no_seed words c.in-Some-Gen.seed rewrites (gen_is words c.in-Some-Gen.seed chosen))
+
+pub returns-in-Some-Serial-clause-rewrite_bad_log : goal.returns-in-Some-Serial-clause-rewrite_bad_log
+returns-in-Some-Serial-clause-rewrite_bad_log g c =
+    let words = map (string_bytes {Z = Global}) c.args.words.now in
+    let chosen = ap (λ (command : Command). some_command command) (sym c.in-Some-Serial.field-0-is) ∙ c.in-Some-Serial.ensures in
+    λ rewrites. absurd (serial_no_rewrite words (serial_is words chosen) rewrites)
+
+pub returns-in-Some-Check-clause-rewrite_bad_log : goal.returns-in-Some-Check-clause-rewrite_bad_log
+returns-in-Some-Check-clause-rewrite_bad_log g c =
+    let words = map (string_bytes {Z = Global}) c.args.words.now in
+    let chosen = ap (λ (command : Command). some_command command) (sym c.in-Some-Check.field-0-is) ∙ c.in-Some-Check.ensures in
+    λ rewrites. absurd (check_no_rewrite words (check_is words chosen) rewrites)
+
+pub returns-in-Some-Gen-clause-rewrite_bad_log : goal.returns-in-Some-Gen-clause-rewrite_bad_log
+returns-in-Some-Gen-clause-rewrite_bad_log g c =
+    let words = map (string_bytes {Z = Global}) c.args.words.now in
+    let chosen = ap (λ (command : Command). some_command command) (sym c.in-Some-Gen.field-0-is) ∙ c.in-Some-Gen.ensures in
+    λ rewrites. absurd (rewrite_no_seed words c.in-Some-Gen.seed rewrites (gen_is words c.in-Some-Gen.seed chosen))
+
+pub returns-in-Some-Serial-clause-rewrite_fitting : goal.returns-in-Some-Serial-clause-rewrite_fitting
+returns-in-Some-Serial-clause-rewrite_fitting g c =
+    let words = map (string_bytes {Z = Global}) c.args.words.now in
+    let chosen = ap (λ (command : Command). some_command command) (sym c.in-Some-Serial.field-0-is) ∙ c.in-Some-Serial.ensures in
+    λ rewrites. absurd (serial_no_rewrite words (serial_is words chosen) rewrites)
+
+pub returns-in-Some-Check-clause-rewrite_fitting : goal.returns-in-Some-Check-clause-rewrite_fitting
+returns-in-Some-Check-clause-rewrite_fitting g c =
+    let words = map (string_bytes {Z = Global}) c.args.words.now in
+    let chosen = ap (λ (command : Command). some_command command) (sym c.in-Some-Check.field-0-is) ∙ c.in-Some-Check.ensures in
+    λ rewrites. absurd (check_no_rewrite words (check_is words chosen) rewrites)
+
+pub returns-in-Some-Gen-clause-rewrite_fitting : goal.returns-in-Some-Gen-clause-rewrite_fitting
+returns-in-Some-Gen-clause-rewrite_fitting g c =
+    let words = map (string_bytes {Z = Global}) c.args.words.now in
+    let chosen = ap (λ (command : Command). some_command command) (sym c.in-Some-Gen.field-0-is) ∙ c.in-Some-Gen.ensures in
+    λ rewrites. absurd (rewrite_no_seed words c.in-Some-Gen.seed rewrites (gen_is words c.in-Some-Gen.seed chosen))
+
+pub returns-in-Some-Serial-clause-rewritten : goal.returns-in-Some-Serial-clause-rewritten
+returns-in-Some-Serial-clause-rewritten g c =
+    let words = map (string_bytes {Z = Global}) c.args.words.now in
+    let chosen = ap (λ (command : Command). some_command command) (sym c.in-Some-Serial.field-0-is) ∙ c.in-Some-Serial.ensures in
+    λ rewrites. absurd (serial_no_rewrite words (serial_is words chosen) rewrites)
+
+pub returns-in-Some-Check-clause-rewritten : goal.returns-in-Some-Check-clause-rewritten
+returns-in-Some-Check-clause-rewritten g c =
+    let words = map (string_bytes {Z = Global}) c.args.words.now in
+    let chosen = ap (λ (command : Command). some_command command) (sym c.in-Some-Check.field-0-is) ∙ c.in-Some-Check.ensures in
+    λ rewrites. absurd (check_no_rewrite words (check_is words chosen) rewrites)
+
+pub returns-in-Some-Gen-clause-rewritten : goal.returns-in-Some-Gen-clause-rewritten
+returns-in-Some-Gen-clause-rewritten g c =
+    let words = map (string_bytes {Z = Global}) c.args.words.now in
+    let chosen = ap (λ (command : Command). some_command command) (sym c.in-Some-Gen.field-0-is) ∙ c.in-Some-Gen.ensures in
+    λ rewrites. absurd (rewrite_no_seed words c.in-Some-Gen.seed rewrites (gen_is words c.in-Some-Gen.seed chosen))
+
+pub returns-in-Some-Serial-clause-rewritten_part : goal.returns-in-Some-Serial-clause-rewritten_part
+returns-in-Some-Serial-clause-rewritten_part g c =
+    let words = map (string_bytes {Z = Global}) c.args.words.now in
+    let chosen = ap (λ (command : Command). some_command command) (sym c.in-Some-Serial.field-0-is) ∙ c.in-Some-Serial.ensures in
+    λ rewrites. absurd (serial_no_rewrite words (serial_is words chosen) rewrites)
+
+pub returns-in-Some-Check-clause-rewritten_part : goal.returns-in-Some-Check-clause-rewritten_part
+returns-in-Some-Check-clause-rewritten_part g c =
+    let words = map (string_bytes {Z = Global}) c.args.words.now in
+    let chosen = ap (λ (command : Command). some_command command) (sym c.in-Some-Check.field-0-is) ∙ c.in-Some-Check.ensures in
+    λ rewrites. absurd (check_no_rewrite words (check_is words chosen) rewrites)
+
+pub returns-in-Some-Gen-clause-rewritten_part : goal.returns-in-Some-Gen-clause-rewritten_part
+returns-in-Some-Gen-clause-rewritten_part g c =
+    let words = map (string_bytes {Z = Global}) c.args.words.now in
+    let chosen = ap (λ (command : Command). some_command command) (sym c.in-Some-Gen.field-0-is) ∙ c.in-Some-Gen.ensures in
+    λ rewrites. absurd (rewrite_no_seed words c.in-Some-Gen.seed rewrites (gen_is words c.in-Some-Gen.seed chosen))
+
+pub returns-in-Some-Serial-clause-bad_log_only : goal.returns-in-Some-Serial-clause-bad_log_only
+returns-in-Some-Serial-clause-bad_log_only g c =
+    λ line is. absurd (c.play_input.ensures.bad_log line is)
+
+pub returns-in-Some-Check-clause-bad_log_only : goal.returns-in-Some-Check-clause-bad_log_only
+returns-in-Some-Check-clause-bad_log_only g c =
+    let words = map (string_bytes {Z = Global}) c.args.words.now in
+    let chosen = ap (λ (command : Command). some_command command) (sym c.in-Some-Check.field-0-is) ∙ c.in-Some-Check.ensures in
+    λ line is. inl (check_is words chosen)
+
+pub returns-in-Some-Gen-clause-bad_log_only : goal.returns-in-Some-Gen-clause-bad_log_only
+returns-in-Some-Gen-clause-bad_log_only g c =
+    λ line is. absurd (subst (λ (status : Status). IsEndOfGen status) is c.write_script.ensures.end)
+
+pub returns-in-Some-Rewrite-clause-bad_words : goal.returns-in-Some-Rewrite-clause-bad_words
+returns-in-Some-Rewrite-clause-bad_words g c =
+    let words = map (string_bytes {Z = Global}) c.args.words.now in
+    let chosen = ap (λ (command : Command). some_command command) (sym c.in-Some-Rewrite.field-0-is) ∙ c.in-Some-Rewrite.ensures in
+    (λ is. absurd (c.rewrite_input.ensures.words is), λ none. absurd (true≢false (sym (some_is words Rewrite chosen) ∙ none)))
+
+pub returns-in-Some-Rewrite-clause-unread : goal.returns-in-Some-Rewrite-clause-unread
+returns-in-Some-Rewrite-clause-unread g c =
+    λ is. absurd (c.rewrite_input.ensures.words is)
+
+pub returns-in-Some-Rewrite-clause-bad_script : goal.returns-in-Some-Rewrite-clause-bad_script
+returns-in-Some-Rewrite-clause-bad_script g c =
+    let words = map (string_bytes {Z = Global}) c.args.words.now in
+    let chosen = ap (λ (command : Command). some_command command) (sym c.in-Some-Rewrite.field-0-is) ∙ c.in-Some-Rewrite.ensures in
+    λ serial. absurd (serial_no_rewrite words serial (rewrite_is words chosen))
+
+pub returns-in-Some-Rewrite-clause-over_limit : goal.returns-in-Some-Rewrite-clause-over_limit
+returns-in-Some-Rewrite-clause-over_limit g c =
+    let words = map (string_bytes {Z = Global}) c.args.words.now in
+    let chosen = ap (λ (command : Command). some_command command) (sym c.in-Some-Rewrite.field-0-is) ∙ c.in-Some-Rewrite.ensures in
+    λ serial. absurd (serial_no_rewrite words serial (rewrite_is words chosen))
+
+pub returns-in-Some-Rewrite-clause-accepted : goal.returns-in-Some-Rewrite-clause-accepted
+returns-in-Some-Rewrite-clause-accepted g c =
+    let words = map (string_bytes {Z = Global}) c.args.words.now in
+    let chosen = ap (λ (command : Command). some_command command) (sym c.in-Some-Rewrite.field-0-is) ∙ c.in-Some-Rewrite.ensures in
+    λ serial. absurd (serial_no_rewrite words serial (rewrite_is words chosen))
+
+pub returns-in-Some-Rewrite-clause-ok : goal.returns-in-Some-Rewrite-clause-ok
+returns-in-Some-Rewrite-clause-ok g c =
+    let words = map (string_bytes {Z = Global}) c.args.words.now in
+    let chosen = ap (λ (command : Command). some_command command) (sym c.in-Some-Rewrite.field-0-is) ∙ c.in-Some-Rewrite.ensures in
+    λ serial. absurd (serial_no_rewrite words serial (rewrite_is words chosen))
+
+pub returns-in-Some-Rewrite-clause-part : goal.returns-in-Some-Rewrite-clause-part
+returns-in-Some-Rewrite-clause-part g c =
+    let words = map (string_bytes {Z = Global}) c.args.words.now in
+    let chosen = ap (λ (command : Command). some_command command) (sym c.in-Some-Rewrite.field-0-is) ∙ c.in-Some-Rewrite.ensures in
+    λ serial. absurd (serial_no_rewrite words serial (rewrite_is words chosen))
+
+pub returns-in-Some-Rewrite-clause-bad_script_part : goal.returns-in-Some-Rewrite-clause-bad_script_part
+returns-in-Some-Rewrite-clause-bad_script_part g c =
+    let words = map (string_bytes {Z = Global}) c.args.words.now in
+    let chosen = ap (λ (command : Command). some_command command) (sym c.in-Some-Rewrite.field-0-is) ∙ c.in-Some-Rewrite.ensures in
+    λ check. absurd (check_no_rewrite words check (rewrite_is words chosen))
+
+pub returns-in-Some-Rewrite-clause-over_limit_part : goal.returns-in-Some-Rewrite-clause-over_limit_part
+returns-in-Some-Rewrite-clause-over_limit_part g c =
+    let words = map (string_bytes {Z = Global}) c.args.words.now in
+    let chosen = ap (λ (command : Command). some_command command) (sym c.in-Some-Rewrite.field-0-is) ∙ c.in-Some-Rewrite.ensures in
+    λ check. absurd (check_no_rewrite words check (rewrite_is words chosen))
+
+pub returns-in-Some-Rewrite-clause-bad_log : goal.returns-in-Some-Rewrite-clause-bad_log
+returns-in-Some-Rewrite-clause-bad_log g c =
+    let words = map (string_bytes {Z = Global}) c.args.words.now in
+    let chosen = ap (λ (command : Command). some_command command) (sym c.in-Some-Rewrite.field-0-is) ∙ c.in-Some-Rewrite.ensures in
+    λ check. absurd (check_no_rewrite words check (rewrite_is words chosen))
+
+pub returns-in-Some-Rewrite-clause-fitting_script : goal.returns-in-Some-Rewrite-clause-fitting_script
+returns-in-Some-Rewrite-clause-fitting_script g c =
+    let words = map (string_bytes {Z = Global}) c.args.words.now in
+    let chosen = ap (λ (command : Command). some_command command) (sym c.in-Some-Rewrite.field-0-is) ∙ c.in-Some-Rewrite.ensures in
+    λ check. absurd (check_no_rewrite words check (rewrite_is words chosen))
+
+pub returns-in-Some-Rewrite-clause-legal : goal.returns-in-Some-Rewrite-clause-legal
+returns-in-Some-Rewrite-clause-legal g c =
+    let words = map (string_bytes {Z = Global}) c.args.words.now in
+    let chosen = ap (λ (command : Command). some_command command) (sym c.in-Some-Rewrite.field-0-is) ∙ c.in-Some-Rewrite.ensures in
+    λ check. absurd (check_no_rewrite words check (rewrite_is words chosen))
+
+pub returns-in-Some-Rewrite-clause-verdict_part : goal.returns-in-Some-Rewrite-clause-verdict_part
+returns-in-Some-Rewrite-clause-verdict_part g c =
+    let words = map (string_bytes {Z = Global}) c.args.words.now in
+    let chosen = ap (λ (command : Command). some_command command) (sym c.in-Some-Rewrite.field-0-is) ∙ c.in-Some-Rewrite.ensures in
+    λ check. absurd (check_no_rewrite words check (rewrite_is words chosen))
+
+pub returns-in-Some-Rewrite-clause-bad_log_only : goal.returns-in-Some-Rewrite-clause-bad_log_only
+returns-in-Some-Rewrite-clause-bad_log_only g c =
+    let words = map (string_bytes {Z = Global}) c.args.words.now in
+    let chosen = ap (λ (command : Command). some_command command) (sym c.in-Some-Rewrite.field-0-is) ∙ c.in-Some-Rewrite.ensures in
+    λ line is. inr (rewrite_is words chosen)
+
+pub returns-in-Some-Rewrite-clause-fitting : goal.returns-in-Some-Rewrite-clause-fitting
+returns-in-Some-Rewrite-clause-fitting g c =
+    λ text left checked. c.rewrite_input.ensures.fitting text left (inr checked)
+
+pub returns-in-Some-Rewrite-clause-not_legal : goal.returns-in-Some-Rewrite-clause-not_legal
+returns-in-Some-Rewrite-clause-not_legal g c =
+    λ rule actor is. absurd (c.rewrite_input.ensures.not_legal rule actor is)
+
+pub returns-in-Some-Rewrite-clause-rewrite_fitting : goal.returns-in-Some-Rewrite-clause-rewrite_fitting
+returns-in-Some-Rewrite-clause-rewrite_fitting g c =
+    λ rewrites text left taken. let script = c.rewrite_input.ensures.fitting_script text left taken in (c.rewrite_input.ensures.fitting text left taken, script.0, script.1)
+
+pub returns-in-Some-Rewrite-clause-seed_only : goal.returns-in-Some-Rewrite-clause-seed_only
+returns-in-Some-Rewrite-clause-seed_only g c =
+    let words = map (string_bytes {Z = Global}) c.args.words.now in
+    let chosen = ap (λ (command : Command). some_command command) (sym c.in-Some-Rewrite.field-0-is) ∙ c.in-Some-Rewrite.ensures in
+    λ seed is. absurd (rewrite_no_seed words seed (rewrite_is words chosen) is)
+
+pub returns-in-Some-Rewrite-clause-seed_ok : goal.returns-in-Some-Rewrite-clause-seed_ok
+returns-in-Some-Rewrite-clause-seed_ok g c =
+    let words = map (string_bytes {Z = Global}) c.args.words.now in
+    let chosen = ap (λ (command : Command). some_command command) (sym c.in-Some-Rewrite.field-0-is) ∙ c.in-Some-Rewrite.ensures in
+    λ seed is. absurd (rewrite_no_seed words seed (rewrite_is words chosen) is)
+
+pub returns-in-Some-Rewrite-clause-seed_part : goal.returns-in-Some-Rewrite-clause-seed_part
+returns-in-Some-Rewrite-clause-seed_part g c =
+    let words = map (string_bytes {Z = Global}) c.args.words.now in
+    let chosen = ap (λ (command : Command). some_command command) (sym c.in-Some-Rewrite.field-0-is) ∙ c.in-Some-Rewrite.ensures in
+    λ seed is. absurd (rewrite_no_seed words seed (rewrite_is words chosen) is)
+
+pub returns-in-Some-Rewrite-clause-promises : goal.returns-in-Some-Rewrite-clause-promises
+returns-in-Some-Rewrite-clause-promises g c =
     λ text log l. c.logs_of_serial_are_lawful.ensures _ _ text log l

@@ -1,5 +1,5 @@
 -- The test of the parts is exact.
-use Rattle.std.proofs.Common.{◌≡◌, ◌∙◌, sym}
+use Rattle.std.proofs.Common.{◌∙◌, sym}
 use Rattle.mama_record.specs.EqualityLaws.{same_run-Decides}
 use Rattle.mama_record.proofs.record.RunRecordPartialEq.eq.Goals as goal
 
