@@ -1,6 +1,6 @@
 #!/bin/bash
-# Refuses each request for memory in turn: while the proved program plays a small script, on one thread or on many, or judges its
-# log, a script for every kind of line; and while tests make single calls, each of which they make again where no memory was found.
+# Refuses each request for memory in turn: while the proved program plays a small script, on one thread or on many, judges its log
+# or writes both in version 2, a script for every kind of line; and while tests make single calls, each of which they make again where no memory was found.
 #
 # It wants the proved program (./mama --version builds it), the tests of mama_tests_calls and mama_tests_queues (rt test in their
 # folders builds them), and a C compiler, for a library that is loaded before the C library and answers one
@@ -80,15 +80,17 @@ SCRIPTS = {
     "a record sent whole, and pauses": MARKET.replace("|update 25", "|pause 2|recap|update 25") + "pause 3|",
     "timers": HEAD + "client|timer 0 10|at 2 disarm t0.0|timer any 5|now 12|now clock|disarm t0.1|",
     "inboxes": HEAD + 'topic "A"|publisher 0 22:bid:u32:100 1:n:text:"x" 2:b:bytes:x00ff 3:p:price:5/2|client|inbox 0|fault dup 1|at 1 ask i0.0 0 22|at 2 close i0.0|inbox any|ask i0.1 0 1 2 3|close i0.1|',
+    "lists of numbers": MARKET.replace("script 1|", "script 2|strategy 2|").replace("22:bid:u32:102", "5:dp:nums:[1,-2]"),
     "two publishers and two clients": HEAD + 'topic "A"|topic "B"|publisher 0 1:a:u8:1|recap|publisher 1 1:a:i64:-1|update 1:a:i64:2 2::bool:true|client|sub 0 market 0 10 1000|sub 1 market 0 10 1000|client|sub 0 market 0 0 0|fault hold 1 2|',
 }
 OUT_OF_MEMORY = (8, b"", b"mama_run: out of memory\n")
 # the tests of each call, with their crate
 TESTS = {
-    "`SerialRun::go`": ("mama_tests_calls", ["going_on::a_run_goes_on"]),
+    "`SerialRun::go`": ("mama_tests_calls", ["going_on::a_run_goes_on", "going_on::a_plain_run_goes_on"]),
     "`parse_log`": ("mama_tests_calls", ["going_on::a_log_is_read"]),
     "`print_log`": ("mama_tests_calls", ["going_on::a_record_is_printed"]),
     "`check`": ("mama_tests_calls", ["going_on::a_record_is_judged"]),
+    "`Port::put`": ("mama_tests_calls", ["lanes::a_put_is_made_again"]),
     "`Serving::turn`": (
         "mama_tests_queues",
         [
@@ -183,7 +185,10 @@ for title, row in SCRIPTS.items():
         print(f"{title}: nothing was played")
         wrong += 1
         continue
-    verdict, count, bad = tried(title, "check", script + b"log\n" + log.replace(b"M", b"1000000000000"))
+    both = script + b"log\n" + log.replace(b"M", b"1000000000000")
+    verdict, count, bad = tried(title, "check", both)
+    asked, wrong = asked + count, wrong + bad
+    _, count, bad = tried(title, "rewrite", both)
     asked, wrong = asked + count, wrong + bad
     count, bad = played(title, script)
     asked, wrong = asked + count, wrong + bad

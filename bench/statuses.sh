@@ -31,7 +31,11 @@ wrote() {
 
 serial() { "$program" serial < "$1"; }
 played_by() { "$program" play "$1" < "$2"; }
-check() { { cat "$1"; echo log; cat "$2"; } | "$program" check; }
+with_log() { cat "$1"; echo log; cat "$2"; }
+check() { with_log "$1" "$2" | "$program" check; }
+rewritten() { with_log "$1" "$2" | "$program" rewrite; }
+alone_rewritten() { "$program" rewrite < "$1"; }
+checked() { "$program" check < "$1"; }
 of_text() { printf "$2" | "$program" "$1"; }
 full() { serial "$1" > /dev/full; }
 unread() { "$program" serial < "$scratch"; }
@@ -50,6 +54,16 @@ for script in "$examples"/*.script; do
   wrote "${script%.script}.log"
   told 0 '' check "$script" "${script%.script}.log"
   wrote "$scratch/legal"
+  told 0 '' rewritten "$script" "${script%.script}.log"
+  cp "$scratch/out" "$scratch/two"
+  told 0 '' checked "$scratch/two"
+  wrote "$scratch/legal"
+  told 0 '' alone_rewritten "$script"
+  cp "$scratch/out" "$scratch/two.script"
+  told 0 '' serial "$scratch/two.script"
+  cp "$scratch/out" "$scratch/two.log"
+  told 0 '' with_log "$scratch/two.script" "$scratch/two.log"
+  wrote "$scratch/two"
   for workers in 1 3 64; do
     told 0 '' played_by "$workers" "$script"
     cp "$scratch/out" "$scratch/played.log"
@@ -80,6 +94,8 @@ told 4 'mama_run: over limit 1, line 0' too_long
 told 5 'mama_run: read fault' unread
 told 6 'mama_run: write fault' full "$examples/first.script"
 told 7 'mama_run: bad log, line 11' without_log
+told 7 'mama_run: bad log, line 5' of_text rewrite 'mama script 1\nqueues 1\nclient\nlog\nmama log 2\n'
+told 3 'mama_run: bad script, line 3, fault 3' of_text rewrite 'mama script 1\nqueues 1\n'
 told 8 'mama_run: out of memory' little_memory
 
 # ./mama where nothing is built and no toolchain is there, so that it could begin no proof
@@ -100,6 +116,10 @@ told 2 'mama: check is of a script and a log; ./mama --help says what it does' a
 # and where the program is built, the two files of a check are joined
 told 1 'mama_run: not legal' "$top/mama" check "$examples/gap.script" "$examples/damaged.log"
 wrote "$scratch/late"
+told 0 '' "$top/mama" rewrite "$examples/gap.script" "$examples/gap.log"
+cp "$scratch/out" "$scratch/two"
+told 0 '' rewritten "$examples/gap.script" "$examples/gap.log"
+wrote "$scratch/two"
 told 0 '' "$top/mama" "$examples/gap.script"
 wrote "$examples/gap.log"
 
