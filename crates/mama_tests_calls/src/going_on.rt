@@ -1,6 +1,7 @@
 //! A run on one thread, and its log, by the calls of the crates beneath the top call. A call that found no memory is made
 //! again: there is memory in the gate, and bench/refuse.sh refuses each request in turn over these tests.
 
+use crate::scripts::{FIRST, FIRST_LOG, MIXED};
 use mama_check::{Verdict, check};
 use mama_drive::SerialRun;
 use mama_edge::{MemoryClock, MemorySink, MemorySource};
@@ -78,29 +79,7 @@ fn gives(alloc: Global, text: &str, moments: Vec<u64>, log: &[u8]) -> Result<boo
     }
 }
 
-// Two clients read the clock in turn, one of them with an object of each kind; a message is lost, and a reply repeated.
-const MIXED: &str = r#"mama script 1
-queues 2
-topic "A"
-publisher 0 22:bid:u32:100
-update 22:bid:u32:101
-recap
-update 25:ask:u32:103
-client
-sub 0 market any 10 1000
-fault lose 2
-at 5 stop s0.0
-timer 0 10
-inbox any
-fault dup 1
-at 1 ask i0.0 0 22
-now clock
-pause 2
-now clock
-client
-now clock
-"#;
-
+// The moments of the clock of the mixed script.
 fn clock(alloc: Global) -> Result<Vec<u64>, AllocError> {
     let mut moments = Vec::new(alloc);
     for moment in [10, 20, 30] {
@@ -123,13 +102,13 @@ fn run_once(
     Ok(run_plain(alloc, &words, source, sink, clock))
 }
 
-// The log of the script by the top call.
-fn log_of(alloc: Global) -> Result<Vec<u8>, Fail> {
-    let input = Vec::from_slice(alloc, MIXED.as_bytes())?;
+// The log of a script by the top call, whose clock tells these moments.
+fn log_of(alloc: Global, text: &str, moments: Vec<u64>) -> Result<Vec<u8>, Fail> {
+    let input = Vec::from_slice(alloc, text.as_bytes())?;
     let mut source = MemorySource::new(input, 4096, Vec::new(alloc));
     let mut sink = MemorySink::new(alloc, ROOM, 4096, Vec::new(alloc))?;
-    let mut moments = MemoryClock::new(clock(alloc)?);
-    match run_once(alloc, &mut source, &mut sink, &mut moments)? {
+    let mut clock = MemoryClock::new(moments);
+    match run_once(alloc, &mut source, &mut sink, &mut clock)? {
         Status::Ok => Ok(Vec::from_slice(alloc, sink.written())?),
         _ => Err(Fail::new("not played")),
     }
@@ -137,14 +116,22 @@ fn log_of(alloc: Global) -> Result<Vec<u8>, Fail> {
 
 #[test]
 fn a_run_goes_on(rt: HostRuntime) -> Result<(), Fail> {
-    let log = log_of(rt.alloc())?;
+    let log = log_of(rt.alloc(), MIXED, clock(rt.alloc())?)?;
     assert!(rt; gives(rt.alloc(), MIXED, clock(rt.alloc())?, &log)?);
+    Ok(())
+}
+
+#[test]
+fn a_plain_run_goes_on(rt: HostRuntime) -> Result<(), Fail> {
+    let log = log_of(rt.alloc(), FIRST, Vec::new(rt.alloc()))?;
+    assert!(rt; log.as_slice() == FIRST_LOG.as_bytes());
+    assert!(rt; gives(rt.alloc(), FIRST, Vec::new(rt.alloc()), &log)?);
     Ok(())
 }
 
 // Whether a log is read as it is without a refusal.
 fn is_read(alloc: Global) -> Result<bool, Fail> {
-    let log = log_of(alloc)?;
+    let log = log_of(alloc, MIXED, clock(alloc)?)?;
     let script = parsed(alloc, MIXED)?;
     let run = record_in(alloc, &script, &log)?;
     match read(alloc, &script, &log) {
@@ -161,7 +148,7 @@ fn a_log_is_read(rt: HostRuntime) -> Result<(), Fail> {
 
 // Whether the record that a log tells is printed as this log.
 fn is_printed(alloc: Global) -> Result<bool, Fail> {
-    let log = log_of(alloc)?;
+    let log = log_of(alloc, MIXED, clock(alloc)?)?;
     let script = parsed(alloc, MIXED)?;
     let run = record_in(alloc, &script, &log)?;
     match printed(alloc, &script, &run) {
@@ -178,7 +165,7 @@ fn a_record_is_printed(rt: HostRuntime) -> Result<(), Fail> {
 
 // Whether the log is that of a legal and causal run.
 fn is_legal(alloc: Global) -> Result<bool, Fail> {
-    let log = log_of(alloc)?;
+    let log = log_of(alloc, MIXED, clock(alloc)?)?;
     let script = parsed(alloc, MIXED)?;
     let verdict = judged(alloc, &script, &log)?;
     Ok(matches!(verdict, Some(Verdict::Legal { causal: true })))
