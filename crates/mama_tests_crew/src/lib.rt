@@ -1,0 +1,9 @@
+//! Tests of a crew on one thread: it is opened, its seats are turned and informed until all have ended, and it is closed.
+#![tactic(auto)]
+
+#[cfg(test)]
+mod crews;
+#[cfg(test)]
+mod played;
+#[cfg(test)]
+mod turning;
