@@ -9,16 +9,37 @@
 set -eu
 messages=${1:-1000000}
 . "$(dirname "$0")/scratch.sh"
-new_program link_bench 'link_bench: mama_link anyhow' mama_memory mama_link
+new_program link_bench 'link_bench: mama_memory mama_link anyhow' mama_memory mama_link
 sed "s/MESSAGES_THAT_PASS/$messages/" > "$bench/src/main.rt" <<'PROGRAM'
 //! How long messages take to pass a link.
 #![tactic(auto)]
 
-use mama_link::{Fault, FaultRow, Faults, Link, Outbox};
+use mama_link::{Cuttable, Duplicate, Fault, FaultRow, Faults, Link, OutOfMemory};
+use mama_memory::Outbox;
 use std::alloc::Global;
 use std::time::{Duration, Instant};
 
 const MESSAGES: u32 = MESSAGES_THAT_PASS;
+
+/// A message that is its number, of which a cut leaves all.
+#[derive(Clone, Copy, Drop)]
+struct Item {
+    number: u32,
+}
+
+impl Duplicate for Item {
+    fn try_clone(&self) -> Result<Item, OutOfMemory> {
+        Ok(*self)
+    }
+}
+
+impl Cuttable for Item {
+    ghost use Rattle.std.specs.Prelude.{ℕ};
+
+    ghost cut_to = { λ (keep : ℕ) (item : Item). item };
+
+    fn cut(&mut self, _keep: u32) {}
+}
 
 fn fault_of(row: u32, messages: u32) -> Fault {
     match row % 4 {
@@ -41,24 +62,27 @@ fn rows(alloc: Global, messages: u32) -> anyhow::Result<Vec<FaultRow>> {
 }
 
 // Takes all out, and adds their numbers.
-fn drain(out: &mut Outbox<u32>, sum: u64) -> u64 {
+fn drain(out: &mut Outbox<Item>, sum: u64) -> u64 {
     let mut sum = sum;
     for _ in 0..out.len() {
-        if let Some(number) = out.take_first() {
-            sum = sum.wrapping_add(number as u64);
+        if let Some(item) = out.take_first() {
+            sum = sum.wrapping_add(item.number as u64);
         }
     }
     sum
 }
 
-// Passes messages that are their numbers, and answers the sum of what came out.
+// Passes numbered messages, and answers the sum of what came out.
 fn pass_all(alloc: Global, messages: u32) -> anyhow::Result<u64> {
     let faults = Faults::new(alloc, rows(alloc, messages)?)?;
     let mut link = Link::new(alloc, faults);
     let mut out = Outbox::new(alloc);
     let mut sum = 0;
     for number in 0..messages {
-        if link.pass(number.wrapping_add(1), &mut out).is_err() {
+        let item = Item {
+            number: number.wrapping_add(1),
+        };
+        if link.pass(item, &mut out).is_err() {
             return Err(anyhow::Error::msg("out of memory"));
         }
         sum = drain(&mut out, sum);

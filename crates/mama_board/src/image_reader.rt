@@ -42,6 +42,13 @@ impl Model for ImageReader {
 }
 
 impl ImageReader {
+    /// The number of the queue whose images it reads.
+    pub fn queue(&self) -> u32
+        ensures { result ≡ self.now.queue }
+    {
+        self.queue
+    }
+
     /// From now on no look answers of fewer sets than `told` names, nor than were seen before; where it comes of a seal,
     /// each look answers of all sets of the board. It takes no memory.
     pub fn learn(&mut self, told: Told)

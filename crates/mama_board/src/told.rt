@@ -1,3 +1,5 @@
+ghost use Rattle.std.specs.Prelude.{◌≡◌};
+
 use crate::rule::Place;
 use std::marker::Model;
 
@@ -25,4 +27,13 @@ impl Model for Told {
     ghost view = { λ t. record { queue = t.queue; sets = (known t.place.place).seen; last = t.last } };
 
     ghost invariant = { λ t. (t.version ≡ length (known t.place.place).seen) × (t.last ≡ (known t.place.place).sealed) };
+}
+
+impl Told {
+    /// The number of the queue whose board told it.
+    pub fn queue(&self) -> u32
+        ensures { result ≡ self.now.queue }
+    {
+        self.queue
+    }
 }

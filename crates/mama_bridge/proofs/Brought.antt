@@ -36,7 +36,7 @@ module _ {L : Type 0} (tagged : L → ObjectId) where
   -- nothing is heard
   pub hears_nothing : (shape : Shape) (desk : Desk) (outs : List (BridgeOut L)) → Hears tagged shape no_event desk desk outs outs []
   hears_nothing shape desk outs table s sound = record {
-    stands = record { opened = s.opened; subs = s.subs; inboxes = s.inboxes; slots = s.slots; clients = s.clients; sends = s.sends; settled = s.settled; byes = s.byes };
+    stands = record { opened = s.opened; subs = s.subs; inboxes = s.inboxes; slots = s.slots; clients = s.clients; sends = s.sends; settled = s.settled; byes = s.byes; spelled = s.spelled; replies_spelled = s.replies_spelled };
     adds = adds_none tagged outs;
   }
 

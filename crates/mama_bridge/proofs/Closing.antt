@@ -1,5 +1,4 @@
 -- What follows where someone is done: settling, the ending, or neither.
-use Rattle.std.specs.Prelude.{None}
 use Rattle.std.proofs.Common.{◌≡◌, ◌<◌, Bool, cond, List, [], ◌++◌, length, map, refl, sym, ◌∙◌, ap, subst, append_assoc}
 use Rattle.std.specs.List.{list_any, flat_map}
 use Rattle.mama_event.specs.declared.ids.ObjectId.{ObjectId}
@@ -20,10 +19,11 @@ use Rattle.mama_bridge.specs.Desk.{Adds, Stands, Heard, AllButLinks}
 use Rattle.mama_bridge.specs.Done.{said_by, HasFlag, Marks}
 use Rattle.mama_bridge.specs.Held.{AreHeld, KeepsHeld}
 use Rattle.mama_bridge.specs.Ids.{is_inbox_among}
-use Rattle.mama_bridge.specs.Links.{inbox_seen, inbox_view, end_outs, inbox_end_outs, settle_outs, fin_outs}
+use Rattle.mama_bridge.specs.Links.{AreSpelled, AreRepliesSpelled, inbox_seen, inbox_view, end_outs, inbox_end_outs, settle_outs, fin_outs}
 use Rattle.mama_bridge.specs.Live.{IsLive, KeepsLive, EndsLive}
 use Rattle.mama_bridge.proofs.HeldLemmas.{held_kept}
 use Rattle.mama_bridge.proofs.Adding.{says_append, adds_said}
+use Rattle.mama_bridge.proofs.Spellings.{Arrives, BringsSpelled, spelled_next, replies_next}
 use Rattle.mama_bridge.proofs.Wishing.{says_if}
 use Rattle.mama_bridge.proofs.Joining.{map_kept, says_settles, says_ending}
 
@@ -47,6 +47,11 @@ does_close shape table (done.Client client) = record { joined = refl; opened = r
 does_close shape table (done.Sends publisher) = record { joined = refl; opened = refl; subs = refl; inboxes = refl; byes = refl; puts = refl }
 does_close shape table (done.Settled publisher) = record { joined = refl; opened = refl; subs = refl; inboxes = refl; byes = refl; puts = refl }
 
+brings_spelled : (who : Done) → BringsSpelled (said_by who)
+brings_spelled (done.Client client) = tt
+brings_spelled (done.Sends publisher) = tt
+brings_spelled (done.Settled publisher) = tt
+
 -- the flag stays there
 pub flag_stays : (who : Done) (before after : Desk) → AllButLinks before after → HasFlag before who → HasFlag after who
 flag_stays (done.Client client) before after rest h = subst (λ (flags : List Bool). client < length flags) (sym rest.clients) h
@@ -54,28 +59,28 @@ flag_stays (done.Sends publisher) before after rest h = subst (λ (flags : List 
 flag_stays (done.Settled publisher) before after rest h = subst (λ (flags : List Bool). publisher < length flags) (sym rest.settled) h
 
 module _ {L : Type 0} (tagged : L → ObjectId) where
-  pub adds_closing : (shape : Shape) (table : Table) (e : BridgeEvent) (subs : Live) (inboxes : List InboxLink) (o0 o1 : List (BridgeOut L)) (settles ends : Bool)
-      → IsLive table.joined table.subs subs → map inbox_seen inboxes ≡ map inbox_view table.inboxes
+  pub adds_closing : Arrives → (shape : Shape) (table : Table) (e : BridgeEvent) (subs : Live) (inboxes : List InboxLink) (o0 o1 : List (BridgeOut L)) (settles ends : Bool)
+      → AreSpelled table.subs → AreRepliesSpelled table.inboxes → IsLive table.joined table.subs subs → map inbox_seen inboxes ≡ map inbox_view table.inboxes
       → EndsLive ends (publishers_of shape) (queues_of shape) subs inboxes (o0 ++ cond settles (settle_outs (publishers_of shape)) []) o1
       → settles ≡ begins_settling table e → ends ≡ begins_ending table e
       → Adds tagged o0 o1 (closing shape table e) []
-  adds_closing shape table e subs inboxes o0 o1 settles ends h k put s t =
+  adds_closing laws shape table e subs inboxes o0 o1 settles ends spelled replies h k put s t =
       let ending : List (BridgeOut L) = flat_map end_outs table.subs ++ flat_map inbox_end_outs table.inboxes ++ fin_outs (publishers_of shape) (queues_of shape) in
       let outs : List (BridgeOut L) = cond settles (settle_outs (publishers_of shape)) [] ++ cond ends ending [] in
       let says = says_append tagged (cond settles (settle_outs (publishers_of shape)) []) (cond ends ending []) (cond settles (settles_all shape) []) (cond ends (ends_all shape table) [])
       (says_if tagged settles (settle_outs (publishers_of shape)) (settles_all shape) (says_settles tagged shape))
-      (says_if tagged ends ending (ends_all shape table) (says_ending tagged shape table)) in
+      (says_if tagged ends ending (ends_all shape table) (says_ending tagged laws shape table spelled replies)) in
       let adds = adds_said tagged o0 o1 outs (cond settles (settles_all shape) [] ++ cond ends (ends_all shape table) [])
       (put table.joined table.subs table.inboxes h k ∙ append_assoc o0 (cond settles (settle_outs (publishers_of shape)) []) (cond ends ending [])) says in
       rw (← s, ← t) adds
 
   -- someone is done: the flag is set, and what settling and the ending bring is put
-  pub done_heard : (shape : Shape) (table : Table) (who : Done) (d0 d1 d2 : Desk) (o0 o1 : List (BridgeOut L)) (settles ends : Bool)
+  pub done_heard : Arrives → (shape : Shape) (table : Table) (who : Done) (d0 d1 d2 : Desk) (o0 o1 : List (BridgeOut L)) (settles ends : Bool)
       → Stands table d0 → KeepsLive ends d0.subs d1.subs → d1.inboxes.links ≡ kept ends d0.inboxes.links → KeepsHeld ends d0.slots d1.slots
       → EndsLive ends (publishers_of shape) (queues_of shape) d0.subs d0.inboxes.links (o0 ++ cond settles (settle_outs (publishers_of shape)) []) o1
       → AllButLinks d0 d1 → Marks who d1 d2 → settles ≡ begins_settling table (said_by who) → ends ≡ begins_ending table (said_by who)
       → Heard tagged shape table (said_by who) d2 o0 o1 []
-  done_heard shape table who d0 d1 d2 o0 o1 settles ends s subs inboxes slots put rest marks settles_is ends_is =
+  done_heard laws shape table who d0 d1 d2 o0 o1 settles ends s subs inboxes slots put rest marks settles_is ends_is =
       let e : BridgeEvent = said_by who in
       let does = does_close shape table who in
       let live : IsLive table.joined (kept (begins_ending table e) table.subs) d2.subs = subst (λ live. IsLive table.joined (kept (begins_ending table e) table.subs) live) (sym marks.subs)
@@ -94,7 +99,9 @@ module _ {L : Type 0} (tagged : L → ObjectId) where
           sends = marks.sends ∙ ap (λ (flags : List Bool). marked flags (sender_in e)) (rest.sends ∙ s.sends);
           settled = marks.settled ∙ ap (λ (flags : List Bool). marked flags (settler_in e)) (rest.settled ∙ s.settled);
           byes = marks.byes ∙ rest.byes ∙ s.byes ∙ sym does.byes;
+          spelled = spelled_next shape table e (brings_spelled who) s.spelled;
+          replies_spelled = replies_next table e (brings_spelled who) s.replies_spelled;
         };
         adds = subst (λ (puts : List BridgePut). Adds tagged o0 o1 puts []) (sym does.puts)
-            (adds_closing shape table e d0.subs d0.inboxes.links o0 o1 settles ends s.subs s.inboxes put settles_is ends_is);
+            (adds_closing laws shape table e d0.subs d0.inboxes.links o0 o1 settles ends s.spelled s.replies_spelled s.subs s.inboxes put settles_is ends_is);
       }

@@ -26,8 +26,9 @@ use Rattle.mama_bridge.specs.declared.out.BridgeOut.TheVariants as out
 use Rattle.mama_bridge.specs.declared.inboxes.InboxLink.{InboxLink}
 use Rattle.mama_bridge.specs.Outs.{put_note, listeners, listener_in}
 use Rattle.mama_bridge.specs.Desk.{Adds}
-use Rattle.mama_bridge.specs.Links.{InboxView, inbox_seen, inbox_view, inbox_link_slots, first_outs, image_outs, end_outs, inbox_end_outs, settle_outs, fin_outs}
+use Rattle.mama_bridge.specs.Links.{AreSpelled, AreRepliesSpelled, InboxView, inbox_seen, inbox_view, inbox_link_slots, first_outs, image_outs, end_outs, inbox_end_outs, settle_outs, fin_outs}
 use Rattle.mama_bridge.proofs.Adding.{Says, says_none, says_append, says_map, says_ends, says_inbox_ends}
+use Rattle.mama_bridge.proofs.Spellings.{Arrives}
 use Rattle.mama_bridge.proofs.Wishing.{says_first}
 
 heads : {V : Type 0} {v w : V} {vs ws : List V} → v ∷ vs ≡ w ∷ ws → v ≡ w
@@ -88,15 +89,15 @@ module _ {L : Type 0} (tagged : L → ObjectId) where
   pub says_settles : (shape : Shape) → Says tagged (settle_outs (publishers_of shape)) (settles_all shape)
   says_settles shape = says_map tagged (λ (r : ℕ). out.Publisher r asked.Settle) (λ (r : ℕ). to_publisher r p.Settle) (λ r. refl) (λ r. refl) (numbers_below (publishers_of shape))
 
-  pub says_ending : (shape : Shape) (table : Table) → Says tagged (flat_map end_outs table.subs ++ flat_map inbox_end_outs table.inboxes ++ fin_outs (publishers_of shape) (queues_of shape)) (ends_all shape table)
-  says_ending shape table =
+  pub says_ending : Arrives → (shape : Shape) (table : Table) → AreSpelled table.subs → AreRepliesSpelled table.inboxes → Says tagged (flat_map end_outs table.subs ++ flat_map inbox_end_outs table.inboxes ++ fin_outs (publishers_of shape) (queues_of shape)) (ends_all shape table)
+  says_ending laws shape table spelled replies =
       let rows = flat_map sub_ends table.subs ++ flat_map inbox_ends table.inboxes in
       let timers : List BridgePut = to_timers t.Fin ∷ [] in
       let queues : List BridgePut = map (λ (k : ℕ). to_queue k q.Fin) (numbers_below (queues_of shape)) in
       let publishers : List BridgePut = map (λ (r : ℕ). to_publisher r p.Fin) (numbers_below (publishers_of shape)) in
       let queue_outs : List (BridgeOut L) = map (λ (k : ℕ). out.Queue k queued.Fin) (numbers_below (queues_of shape)) in
       let publisher_outs : List (BridgeOut L) = map (λ (r : ℕ). out.Publisher r asked.Fin) (numbers_below (publishers_of shape)) in
-      let links = says_append tagged (flat_map end_outs table.subs) (flat_map inbox_end_outs table.inboxes) (flat_map sub_ends table.subs) (flat_map inbox_ends table.inboxes) (says_ends tagged table.subs) (says_inbox_ends tagged table.inboxes) in
+      let links = says_append tagged (flat_map end_outs table.subs) (flat_map inbox_end_outs table.inboxes) (flat_map sub_ends table.subs) (flat_map inbox_ends table.inboxes) (says_ends tagged laws table.subs spelled) (says_inbox_ends tagged laws table.inboxes replies) in
       let says_timers : Says tagged (out.Timers timed.Fin ∷ []) timers = record { puts = refl; quiet = refl } in
       let says_queues = says_map tagged (λ (k : ℕ). out.Queue k queued.Fin) (λ (k : ℕ). to_queue k q.Fin) (λ k. refl) (λ k. refl) (numbers_below (queues_of shape)) in
       let says_publishers = says_map tagged (λ (r : ℕ). out.Publisher r asked.Fin) (λ (r : ℕ). to_publisher r p.Fin) (λ r. refl) (λ r. refl) (numbers_below (publishers_of shape)) in

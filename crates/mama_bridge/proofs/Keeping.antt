@@ -108,6 +108,8 @@ stood table desk desk' s h rest = record {
   sends = rest.sends ∙ s.sends;
   settled = rest.settled ∙ s.settled;
   byes = h;
+  spelled = s.spelled;
+  replies_spelled = s.replies_spelled;
 }
 
 -- a Bye marks its queue, and nothing else follows from it
@@ -124,6 +126,8 @@ bye_stands shape table desk desk' (putter.Queue n) s h rest = record {
   sends = rest.sends ∙ s.sends;
   settled = rest.settled ∙ s.settled;
   byes = h ∙ ap (λ flags. set flags n true) s.byes;
+  spelled = s.spelled;
+  replies_spelled = s.replies_spelled;
 }
 bye_stands shape table desk desk' putter.Nobody s h rest = stood table desk desk' s (h ∙ s.byes) rest
 

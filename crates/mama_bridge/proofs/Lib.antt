@@ -18,3 +18,4 @@ pub mod PlaceLemmas
 pub mod InboxLemmas
 pub mod ByTopic
 pub mod InOrder
+mod Spellings

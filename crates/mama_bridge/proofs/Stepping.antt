@@ -8,8 +8,9 @@ use Rattle.std.proofs.lemmas.List.Elements.{filter-append}
 use Rattle.std.proofs.lemmas.List.Sums.{sum_by-drop_more, sum_by-append, sum_by-cons}
 use Rattle.mama_link.specs.Link.{standing_after, StandsFor, rest}
 use Rattle.mama_journal.specs.Journal.{numbers_below}
-use Rattle.mama_msg.specs.Field.{FieldData}
-use Rattle.mama_event.specs.declared.market.MarketMsg.{MarketMsg}
+use Rattle.mama_payload.specs.Spelling.{spelling}
+use Rattle.mama_event.specs.declared.wire.PieceMsg.{PieceMsg}
+use Rattle.mama_event.specs.Wire.{piece_of}
 use Rattle.mama_event.specs.declared.ids.ObjectId.TheVariants.{Sub, Inbox}
 use Rattle.mama_event.specs.declared.to_queue.ToQueue.TheVariants as queued
 use Rattle.mama_laws_bridge.specs.Table.{SubRow, InboxRow, sub_passed, changed}
@@ -111,12 +112,12 @@ chosen-push : {X Y : Type 0} (test : X → Bool) (f : X → List Y) (xs : List X
 chosen-push test f xs x =
     ap (flat_map f) (filter-append test xs (x ∷ [])) ∙ flat_map-append f (filter test xs) (filter test (x ∷ [])) ∙ ap (λ ys. flat_map f (filter test xs) ++ ys) (filter_one f (test x) x)
 
-pub pass_more : {L : Type 0} (topic : ℕ) (old new : List SubLink) (link link' : SubLink) (m0 m1 m2 : List MarketMsg) (o0 o1 o2 : List (BridgeOut L))
+pub pass_more : {L : Type 0} (topic : ℕ) (old new : List SubLink) (link link' : SubLink) (m0 m1 m2 : List PieceMsg) (o0 o1 o2 : List (BridgeOut L))
     → PassSteps topic old new m0 m1 o0 o1 → PassStep topic link link' m1 m2 o1 o2 → PassSteps topic (old ++ link ∷ []) (new ++ link' ∷ []) m0 m2 o0 o2
 pass_more {L} topic old new link link' m0 m1 m2 o0 o1 o2 steps step rows m same holds none =
     let split = split_last sub_seen sub_view old link rows same in
-    let before = steps split.front m split.fronts (each_front (HoldsIf topic m) old (link ∷ []) holds) none in
-    let now = step split.last m split.lasts (each_last (HoldsIf topic m) old link holds) before.2 in
+    let before = steps split.front m split.fronts (each_front (HoldsIf topic (piece_of m)) old (link ∷ []) holds) none in
+    let now = step split.last m split.lasts (each_last (HoldsIf topic (piece_of m)) old link holds) before.2 in
     let change : SubRow → SubRow = λ (row : SubRow). cond (row_is_on topic row) (sub_passed m row) row in
     let seen : map sub_seen (new ++ link' ∷ []) ≡ map sub_view (changed (row_is_on topic) (sub_passed m) rows) =
     map-append sub_seen new (link' ∷ [])
@@ -130,13 +131,13 @@ pass_more {L} topic old new link link' m0 m1 m2 o0 o1 o2 steps step rows m same 
     ∙ ap (λ (os : List (BridgeOut L)). o0 ++ os) (sym (ap (λ (rs : List SubRow). flat_map (emit_outs m) (filter (row_is_on topic) rs)) split.whole ∙ chosen-push (row_is_on topic) (emit_outs m) split.front split.last)) in
     (seen, put, now.2)
 
-pub pass_none : {L : Type 0} (topic : ℕ) (m0 : List MarketMsg) (o0 : List (BridgeOut L)) → PassSteps topic [] [] m0 m0 o0 o0
+pub pass_none : {L : Type 0} (topic : ℕ) (m0 : List PieceMsg) (o0 : List (BridgeOut L)) → PassSteps topic [] [] m0 m0 o0 o0
 pass_none {L} topic m0 o0 [] m same holds none = (refl, sym (append-nil o0), none)
 pass_none {L} topic m0 o0 (row ∷ rows) m same holds none = cc
 
 -- ---- ends
 
-pub end_more : {L : Type 0} (links : List SubLink) (link : SubLink) (m0 m1 m2 : List MarketMsg) (o0 o1 o2 : List (BridgeOut L))
+pub end_more : {L : Type 0} (links : List SubLink) (link : SubLink) (m0 m1 m2 : List PieceMsg) (o0 o1 o2 : List (BridgeOut L))
     → EndSteps links m0 m1 o0 o1 → EndStep link m1 m2 o1 o2 → EndSteps (links ++ link ∷ []) m0 m2 o0 o2
 end_more {L} links link m0 m1 m2 o0 o1 o2 steps step rows same none =
     let split = split_last sub_seen sub_view links link rows same in
@@ -147,11 +148,11 @@ end_more {L} links link m0 m1 m2 o0 o1 o2 steps step rows same none =
     ∙ ap (λ (os : List (BridgeOut L)). o0 ++ os) (sym (ap (flat_map end_outs) split.whole ∙ flat_map-append end_outs split.front (split.last ∷ []) ∙ ap (λ (os : List (BridgeOut L)). flat_map end_outs split.front ++ os) (append-nil (end_outs split.last)))) in
     (put, now.1)
 
-pub end_none : {L : Type 0} (m0 : List MarketMsg) (o0 : List (BridgeOut L)) → EndSteps [] m0 m0 o0 o0
+pub end_none : {L : Type 0} (m0 : List PieceMsg) (o0 : List (BridgeOut L)) → EndSteps [] m0 m0 o0 o0
 end_none {L} m0 o0 [] same none = (sym (append-nil o0), none)
 end_none {L} m0 o0 (row ∷ rows) same none = cc
 
-pub inbox_end_more : {L : Type 0} (links : List InboxLink) (link : InboxLink) (m0 m1 m2 : List (List FieldData)) (o0 o1 o2 : List (BridgeOut L))
+pub inbox_end_more : {L : Type 0} (links : List InboxLink) (link : InboxLink) (m0 m1 m2 : List (List ℕ)) (o0 o1 o2 : List (BridgeOut L))
     → InboxEndSteps links m0 m1 o0 o1 → InboxEndStep link m1 m2 o1 o2 → InboxEndSteps (links ++ link ∷ []) m0 m2 o0 o2
 inbox_end_more {L} links link m0 m1 m2 o0 o1 o2 steps step rows same none =
     let split = split_last inbox_seen inbox_view links link rows same in
@@ -162,15 +163,15 @@ inbox_end_more {L} links link m0 m1 m2 o0 o1 o2 steps step rows same none =
     ∙ ap (λ (os : List (BridgeOut L)). o0 ++ os) (sym (ap (flat_map inbox_end_outs) split.whole ∙ flat_map-append inbox_end_outs split.front (split.last ∷ []) ∙ ap (λ (os : List (BridgeOut L)). flat_map inbox_end_outs split.front ++ os) (append-nil (inbox_end_outs split.last)))) in
     (put, now.1)
 
-pub inbox_end_none : {L : Type 0} (m0 : List (List FieldData)) (o0 : List (BridgeOut L)) → InboxEndSteps [] m0 m0 o0 o0
+pub inbox_end_none : {L : Type 0} (m0 : List (List ℕ)) (o0 : List (BridgeOut L)) → InboxEndSteps [] m0 m0 o0 o0
 inbox_end_none {L} m0 o0 [] same none = (sym (append-nil o0), none)
 inbox_end_none {L} m0 o0 (row ∷ rows) same none = cc
 
-pub inbox_end_one : {L : Type 0} (link : InboxLink) (m0 m1 : List (List FieldData)) (o0 o1 : List (BridgeOut L)) → InboxEndStep link m0 m1 o0 o1 → InboxEndSteps (link ∷ []) m0 m1 o0 o1
+pub inbox_end_one : {L : Type 0} (link : InboxLink) (m0 m1 : List (List ℕ)) (o0 o1 : List (BridgeOut L)) → InboxEndStep link m0 m1 o0 o1 → InboxEndSteps (link ∷ []) m0 m1 o0 o1
 inbox_end_one {L} link m0 m1 o0 o1 step = inbox_end_more [] link m0 m0 m1 o0 o0 o1 (inbox_end_none m0 o0) step
 
 -- the link of one entry more, if it is not empty
-pub entry_end_more : {L : Type 0} (links links' : List InboxLink) (entry : Option InboxLink) (m0 m1 m2 : List (List FieldData)) (o0 o1 o2 : List (BridgeOut L)) → links' ≡ links ++ option_to_list entry
+pub entry_end_more : {L : Type 0} (links links' : List InboxLink) (entry : Option InboxLink) (m0 m1 m2 : List (List ℕ)) (o0 o1 o2 : List (BridgeOut L)) → links' ≡ links ++ option_to_list entry
     → InboxEndSteps links m0 m1 o0 o1 → InboxEndSteps (option_to_list entry) m1 m2 o1 o2 → InboxEndSteps links' m0 m2 o0 o2
 entry_end_more {L} links links' None m0 m1 m2 o0 o1 o2 h steps step rows same none =
     let before = steps rows (ap (map inbox_seen) (sym (h ∙ append-nil links)) ∙ same) none in
@@ -182,23 +183,23 @@ entry_end_more {L} links links' (Some link) m0 m1 m2 o0 o1 o2 h steps step rows 
     (now.0 ∙ ap (λ (os : List (BridgeOut L)). o1 ++ os) (append-nil (inbox_end_outs row)), now.1)) rows (ap (map inbox_seen) (sym h) ∙ same) none
 
 -- what a link puts out at its end
-pub ends_with : {L : Type 0} (seen : SubView) (held : ℕ) (m0 m1 m2 : List MarketMsg) (o0 o1 o2 : List (BridgeOut L)) → held ≡ length seen.link.held
-    → ((x : List MarketMsg) → StandsFor x seen.link → m1 ≡ m0 ++ rest seen.link.rows x)
+pub ends_with : {L : Type 0} (seen : SubView) (held : ℕ) (m0 m1 m2 : List PieceMsg) (o0 o1 o2 : List (BridgeOut L)) → held ≡ length seen.link.held
+    → ((x : List PieceMsg) → StandsFor x seen.link → m1 ≡ m0 ++ rest seen.link.rows x)
     → o1 ≡ o0 ++ map (λ m. out.Queue seen.queue (queued.Deliver seen.slot seen.sub m)) (take held m1) → m2 ≡ drop held m1
     → o2 ≡ o1 ++ out.Queue seen.queue (queued.Gone seen.slot (Sub seen.sub)) ∷ []
     → (row : SubRow) → seen ≡ sub_view row → m0 ≡ [] → (o2 ≡ o0 ++ end_outs row) × (m2 ≡ [])
 ends_with {L} seen held m0 m1 m2 o0 o1 o2 count finished delivered left gone row same none =
     let rows : seen.link.rows ≡ row.terms.faults = ap (λ (v : SubView). v.link.rows) same in
-    let stands : StandsFor row.sent seen.link = ap (λ (v : SubView). v.link) same ∙ ap (λ r. standing_after r row.sent) (sym rows) in
-    let all : m1 ≡ rest row.terms.faults row.sent = finished row.sent stands ∙ ap (λ (xs : List MarketMsg). xs ++ rest seen.link.rows row.sent) none ∙ ap (λ r. rest r row.sent) rows in
-    let len : held ≡ length (rest row.terms.faults row.sent) = count ∙ ap (λ (v : SubView). length v.link.held) same ∙ sym (length-map (standing_after row.terms.faults row.sent).held (λ (entry : ℕ × MarketMsg). entry.1)) in
-    let taken : take held m1 ≡ rest row.terms.faults row.sent = ap (take held) all ∙ take_all held (rest row.terms.faults row.sent) (omega (arith, len)) in
-    let dropped : m2 ≡ [] = left ∙ ap (drop held) all ∙ drop_all held (rest row.terms.faults row.sent) len in
+    let stands : StandsFor (map piece_of row.sent) seen.link = ap (λ (v : SubView). v.link) same ∙ ap (λ r. standing_after r (map piece_of row.sent)) (sym rows) in
+    let all : m1 ≡ rest row.terms.faults (map piece_of row.sent) = finished (map piece_of row.sent) stands ∙ ap (λ (xs : List PieceMsg). xs ++ rest seen.link.rows (map piece_of row.sent)) none ∙ ap (λ r. rest r (map piece_of row.sent)) rows in
+    let len : held ≡ length (rest row.terms.faults (map piece_of row.sent)) = count ∙ ap (λ (v : SubView). length v.link.held) same ∙ sym (length-map (standing_after row.terms.faults (map piece_of row.sent)).held (λ (entry : ℕ × PieceMsg). entry.1)) in
+    let taken : take held m1 ≡ rest row.terms.faults (map piece_of row.sent) = ap (take held) all ∙ take_all held (rest row.terms.faults (map piece_of row.sent)) (omega (arith, len)) in
+    let dropped : m2 ≡ [] = left ∙ ap (drop held) all ∙ drop_all held (rest row.terms.faults (map piece_of row.sent)) len in
     let put : o2 ≡ o0 ++ end_outs row =
     gone ∙ ap (λ (os : List (BridgeOut L)). os ++ out.Queue seen.queue (queued.Gone seen.slot (Sub seen.sub)) ∷ []) delivered
-    ∙ ap (λ (xs : List MarketMsg). o0 ++ map (λ m. out.Queue seen.queue (queued.Deliver seen.slot seen.sub m)) xs ++ out.Queue seen.queue (queued.Gone seen.slot (Sub seen.sub)) ∷ []) taken
-    ∙ ap (λ (v : SubView). o0 ++ map (λ m. out.Queue v.queue (queued.Deliver v.slot v.sub m)) (rest row.terms.faults row.sent) ++ out.Queue v.queue (queued.Gone v.slot (Sub v.sub)) ∷ []) same
-    ∙ append_assoc o0 (sub_outs row (rest row.terms.faults row.sent)) (out.Queue row.terms.queue (queued.Gone row.slot (Sub row.sub)) ∷ []) in
+    ∙ ap (λ (xs : List PieceMsg). o0 ++ map (λ m. out.Queue seen.queue (queued.Deliver seen.slot seen.sub m)) xs ++ out.Queue seen.queue (queued.Gone seen.slot (Sub seen.sub)) ∷ []) taken
+    ∙ ap (λ (v : SubView). o0 ++ map (λ m. out.Queue v.queue (queued.Deliver v.slot v.sub m)) (rest row.terms.faults (map piece_of row.sent)) ++ out.Queue v.queue (queued.Gone v.slot (Sub v.sub)) ∷ []) same
+    ∙ append_assoc o0 (sub_outs row (rest row.terms.faults (map piece_of row.sent))) (out.Queue row.terms.queue (queued.Gone row.slot (Sub row.sub)) ∷ []) in
     (put, dropped)
   where
     drop_all : {X : Type 0} (n : ℕ) (xs : List X) → n ≡ length xs → drop n xs ≡ []
@@ -207,23 +208,23 @@ ends_with {L} seen held m0 m1 m2 o0 o1 o2 count finished delivered left gone row
     drop_all (suc n) [] h = refl
     drop_all (suc n) (x ∷ xs) h = drop_all n xs (omega arith)
 
-pub inbox_ends_with : {L : Type 0} (seen : InboxView) (held : ℕ) (m0 m1 m2 : List (List FieldData)) (o0 o1 o2 : List (BridgeOut L)) → held ≡ length seen.link.held
-    → ((x : List (List FieldData)) → StandsFor x seen.link → m1 ≡ m0 ++ rest seen.link.rows x)
+pub inbox_ends_with : {L : Type 0} (seen : InboxView) (held : ℕ) (m0 m1 m2 : List (List ℕ)) (o0 o1 o2 : List (BridgeOut L)) → held ≡ length seen.link.held
+    → ((x : List (List ℕ)) → StandsFor x seen.link → m1 ≡ m0 ++ rest seen.link.rows x)
     → o1 ≡ o0 ++ map (λ body. out.Queue seen.queue (queued.Reply seen.slot seen.inbox body)) (take held m1) → m2 ≡ drop held m1
     → o2 ≡ o1 ++ out.Queue seen.queue (queued.Gone seen.slot (Inbox seen.inbox)) ∷ []
     → (row : InboxRow) → seen ≡ inbox_view row → m0 ≡ [] → (o2 ≡ o0 ++ inbox_end_outs row) × (m2 ≡ [])
 inbox_ends_with {L} seen held m0 m1 m2 o0 o1 o2 count finished delivered left gone row same none =
     let rows : seen.link.rows ≡ row.terms.faults = ap (λ (v : InboxView). v.link.rows) same in
-    let stands : StandsFor row.sent seen.link = ap (λ (v : InboxView). v.link) same ∙ ap (λ r. standing_after r row.sent) (sym rows) in
-    let all : m1 ≡ rest row.terms.faults row.sent = finished row.sent stands ∙ ap (λ (xs : List (List FieldData)). xs ++ rest seen.link.rows row.sent) none ∙ ap (λ r. rest r row.sent) rows in
-    let len : held ≡ length (rest row.terms.faults row.sent) = count ∙ ap (λ (v : InboxView). length v.link.held) same ∙ sym (length-map (standing_after row.terms.faults row.sent).held (λ (entry : ℕ × List FieldData). entry.1)) in
-    let taken : take held m1 ≡ rest row.terms.faults row.sent = ap (take held) all ∙ take_all held (rest row.terms.faults row.sent) (omega (arith, len)) in
-    let dropped : m2 ≡ [] = left ∙ ap (drop held) all ∙ drop_all held (rest row.terms.faults row.sent) len in
+    let stands : StandsFor (map spelling row.sent) seen.link = ap (λ (v : InboxView). v.link) same ∙ ap (λ r. standing_after r (map spelling row.sent)) (sym rows) in
+    let all : m1 ≡ rest row.terms.faults (map spelling row.sent) = finished (map spelling row.sent) stands ∙ ap (λ (xs : List (List ℕ)). xs ++ rest seen.link.rows (map spelling row.sent)) none ∙ ap (λ r. rest r (map spelling row.sent)) rows in
+    let len : held ≡ length (rest row.terms.faults (map spelling row.sent)) = count ∙ ap (λ (v : InboxView). length v.link.held) same ∙ sym (length-map (standing_after row.terms.faults (map spelling row.sent)).held (λ (entry : ℕ × List ℕ). entry.1)) in
+    let taken : take held m1 ≡ rest row.terms.faults (map spelling row.sent) = ap (take held) all ∙ take_all held (rest row.terms.faults (map spelling row.sent)) (omega (arith, len)) in
+    let dropped : m2 ≡ [] = left ∙ ap (drop held) all ∙ drop_all held (rest row.terms.faults (map spelling row.sent)) len in
     let put : o2 ≡ o0 ++ inbox_end_outs row =
     gone ∙ ap (λ (os : List (BridgeOut L)). os ++ out.Queue seen.queue (queued.Gone seen.slot (Inbox seen.inbox)) ∷ []) delivered
-    ∙ ap (λ (xs : List (List FieldData)). o0 ++ map (λ body. out.Queue seen.queue (queued.Reply seen.slot seen.inbox body)) xs ++ out.Queue seen.queue (queued.Gone seen.slot (Inbox seen.inbox)) ∷ []) taken
-    ∙ ap (λ (v : InboxView). o0 ++ map (λ body. out.Queue v.queue (queued.Reply v.slot v.inbox body)) (rest row.terms.faults row.sent) ++ out.Queue v.queue (queued.Gone v.slot (Inbox v.inbox)) ∷ []) same
-    ∙ append_assoc o0 (inbox_outs row (rest row.terms.faults row.sent)) (out.Queue row.terms.queue (queued.Gone row.slot (Inbox row.inbox)) ∷ []) in
+    ∙ ap (λ (xs : List (List ℕ)). o0 ++ map (λ body. out.Queue seen.queue (queued.Reply seen.slot seen.inbox body)) xs ++ out.Queue seen.queue (queued.Gone seen.slot (Inbox seen.inbox)) ∷ []) taken
+    ∙ ap (λ (v : InboxView). o0 ++ map (λ body. out.Queue v.queue (queued.Reply v.slot v.inbox body)) (rest row.terms.faults (map spelling row.sent)) ++ out.Queue v.queue (queued.Gone v.slot (Inbox v.inbox)) ∷ []) same
+    ∙ append_assoc o0 (inbox_outs row (rest row.terms.faults (map spelling row.sent))) (out.Queue row.terms.queue (queued.Gone row.slot (Inbox row.inbox)) ∷ []) in
     (put, dropped)
   where
     drop_all : {X : Type 0} (n : ℕ) (xs : List X) → n ≡ length xs → drop n xs ≡ []
@@ -249,13 +250,13 @@ pub weights_turn : (topic : ℕ) (xs ys : List SubLink) (i : ℕ) (x : SubLink) 
 weights_turn topic xs ys i x lt value left =
     sum_by-drop_more (weight topic) xs i x lt ∙ ap (λ z. weight topic z + weights topic (drop (i + 1) xs)) (sym (value ∙ same_at ys xs i x left))
 
-pub pass_turn : {L : Type 0} (topic : ℕ) (xs ys : List SubLink) (i : ℕ) (x y : SubLink) (m0 m1 m2 : List MarketMsg) (o0 o1 o2 : List (BridgeOut L))
+pub pass_turn : {L : Type 0} (topic : ℕ) (xs ys : List SubLink) (i : ℕ) (x y : SubLink) (m0 m1 m2 : List PieceMsg) (o0 o1 o2 : List (BridgeOut L))
     → i < length xs → length ys ≡ length xs → x ≡ get_or ys i x → drop i ys ≡ drop i xs
     → PassSteps topic (take i xs) (take i ys) m0 m1 o0 o1 → PassStep topic x y m1 m2 o1 o2 → PassSteps topic (take (i + 1) xs) (take (i + 1) (set ys i y)) m0 m2 o0 o2
 pass_turn topic xs ys i x y m0 m1 m2 o0 o1 o2 lt len value left steps step =
     rw (next_front xs ys i x lt value left, next_written ys i y (omega (arith, lt, len))) (pass_more topic (take i xs) (take i ys) x y m0 m1 m2 o0 o1 o2 steps step)
 
-pub pass_all : {L : Type 0} (topic : ℕ) (xs ys : List SubLink) (i : ℕ) (m0 m1 : List MarketMsg) (o0 o1 : List (BridgeOut L))
+pub pass_all : {L : Type 0} (topic : ℕ) (xs ys : List SubLink) (i : ℕ) (m0 m1 : List PieceMsg) (o0 o1 : List (BridgeOut L))
     → length xs ≤ i → length ys ≡ length xs → PassSteps topic (take i xs) (take i ys) m0 m1 o0 o1 → PassSteps topic xs ys m0 m1 o0 o1
 pass_all {L} topic xs ys i m0 m1 o0 o1 most len steps =
     let all_xs : take i xs ≡ xs = take_all i xs most in

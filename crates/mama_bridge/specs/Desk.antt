@@ -15,7 +15,7 @@ use Rattle.mama_bridge.specs.declared.out.BridgeOut.{BridgeOut}
 use Rattle.mama_bridge.specs.declared.desk.Desk.{Desk}
 use Rattle.mama_bridge.specs.Outs.{put_note, listeners, brought, is_create}
 use Rattle.mama_bridge.specs.Ids.{is_inbox_among}
-use Rattle.mama_bridge.specs.Links.{inbox_seen, inbox_view}
+use Rattle.mama_bridge.specs.Links.{inbox_seen, inbox_view, AreSpelled, AreRepliesSpelled}
 use Rattle.mama_bridge.specs.Held.{AreHeld}
 use Rattle.mama_bridge.specs.Live.{IsLive}
 
@@ -35,6 +35,8 @@ pub record Stands (table : Table) (desk : Desk) : Type 0 where
   pub sends : desk.sends ≡ table.sends
   pub settled : desk.settled ≡ table.settled
   pub byes : desk.byes ≡ table.byes
+  pub spelled : AreSpelled table.subs
+  pub replies_spelled : AreRepliesSpelled table.inboxes
 
 -- each row is there once
 pub record Sound (table : Table) : Type 0 where

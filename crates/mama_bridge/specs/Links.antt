@@ -1,12 +1,15 @@
 -- inner: What contracts see of the links that a bridge keeps, and what ties them to rows.
-use Rattle.std.specs.Prelude.{◌≡◌, ℕ, ◌+◌, ◌-◌, Bool, true, ◌==◌, nat_lt, List, [], ◌∷◌, ◌++◌, length, map, filter, sum_by, Option, None, Some, option_to_list, if◌then◌else◌}
-use Rattle.std.specs.List.{flat_map}
+use Rattle.std.specs.Prelude.{◌≡◌, ℕ, ◌+◌, ◌-◌, Bool, true, ◌==◌, nat_lt, List, [], ◌∷◌, ◌++◌, length, map, take, filter, sum_by, Option, None, Some, option_to_list, if◌then◌else◌}
+use Rattle.std.specs.List.{flat_map, AllByRecursion}
 use Rattle.mama_msg.specs.Field.{FieldData}
 use Rattle.mama_link.specs.Link.{Standing, standing_after, StandsFor, emit}
 use Rattle.mama_link.specs.Prepared.{Readied, IsPreparedFor}
 use Rattle.mama_event.specs.declared.ids.SubId.{SubId}
 use Rattle.mama_event.specs.declared.ids.InboxId.{InboxId}
 use Rattle.mama_event.specs.declared.market.MarketMsg.{MarketMsg}
+use Rattle.mama_event.specs.declared.wire.PieceMsg.{PieceMsg}
+use Rattle.mama_event.specs.Wire.{piece_of, cut_body}
+use Rattle.mama_payload.specs.Spelling.{spelling, HasSpelling}
 use Rattle.mama_event.specs.declared.ids.ObjectId.TheVariants.{Sub, Inbox}
 use Rattle.mama_event.specs.declared.to_queue.ToQueue.TheVariants as queued
 use Rattle.mama_link.specs.Link.{rest}
@@ -18,6 +21,7 @@ use Rattle.mama_event.specs.declared.to_publisher.ToPublisher.{ToPublisher}
 use Rattle.mama_event.specs.declared.to_publisher.ToPublisher.TheVariants as asked
 use Rattle.mama_event.specs.declared.to_timers.ToTimers.TheVariants as timed
 use Rattle.mama_journal.specs.Journal.{numbers_below}
+use Rattle.mama_rules_services.specs.Bridge.{passed_on}
 use Rattle.mama_laws_bridge.specs.Laws.{Alone}
 use Rattle.mama_laws_bridge.specs.Table.{SubRow, InboxRow, of_sub, of_inbox, sub_passed, inbox_passed, sub_wished, changed, without, inbox_slots}
 use Rattle.mama_slots.specs.Slots.{SlotData}
@@ -27,6 +31,22 @@ use Rattle.mama_bridge.specs.declared.out.BridgeOut.TheVariants as out
 use Rattle.mama_bridge.specs.declared.subs.SubLink.{SubLink}
 use Rattle.mama_bridge.specs.declared.inboxes.InboxLink.{InboxLink}
 
+-- the first of some bytes alone
+abbrev pub cut_bytes : ℕ → List ℕ → List ℕ
+cut_bytes keep bytes = take keep bytes
+
+-- a piece is the whole of a message, which has a spelling
+pub record IsPieceOf (m : MarketMsg) (piece : PieceMsg) : Type 0 where
+  pub spelled : HasSpelling m.body
+  pub whole : piece ≡ piece_of m
+
+-- what rows were sent has spellings, as packets have
+abbrev pub AreSpelled : List SubRow → Type 0
+AreSpelled rows = AllByRecursion (λ (row : SubRow). AllByRecursion (λ (m : MarketMsg). HasSpelling m.body) row.sent) rows
+
+abbrev pub AreRepliesSpelled : List InboxRow → Type 0
+AreRepliesSpelled rows = AllByRecursion (λ (row : InboxRow). AllByRecursion (λ (body : List FieldData). HasSpelling body) row.sent) rows
+
 -- the link of a live subscription, at rest
 pub record SubView : Type 0 where
   pub sub : SubId
@@ -35,44 +55,44 @@ pub record SubView : Type 0 where
   pub slot : ℕ
   pub recaps : ℕ
   pub wished : ℕ
-  pub link : Standing MarketMsg
+  pub link : Standing PieceMsg
 
 abbrev pub sub_seen : SubLink → SubView
 sub_seen link = record { sub = link.sub; topic = link.topic; queue = link.queue; slot = link.slot; recaps = link.recaps; wished = link.wished; link = link.link.standing }
 
 -- as a row tells it
 abbrev pub sub_view : SubRow → SubView
-sub_view row = record { sub = row.sub; topic = row.terms.topic; queue = row.terms.queue; slot = row.slot; recaps = row.terms.recaps; wished = row.wished; link = standing_after row.terms.faults row.sent }
+sub_view row = record { sub = row.sub; topic = row.terms.topic; queue = row.terms.queue; slot = row.slot; recaps = row.terms.recaps; wished = row.wished; link = standing_after row.terms.faults (map piece_of row.sent) }
 
 -- the link of an open inbox, at rest
 pub record InboxView : Type 0 where
   pub inbox : InboxId
   pub queue : ℕ
   pub slot : ℕ
-  pub link : Standing (List FieldData)
+  pub link : Standing (List ℕ)
 
 abbrev pub inbox_seen : InboxLink → InboxView
 inbox_seen link = record { inbox = link.inbox; queue = link.queue; slot = link.slot; link = link.link.standing }
 
 abbrev pub inbox_view : InboxRow → InboxView
-inbox_view row = record { inbox = row.inbox; queue = row.terms.queue; slot = row.slot; link = standing_after row.terms.faults row.sent }
+inbox_view row = record { inbox = row.inbox; queue = row.terms.queue; slot = row.slot; link = standing_after row.terms.faults (map spelling row.sent) }
 
 -- how many messages a prepared pass puts out
-abbrev pub ready_len : Option (Readied MarketMsg) → ℕ
+abbrev pub ready_len : Option (Readied PieceMsg) → ℕ
 ready_len None = 0
 ready_len (Some pass) = pass.len
 
 -- a pass of this message is prepared
-abbrev pub Holds : MarketMsg → Option (Readied MarketMsg) → Type 0
+abbrev pub Holds : PieceMsg → Option (Readied PieceMsg) → Type 0
 Holds m None = ⊥
 Holds m (Some pass) = pass.message ≡ m
 
 -- what is prepared for a link is prepared well
-pub record ReadyFor (link : SubLink) (pass : Readied MarketMsg) : Type 0 where
-  pub prepared : IsPreparedFor link.link pass
-  pub len : (x : List MarketMsg) → StandsFor x link.link.standing → pass.len ≡ length (emit link.link.standing.rows (x ++ pass.message ∷ []) (length x + 1))
+pub record ReadyFor (link : SubLink) (pass : Readied PieceMsg) : Type 0 where
+  pub prepared : IsPreparedFor cut_body link.link pass
+  pub len : (x : List PieceMsg) → StandsFor x link.link.standing → pass.len ≡ length (emit cut_body link.link.standing.rows (x ++ pass.message ∷ []) (length x + 1))
 
-abbrev pub IsReadyBy : SubLink → Option (Readied MarketMsg) → Type 0
+abbrev pub IsReadyBy : SubLink → Option (Readied PieceMsg) → Type 0
 IsReadyBy link None = Unit {0}
 IsReadyBy link (Some pass) = ReadyFor link pass
 
@@ -91,7 +111,7 @@ is_on topic link = link.topic == topic
 abbrev pub ReadyIf : ℕ → SubLink → Type 0
 ReadyIf topic link = is_on topic link ≡ true → IsReady link
 
-abbrev pub HoldsIf : ℕ → MarketMsg → SubLink → Type 0
+abbrev pub HoldsIf : ℕ → PieceMsg → SubLink → Type 0
 HoldsIf topic m link = is_on topic link ≡ true → Holds m link.ready
 
 -- how much the prepared pass of a link on the topic puts out
@@ -105,46 +125,46 @@ abbrev pub row_is_on : ℕ → SubRow → Bool
 row_is_on topic row = topic == row.terms.topic
 
 module _ {L : Type 0} where
-  -- messages of a row, as they are put out
-  abbrev pub sub_outs : SubRow → List MarketMsg → List (BridgeOut L)
-  sub_outs row msgs = map (λ (m : MarketMsg). out.Queue row.terms.queue (queued.Deliver row.slot row.sub m)) msgs
+  -- pieces of a row, as they are put out
+  abbrev pub sub_outs : SubRow → List PieceMsg → List (BridgeOut L)
+  sub_outs row pieces = map (λ (p : PieceMsg). out.Queue row.terms.queue (queued.Deliver row.slot row.sub p)) pieces
 
   abbrev pub emit_outs : MarketMsg → SubRow → List (BridgeOut L)
-  emit_outs m row = sub_outs row (emit row.terms.faults (row.sent ++ m ∷ []) (length row.sent + 1))
+  emit_outs m row = sub_outs row (passed_on cut_body row.terms.faults (map piece_of row.sent) (piece_of m ∷ []))
 
   abbrev pub end_outs : SubRow → List (BridgeOut L)
-  end_outs row = sub_outs row (rest row.terms.faults row.sent) ++ out.Queue row.terms.queue (queued.Gone row.slot (Sub row.sub)) ∷ []
+  end_outs row = sub_outs row (rest row.terms.faults (map piece_of row.sent)) ++ out.Queue row.terms.queue (queued.Gone row.slot (Sub row.sub)) ∷ []
 
-  abbrev pub inbox_outs : InboxRow → List (List FieldData) → List (BridgeOut L)
-  inbox_outs row bodies = map (λ (body : List FieldData). out.Queue row.terms.queue (queued.Reply row.slot row.inbox body)) bodies
+  abbrev pub inbox_outs : InboxRow → List (List ℕ) → List (BridgeOut L)
+  inbox_outs row pieces = map (λ (body : List ℕ). out.Queue row.terms.queue (queued.Reply row.slot row.inbox body)) pieces
 
   abbrev pub inbox_emit_outs : List FieldData → InboxRow → List (BridgeOut L)
-  inbox_emit_outs body row = inbox_outs row (emit row.terms.faults (row.sent ++ body ∷ []) (length row.sent + 1))
+  inbox_emit_outs body row = inbox_outs row (passed_on cut_bytes row.terms.faults (map spelling row.sent) (spelling body ∷ []))
 
   abbrev pub inbox_end_outs : InboxRow → List (BridgeOut L)
-  inbox_end_outs row = inbox_outs row (rest row.terms.faults row.sent) ++ out.Queue row.terms.queue (queued.Gone row.slot (Inbox row.inbox)) ∷ []
+  inbox_end_outs row = inbox_outs row (rest row.terms.faults (map spelling row.sent)) ++ out.Queue row.terms.queue (queued.Gone row.slot (Inbox row.inbox)) ∷ []
 
   -- the prepared pass of a link on the topic
-  abbrev pub PassStep : ℕ → SubLink → SubLink → List MarketMsg → List MarketMsg → List (BridgeOut L) → List (BridgeOut L) → Type 0
-  PassStep topic old new msgs msgs' outs outs' = (row : SubRow) (m : MarketMsg) → sub_seen old ≡ sub_view row → HoldsIf topic m old → msgs ≡ []
+  abbrev pub PassStep : ℕ → SubLink → SubLink → List PieceMsg → List PieceMsg → List (BridgeOut L) → List (BridgeOut L) → Type 0
+  PassStep topic old new msgs msgs' outs outs' = (row : SubRow) (m : MarketMsg) → sub_seen old ≡ sub_view row → HoldsIf topic (piece_of m) old → msgs ≡ []
       → (sub_seen new ≡ sub_view (if row_is_on topic row then sub_passed m row else row)) × (outs' ≡ outs ++ (if row_is_on topic row then emit_outs m row else [])) × (msgs' ≡ [])
 
   -- the prepared passes of all links on the topic
-  abbrev pub PassSteps : ℕ → List SubLink → List SubLink → List MarketMsg → List MarketMsg → List (BridgeOut L) → List (BridgeOut L) → Type 0
-  PassSteps topic old new msgs msgs' outs outs' = (rows : List SubRow) (m : MarketMsg) → map sub_seen old ≡ map sub_view rows → Each (HoldsIf topic m) old → msgs ≡ []
+  abbrev pub PassSteps : ℕ → List SubLink → List SubLink → List PieceMsg → List PieceMsg → List (BridgeOut L) → List (BridgeOut L) → Type 0
+  PassSteps topic old new msgs msgs' outs outs' = (rows : List SubRow) (m : MarketMsg) → map sub_seen old ≡ map sub_view rows → Each (HoldsIf topic (piece_of m)) old → msgs ≡ []
       → (map sub_seen new ≡ map sub_view (changed (row_is_on topic) (sub_passed m) rows)) × (outs' ≡ outs ++ flat_map (emit_outs m) (filter (row_is_on topic) rows)) × (msgs' ≡ [])
 
   -- the ends of links
-  abbrev pub EndStep : SubLink → List MarketMsg → List MarketMsg → List (BridgeOut L) → List (BridgeOut L) → Type 0
+  abbrev pub EndStep : SubLink → List PieceMsg → List PieceMsg → List (BridgeOut L) → List (BridgeOut L) → Type 0
   EndStep link msgs msgs' outs outs' = (row : SubRow) → sub_seen link ≡ sub_view row → msgs ≡ [] → (outs' ≡ outs ++ end_outs row) × (msgs' ≡ [])
 
-  abbrev pub EndSteps : List SubLink → List MarketMsg → List MarketMsg → List (BridgeOut L) → List (BridgeOut L) → Type 0
+  abbrev pub EndSteps : List SubLink → List PieceMsg → List PieceMsg → List (BridgeOut L) → List (BridgeOut L) → Type 0
   EndSteps links msgs msgs' outs outs' = (rows : List SubRow) → map sub_seen links ≡ map sub_view rows → msgs ≡ [] → (outs' ≡ outs ++ flat_map end_outs rows) × (msgs' ≡ [])
 
-  abbrev pub InboxEndStep : InboxLink → List (List FieldData) → List (List FieldData) → List (BridgeOut L) → List (BridgeOut L) → Type 0
+  abbrev pub InboxEndStep : InboxLink → List (List ℕ) → List (List ℕ) → List (BridgeOut L) → List (BridgeOut L) → Type 0
   InboxEndStep link bodies bodies' outs outs' = (row : InboxRow) → inbox_seen link ≡ inbox_view row → bodies ≡ [] → (outs' ≡ outs ++ inbox_end_outs row) × (bodies' ≡ [])
 
-  abbrev pub InboxEndSteps : List InboxLink → List (List FieldData) → List (List FieldData) → List (BridgeOut L) → List (BridgeOut L) → Type 0
+  abbrev pub InboxEndSteps : List InboxLink → List (List ℕ) → List (List ℕ) → List (BridgeOut L) → List (BridgeOut L) → Type 0
   InboxEndSteps links bodies bodies' outs outs' = (rows : List InboxRow) → map inbox_seen links ≡ map inbox_view rows → bodies ≡ [] → (outs' ≡ outs ++ flat_map inbox_end_outs rows) × (bodies' ≡ [])
 
 -- how many messages a link holds, and the notice of its end
@@ -155,9 +175,9 @@ abbrev pub inbox_held : InboxLink → ℕ
 inbox_held link = length link.link.standing.held
 
 -- a pass that is prepared for an inbox's link
-pub record InboxReadyFor (link : InboxLink) (pass : Readied (List FieldData)) : Type 0 where
-  pub prepared : IsPreparedFor link.link pass
-  pub len : (x : List (List FieldData)) → StandsFor x link.link.standing → pass.len ≡ length (emit link.link.standing.rows (x ++ pass.message ∷ []) (length x + 1))
+pub record InboxReadyFor (link : InboxLink) (pass : Readied (List ℕ)) : Type 0 where
+  pub prepared : IsPreparedFor cut_bytes link.link pass
+  pub len : (x : List (List ℕ)) → StandsFor x link.link.standing → pass.len ≡ length (emit cut_bytes link.link.standing.rows (x ++ pass.message ∷ []) (length x + 1))
 
 -- a row after a wish, which counts where the row's terms allow one more
 abbrev pub wished_once : SubRow → SubRow

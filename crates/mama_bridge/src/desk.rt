@@ -12,7 +12,10 @@ ghost use Rattle.mama_bridge.specs.Desk.{Stands, Hears, AsBefore, AllBut, AllBut
 ghost use Rattle.mama_bridge.specs.Done.{said_by, HasFlag, Marks};
 ghost use Rattle.mama_bridge.specs.Ids.{is_sub_among, is_inbox_among};
 ghost use Rattle.mama_bridge.specs.Putters.{actor_of, HasFlags};
-ghost use Rattle.mama_bridge.specs.Links.{sub_seen, inbox_seen, first_outs, image_outs, settle_outs, inbox_held};
+ghost use Rattle.mama_msg.specs.Field.{FieldData};
+ghost use Rattle.mama_packet.specs.Packet.{Spells};
+ghost use Rattle.mama_event.specs.declared.market.MarketMsg.{MarketMsg};
+ghost use Rattle.mama_bridge.specs.Links.{IsPieceOf, sub_seen, inbox_seen, first_outs, image_outs, settle_outs, inbox_held};
 ghost use Rattle.mama_slots.specs.Slots.{in_use, IsNext};
 ghost use Rattle.mama_bridge.specs.Held.{StayHeld, KeepsHeld};
 ghost use Rattle.mama_bridge.specs.Live.{all_held, StaysLive, HasRoomOn, Awaits, Gains, KeepsLive, EndsLive};
@@ -28,12 +31,11 @@ use crate::places::Place;
 use crate::putter::Putter;
 use crate::subs::SubLink;
 use mama_event::{
-    BridgeNote, Fids, InboxId, InboxTerms, Make, MarketMsg, MsgKind, ObjectId, Shape, SubId,
-    SubKind, SubTerms, Tagged, ToPublisher, ToQueue,
+    BridgeNote, Fids, InboxId, InboxTerms, Make, MsgKind, ObjectId, Piece, PieceMsg, Shape, SubId,
+    SubKind, SubTerms, Tagged, ToPublisher, ToQueue, packed_messages_arrive,
 };
 use mama_link::{Faults, Link};
 use mama_memory::{OutOfMemory, Outbox};
-use mama_msg::Msg;
 use mama_slots::Slots;
 use std::alloc::Global;
 
@@ -90,6 +92,7 @@ impl Desk {
         ensures same { OnErr result (AsBefore self.old self.new) }
         ensures err { OnErr result (out.new.items ≡ out.old.items) }
     {
+        packed_messages_arrive();
         self.subs.leave(self.alloc, sub, &mut self.slots, out)
     }
 
@@ -102,32 +105,35 @@ impl Desk {
         ensures same { OnErr result (AsBefore self.old self.new) }
         ensures err { OnErr result (out.new.items ≡ out.old.items) }
     {
+        packed_messages_arrive();
         self.inboxes.close(self.alloc, inbox, &mut self.slots, out)
     }
 
     pub(crate) fn image<L: Tagged>(
         &mut self,
         sub: SubId,
-        msg: &MarketMsg,
+        msg: &PieceMsg,
         out: &mut Outbox<BridgeOut<L>>,
     ) -> Result<(), OutOfMemory>
-        ensures ok { OnOk result ((shape : Shape) → Hears L.tagged shape (images sub msg.now) self.old self.new out.old.items out.new.items []) }
+        ensures ok { OnOk result ((shape : Shape) (m : MarketMsg) → IsPieceOf m msg.now → Hears L.tagged shape (images sub m) self.old self.new out.old.items out.new.items []) }
         ensures same { OnErr result (AsBefore self.old self.new) }
         ensures err { OnErr result (out.new.items ≡ out.old.items) }
     {
+        packed_messages_arrive();
         self.subs.image(self.alloc, sub, msg, out)
     }
 
     pub(crate) fn reply<L: Tagged>(
         &mut self,
         inbox: InboxId,
-        body: &Msg,
+        body: &Piece,
         out: &mut Outbox<BridgeOut<L>>,
     ) -> Result<(), OutOfMemory>
-        ensures ok { OnOk result ((shape : Shape) → Hears L.tagged shape (replies inbox body.now) self.old self.new out.old.items out.new.items []) }
+        ensures ok { OnOk result ((shape : Shape) (fields : List FieldData) → Spells body.now fields → Hears L.tagged shape (replies inbox fields) self.old self.new out.old.items out.new.items []) }
         ensures same { OnErr result (AsBefore self.old self.new) }
         ensures err { OnErr result (out.new.items ≡ out.old.items) }
     {
+        packed_messages_arrive();
         self.inboxes.reply(self.alloc, inbox, body, out)
     }
 
@@ -135,14 +141,15 @@ impl Desk {
         &mut self,
         shape: &Chart,
         publisher: u32,
-        msg: &MarketMsg,
+        msg: &PieceMsg,
         out: &mut Outbox<BridgeOut<L>>,
     ) -> Result<(), OutOfMemory>
         requires { publisher < length shape.now.publisher_topics }
-        ensures ok { OnOk result (Hears L.tagged shape.now (publishes publisher msg.now) self.old self.new out.old.items out.new.items []) }
+        ensures ok { OnOk result ((m : MarketMsg) → IsPieceOf m msg.now → Hears L.tagged shape.now (publishes publisher m) self.old self.new out.old.items out.new.items []) }
         ensures same { OnErr result (AsBefore self.old self.new) }
         ensures err { OnErr result (out.new.items ≡ out.old.items) }
     {
+        packed_messages_arrive();
         let topic = shape.at(publisher as usize);
         self.subs.publish(self.alloc, topic, msg, out)
     }
@@ -319,6 +326,7 @@ impl Desk {
         ensures same { OnErr result (AsBefore self.old self.new) }
         ensures err { OnErr result (out.new.items ≡ out.old.items) }
     {
+        packed_messages_arrive();
         let settling = self.is_settling_with(who);
         let ending = both(settling, self.is_settled_with(who));
         let settles = begins(settling, self.is_settling());
@@ -357,8 +365,8 @@ impl Desk {
         publishers: u32,
         queues: u32,
         mut links: Vec<SubLink>,
-        msgs: &mut Outbox<MarketMsg>,
-        bodies: &mut Outbox<Msg>,
+        msgs: &mut Outbox<PieceMsg>,
+        bodies: &mut Outbox<Piece>,
         out: &mut Outbox<BridgeOut<L>>,
     )
         requires no_links { links.items ≡ [] }

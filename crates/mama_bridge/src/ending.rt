@@ -7,14 +7,13 @@ use crate::ends::plus;
 use crate::inboxes::{InboxLink, end_entry};
 use crate::out::BridgeOut;
 use crate::subs::{self, SubLink};
-use mama_event::{MarketMsg, ToPublisher, ToQueue, ToTimers};
+use mama_event::{Piece, PieceMsg, ToPublisher, ToQueue, ToTimers};
 use mama_memory::{OutOfMemory, Outbox};
-use mama_msg::Msg;
 
 /// Ends the links of subscriptions in order, into outboxes with room.
 pub(crate) fn end_subs<L>(
     links: Vec<SubLink>,
-    msgs: &mut Outbox<MarketMsg>,
+    msgs: &mut Outbox<PieceMsg>,
     out: &mut Outbox<BridgeOut<L>>,
 )
     requires msgs { sum_by sub_held links.items ≤ msgs.old.spare }
@@ -30,7 +29,7 @@ pub(crate) fn end_subs<L>(
 /// Ends the links of inboxes in order, into outboxes with room.
 pub(crate) fn end_inboxes<L>(
     entries: Vec<Option<InboxLink>>,
-    bodies: &mut Outbox<Msg>,
+    bodies: &mut Outbox<Piece>,
     out: &mut Outbox<BridgeOut<L>>,
 )
     requires bodies { sum_by inbox_held (present entries.items) ≤ bodies.old.spare }
@@ -96,8 +95,8 @@ pub(crate) fn end_all<L>(
     inboxes: Vec<Option<InboxLink>>,
     publishers: u32,
     queues: u32,
-    msgs: &mut Outbox<MarketMsg>,
-    bodies: &mut Outbox<Msg>,
+    msgs: &mut Outbox<PieceMsg>,
+    bodies: &mut Outbox<Piece>,
     out: &mut Outbox<BridgeOut<L>>,
 )
     requires msgs { sum_by sub_held links.items ≤ msgs.old.spare }

@@ -1,5 +1,8 @@
-ghost use Rattle.std.specs.Prelude.{◌≡◌, ℕ, ◌<◌, ◌^◌, [], length, None, IfErr, OnOk, OnErr};
+ghost use Rattle.std.specs.Prelude.{◌≡◌, ℕ, ◌<◌, ◌^◌, [], length, None, IfOk, IfErr, OnOk, OnErr};
+ghost use Rattle.mama_packet.specs.Packet.{Spells, message_of};
 ghost use Rattle.mama_event.specs.ToBridge.{note_of};
+ghost use Rattle.mama_event.specs.Wire.{market_of};
+ghost use Rattle.mama_bridge.specs.Links.{IsPieceOf};
 ghost use Rattle.mama_rules_services.specs.Bridge.{from_client, from_publisher, from_queue, put_by};
 ghost use Rattle.mama_laws_bridge.specs.Table.{leaver_in};
 ghost use Rattle.mama_bridge.specs.Desk.{Hears, HearsOf, AsBefore};
@@ -11,8 +14,24 @@ use crate::desk::Desk;
 use crate::done::Done;
 use crate::out::BridgeOut;
 use crate::putter::Putter;
-use mama_event::{InboxId, InboxTerms, SubId, SubTerms, Tagged, ToBridge};
-use mama_memory::{OutOfMemory, Outbox};
+use mama_event::{
+    InboxId, InboxTerms, Packet, Piece, PieceMsg, SubId, SubTerms, Tagged, ToBridge, WireMsg,
+};
+use mama_memory::{Duplicate, OutOfMemory, Outbox};
+
+/// A packed message as a piece, which a link may cut. They share the bytes.
+fn piece_of(msg: &WireMsg) -> Result<PieceMsg, OutOfMemory>
+    ensures { IfOk result (λ piece. IsPieceOf (market_of msg.now) piece) }
+{
+    Ok(msg.try_clone()?.into_piece())
+}
+
+/// The same of a reply.
+fn body_of(body: &Packet) -> Result<Piece, OutOfMemory>
+    ensures { IfOk result (λ piece. Spells piece (message_of body.now)) }
+{
+    Ok(body.try_clone()?.into_piece())
+}
 
 impl Desk {
     /// Hears an event of an actor. It is no queue's Bye.
@@ -219,9 +238,9 @@ impl Desk {
         ensures err { OnErr result (out.new.items ≡ out.old.items) }
     {
         match event {
-            ToBridge::Publish { msg } => self.publish(shape, publisher, msg, out),
-            ToBridge::Image { sub, msg } => self.image(*sub, msg, out),
-            ToBridge::Reply { inbox, body } => self.reply(*inbox, body, out),
+            ToBridge::Publish { msg } => self.publish(shape, publisher, &piece_of(msg)?, out),
+            ToBridge::Image { sub, msg } => self.image(*sub, &piece_of(msg)?, out),
+            ToBridge::Reply { inbox, body } => self.reply(*inbox, &body_of(body)?, out),
             ToBridge::SendsDone => self.done(shape, Done::Sends(publisher), publishers, out),
             ToBridge::Settled => self.done(shape, Done::Settled(publisher), publishers, out),
             _ => Ok(()),

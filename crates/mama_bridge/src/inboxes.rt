@@ -4,6 +4,8 @@ ghost use Rattle.std.specs.BTreeMap.{get, is_at};
 ghost use Rattle.std.specs.Vec.{vec_capacity};
 ghost use Rattle.mama_link.specs.Link.{standing_after};
 ghost use Rattle.mama_link.specs.Prepared.{IsPreparedFor};
+ghost use Rattle.mama_msg.specs.Field.{FieldData};
+ghost use Rattle.mama_payload.specs.Spelling.{spelling};
 ghost use Rattle.mama_event.specs.Object.{same_inbox};
 ghost use Rattle.mama_event.specs.declared.ids.InboxId.{InboxId as Inbox};
 ghost use Rattle.mama_laws_bridge.specs.Table.{InboxRow, inbox_passed, kept};
@@ -16,10 +18,9 @@ ghost use Rattle.mama_bridge.specs.Opened.{LinksIndexed, is_link_of, new_inbox_v
 use crate::ends::{finish, plus};
 use crate::out::{BridgeOut, gone, reply};
 use crate::tally::count;
-use mama_event::{InboxId, InboxTerms, ObjectId};
+use mama_event::{InboxId, InboxTerms, ObjectId, Piece};
 use mama_link::{Faults, Link, Prepared};
 use mama_memory::{OutOfMemory, Outbox};
-use mama_msg::Msg;
 use mama_slots::Slots;
 use std::alloc::Global;
 use std::collections::BTreeMap;
@@ -31,7 +32,7 @@ pub(crate) struct InboxLink {
     pub(crate) inbox: InboxId,
     pub(crate) queue: u32,
     pub(crate) slot: u32,
-    pub(crate) link: Link<Msg>,
+    pub(crate) link: Link<Piece>,
 }
 
 /// Who opened an inbox, and the links of those that are open, in order of opening.
@@ -59,16 +60,16 @@ impl Model for Inboxes {
 /// Passes the reply that is prepared for a link, and puts out what comes out.
 fn pass<L>(
     link: &mut InboxLink,
-    prepared: Prepared<Msg>,
-    bodies: &mut Outbox<Msg>,
+    prepared: Prepared<Piece>,
+    bodies: &mut Outbox<Piece>,
     out: &mut Outbox<BridgeOut<L>>,
 )
     requires ready { InboxReadyFor link.old prepared }
     requires bodies { prepared.len ≤ bodies.old.spare }
     requires out { prepared.len ≤ out.old.spare }
     ensures named { link.new.inbox ≡ link.old.inbox }
-    ensures passed { (row : InboxRow) → inbox_seen link.old ≡ inbox_view row → inbox_seen link.new ≡ inbox_view (inbox_passed prepared.message row) }
-    ensures out { (row : InboxRow) → inbox_seen link.old ≡ inbox_view row → bodies.old.items ≡ [] → out.new.items ≡ out.old.items ++ inbox_emit_outs prepared.message row }
+    ensures passed { (body : List FieldData) (row : InboxRow) → prepared.message ≡ spelling body → inbox_seen link.old ≡ inbox_view row → inbox_seen link.new ≡ inbox_view (inbox_passed body row) }
+    ensures out { (body : List FieldData) (row : InboxRow) → prepared.message ≡ spelling body → inbox_seen link.old ≡ inbox_view row → bodies.old.items ≡ [] → out.new.items ≡ out.old.items ++ inbox_emit_outs body row }
 {
     let len = prepared.len();
     link.link.pass_prepared(prepared, bodies);
@@ -76,7 +77,7 @@ fn pass<L>(
 }
 
 /// Ends a link: puts out the replies that it still holds, and then the notice.
-fn end<L>(link: InboxLink, bodies: &mut Outbox<Msg>, out: &mut Outbox<BridgeOut<L>>)
+fn end<L>(link: InboxLink, bodies: &mut Outbox<Piece>, out: &mut Outbox<BridgeOut<L>>)
     requires bodies { inbox_held link ≤ bodies.old.spare }
     requires out { inbox_held link + 1 ≤ out.old.spare }
     ensures step { InboxEndStep link bodies.old.items bodies.new.items out.old.items out.new.items }
@@ -99,11 +100,11 @@ fn end<L>(link: InboxLink, bodies: &mut Outbox<Msg>, out: &mut Outbox<BridgeOut<
 fn answer<L>(
     alloc: Global,
     link: &mut InboxLink,
-    body: &Msg,
+    body: &Piece,
     out: &mut Outbox<BridgeOut<L>>,
 ) -> Result<(), OutOfMemory>
     ensures named { link.new.inbox ≡ link.old.inbox }
-    ensures ok { OnOk result ((row : InboxRow) → inbox_seen link.old ≡ inbox_view row → (inbox_seen link.new ≡ inbox_view (inbox_passed body.now row)) × (out.new.items ≡ out.old.items ++ inbox_emit_outs body.now row)) }
+    ensures ok { OnOk result ((fields : List FieldData) (row : InboxRow) → body.now ≡ spelling fields → inbox_seen link.old ≡ inbox_view row → (inbox_seen link.new ≡ inbox_view (inbox_passed fields row)) × (out.new.items ≡ out.old.items ++ inbox_emit_outs fields row)) }
     ensures seen { OnErr result (inbox_seen link.new ≡ inbox_seen link.old) }
     ensures err { OnErr result (out.new.items ≡ out.old.items) }
 {
@@ -120,11 +121,11 @@ fn answer<L>(
 fn answer_entry<L>(
     alloc: Global,
     entry: &mut Option<InboxLink>,
-    body: &Msg,
+    body: &Piece,
     out: &mut Outbox<BridgeOut<L>>,
 ) -> Result<(), OutOfMemory>
     ensures named { map (λ link. link.inbox) (option_to_list entry.new) ≡ map (λ link. link.inbox) (option_to_list entry.old) }
-    ensures ok { OnOk result (EntryAnswers body.now entry.old entry.new out.old.items out.new.items) }
+    ensures ok { OnOk result ((fields : List FieldData) → body.now ≡ spelling fields → EntryAnswers fields entry.old entry.new out.old.items out.new.items) }
     ensures seen { OnErr result (map inbox_seen (option_to_list entry.new) ≡ map inbox_seen (option_to_list entry.old)) }
     ensures err { OnErr result (out.new.items ≡ out.old.items) }
 {
@@ -147,7 +148,7 @@ fn held(entry: &Option<InboxLink>) -> usize
 /// Ends the link of an entry, if it is not empty, into outboxes with room.
 pub(crate) fn end_entry<L>(
     entry: Option<InboxLink>,
-    bodies: &mut Outbox<Msg>,
+    bodies: &mut Outbox<Piece>,
     out: &mut Outbox<BridgeOut<L>>,
 )
     requires bodies { sum_by inbox_held (option_to_list entry) ≤ bodies.old.spare }
@@ -328,11 +329,11 @@ impl Inboxes {
         &mut self,
         alloc: Global,
         inbox: InboxId,
-        body: &Msg,
+        body: &Piece,
         out: &mut Outbox<BridgeOut<L>>,
     ) -> Result<(), OutOfMemory>
         ensures opened { self.new.opened ≡ self.old.opened }
-        ensures ok { OnOk result (InboxPass inbox body.now self.old.links self.new.links out.old.items out.new.items) }
+        ensures ok { OnOk result ((fields : List FieldData) → body.now ≡ spelling fields → InboxPass inbox fields self.old.links self.new.links out.old.items out.new.items) }
         ensures seen { OnErr result (map inbox_seen self.new.links ≡ map inbox_seen self.old.links) }
         ensures err { OnErr result (out.new.items ≡ out.old.items) }
     {

@@ -3,6 +3,7 @@ ghost use Rattle.std.specs.Vec.{vec_capacity};
 ghost use Rattle.mama_slots.specs.Slots.{in_use};
 ghost use Rattle.mama_event.specs.declared.ids.SubId.{SubId as Sub};
 ghost use Rattle.mama_event.specs.declared.market.MarketMsg.{MarketMsg};
+ghost use Rattle.mama_event.specs.Wire.{piece_of};
 ghost use Rattle.mama_laws_bridge.specs.Table.{SubRow, of_sub, sub_passed};
 ghost use Rattle.mama_bridge.specs.Links.{sub_seen, sub_view, sub_held, row_is_on, emit_outs, end_outs, wish_outs, wished_once, SubsPass, SubLeaves, SubWishes};
 ghost use Rattle.mama_bridge.specs.Ids.{is_sub_among};
@@ -14,7 +15,7 @@ use crate::out::BridgeOut;
 use crate::places::{Place, Places};
 use crate::routes;
 use crate::subs::SubLink;
-use mama_event::{MarketMsg, SubId};
+use mama_event::{PieceMsg, SubId};
 use mama_memory::{OutOfMemory, Outbox};
 use mama_slots::Slots;
 use std::alloc::Global;
@@ -35,10 +36,10 @@ fn publish_on<L>(
     alloc: Global,
     topics: &mut ByTopic,
     topic: u32,
-    msg: &MarketMsg,
+    msg: &PieceMsg,
     out: &mut Outbox<BridgeOut<L>>,
 ) -> Result<(), OutOfMemory>
-    ensures ok { OnOk result (OnTopic topic (λ old new. SubsPass (row_is_on topic) msg.now old new out.old.items out.new.items) topics.old topics.new) }
+    ensures ok { OnOk result ((m : MarketMsg) → msg.now ≡ piece_of m → OnTopic topic (λ old new. SubsPass (row_is_on topic) m old new out.old.items out.new.items) topics.old topics.new) }
     ensures seen { OnErr result (OnTopic topic (λ old new. map sub_seen new ≡ map sub_seen old) topics.old topics.new) }
     ensures err { OnErr result (out.new.items ≡ out.old.items) }
 {
@@ -54,10 +55,10 @@ fn image_on<L>(
     topics: &mut ByTopic,
     topic: u32,
     sub: SubId,
-    msg: &MarketMsg,
+    msg: &PieceMsg,
     out: &mut Outbox<BridgeOut<L>>,
 ) -> Result<(), OutOfMemory>
-    ensures ok { OnOk result (OnTopic topic (λ old new. SubsPass (of_sub sub) msg.now old new out.old.items out.new.items) topics.old topics.new) }
+    ensures ok { OnOk result ((m : MarketMsg) → msg.now ≡ piece_of m → OnTopic topic (λ old new. SubsPass (of_sub sub) m old new out.old.items out.new.items) topics.old topics.new) }
     ensures seen { OnErr result (OnTopic topic (λ old new. map sub_seen new ≡ map sub_seen old) topics.old topics.new) }
     ensures err { OnErr result (out.new.items ≡ out.old.items) }
 {
@@ -243,10 +244,10 @@ impl Live {
         &mut self,
         alloc: Global,
         topic: u32,
-        msg: &MarketMsg,
+        msg: &PieceMsg,
         out: &mut Outbox<BridgeOut<L>>,
     ) -> Result<(), OutOfMemory>
-        ensures ok { OnOk result (LiveDoes (row_is_on topic) (sub_passed msg.now) (emit_outs msg.now) self.old self.new out.old.items out.new.items) }
+        ensures ok { OnOk result ((m : MarketMsg) → msg.now ≡ piece_of m → LiveDoes (row_is_on topic) (sub_passed m) (emit_outs m) self.old self.new out.old.items out.new.items) }
         ensures same { OnErr result (StaysLive self.old self.new) }
         ensures err { OnErr result (out.new.items ≡ out.old.items) }
     {
@@ -265,10 +266,10 @@ impl Live {
         &mut self,
         alloc: Global,
         sub: SubId,
-        msg: &MarketMsg,
+        msg: &PieceMsg,
         out: &mut Outbox<BridgeOut<L>>,
     ) -> Result<(), OutOfMemory>
-        ensures ok { OnOk result (LiveDoes (of_sub sub) (sub_passed msg.now) (emit_outs msg.now) self.old self.new out.old.items out.new.items) }
+        ensures ok { OnOk result ((m : MarketMsg) → msg.now ≡ piece_of m → LiveDoes (of_sub sub) (sub_passed m) (emit_outs m) self.old self.new out.old.items out.new.items) }
         ensures same { OnErr result (StaysLive self.old self.new) }
         ensures err { OnErr result (out.new.items ≡ out.old.items) }
     {

@@ -1,8 +1,7 @@
 ghost use Rattle.std.specs.Prelude.{◌≡◌, ◌+◌, ◌<◌, ◌≤◌, [], ◌∷◌, ◌++◌, map, take, drop, length, option_to_list, IfNone};
 
-use mama_event::{InboxId, MarketMsg, ObjectId, SubId, ToPublisher, ToQueue, ToTimers};
+use mama_event::{InboxId, ObjectId, Piece, PieceMsg, SubId, ToPublisher, ToQueue, ToTimers};
 use mama_memory::Outbox;
-use mama_msg::Msg;
 
 /// What the bridge puts, and on whose lane: a publisher's or a queue's, by its number, or the timer service's.
 #[derive(Debug, Drop)]
@@ -26,7 +25,7 @@ fn deliver_one<L>(
     sub: SubId,
     queue: u32,
     slot: u32,
-    msg: Option<MarketMsg>,
+    msg: Option<PieceMsg>,
     out: &mut Outbox<BridgeOut<L>>,
 )
     requires { 0 < out.old.spare }
@@ -44,7 +43,7 @@ pub(crate) fn deliver<L>(
     queue: u32,
     slot: u32,
     count: usize,
-    msgs: &mut Outbox<MarketMsg>,
+    msgs: &mut Outbox<PieceMsg>,
     out: &mut Outbox<BridgeOut<L>>,
 )
     requires { count ≤ out.old.spare }
@@ -64,7 +63,7 @@ fn reply_one<L>(
     inbox: InboxId,
     queue: u32,
     slot: u32,
-    body: Option<Msg>,
+    body: Option<Piece>,
     out: &mut Outbox<BridgeOut<L>>,
 )
     requires { 0 < out.old.spare }
@@ -82,7 +81,7 @@ pub(crate) fn reply<L>(
     queue: u32,
     slot: u32,
     count: usize,
-    bodies: &mut Outbox<Msg>,
+    bodies: &mut Outbox<Piece>,
     out: &mut Outbox<BridgeOut<L>>,
 )
     requires { count ≤ out.old.spare }

@@ -1,5 +1,7 @@
 ghost use Rattle.std.specs.Prelude.{◌≡◌, ℕ, ◌<◌, ◌++◌, ◌==◌, ◌&&◌, not, map, nat_lt, OnOk, OnErr, if◌then◌else◌};
 ghost use Rattle.mama_slots.specs.Slots.{in_use};
+ghost use Rattle.mama_event.specs.Wire.{piece_of};
+ghost use Rattle.mama_event.specs.declared.market.MarketMsg.{MarketMsg};
 ghost use Rattle.mama_laws_bridge.specs.Table.{SubRow, of_sub, sub_passed, sub_wished};
 ghost use Rattle.mama_bridge.specs.Links.{sub_seen, sub_view, emit_outs, row_is_on, wish_outs, SubsPass, SubLeaves, SubWishes};
 
@@ -7,7 +9,7 @@ use crate::ends::plus;
 use crate::out::BridgeOut;
 use crate::places::Place;
 use crate::subs::{self, SubLink};
-use mama_event::{MarketMsg, MsgKind, SubId, ToPublisher};
+use mama_event::{MsgKind, PieceMsg, SubId, ToPublisher};
 use mama_memory::{OutOfMemory, Outbox};
 use mama_slots::Slots;
 use std::alloc::Global;
@@ -18,10 +20,10 @@ pub(crate) fn publish<L>(
     alloc: Global,
     links: &mut VecDeque<SubLink>,
     topic: u32,
-    msg: &MarketMsg,
+    msg: &PieceMsg,
     out: &mut Outbox<BridgeOut<L>>,
 ) -> Result<(), OutOfMemory>
-    ensures ok { OnOk result (SubsPass (row_is_on topic) msg.now links.old.items links.new.items out.old.items out.new.items) }
+    ensures ok { OnOk result ((m : MarketMsg) → msg.now ≡ piece_of m → SubsPass (row_is_on topic) m links.old.items links.new.items out.old.items out.new.items) }
     ensures seen { OnErr result (map sub_seen links.new.items ≡ map sub_seen links.old.items) }
     ensures err { OnErr result (out.new.items ≡ out.old.items) }
 {
@@ -37,10 +39,10 @@ pub(crate) fn publish<L>(
 fn send<L>(
     alloc: Global,
     link: &mut SubLink,
-    msg: &MarketMsg,
+    msg: &PieceMsg,
     out: &mut Outbox<BridgeOut<L>>,
 ) -> Result<(), OutOfMemory>
-    ensures ok { OnOk result ((row : SubRow) → sub_seen link.old ≡ sub_view row → (sub_seen link.new ≡ sub_view (sub_passed msg.now row)) × (out.new.items ≡ out.old.items ++ emit_outs msg.now row)) }
+    ensures ok { OnOk result ((m : MarketMsg) → msg.now ≡ piece_of m → (row : SubRow) → sub_seen link.old ≡ sub_view row → (sub_seen link.new ≡ sub_view (sub_passed m row)) × (out.new.items ≡ out.old.items ++ emit_outs m row)) }
     ensures seen { OnErr result (sub_seen link.new ≡ sub_seen link.old) }
     ensures err { OnErr result (out.new.items ≡ out.old.items) }
 {
@@ -57,10 +59,10 @@ pub(crate) fn image<L>(
     alloc: Global,
     links: &mut VecDeque<SubLink>,
     sub: SubId,
-    msg: &MarketMsg,
+    msg: &PieceMsg,
     out: &mut Outbox<BridgeOut<L>>,
 ) -> Result<(), OutOfMemory>
-    ensures ok { OnOk result (SubsPass (of_sub sub) msg.now links.old.items links.new.items out.old.items out.new.items) }
+    ensures ok { OnOk result ((m : MarketMsg) → msg.now ≡ piece_of m → SubsPass (of_sub sub) m links.old.items links.new.items out.old.items out.new.items) }
     ensures seen { OnErr result (map sub_seen links.new.items ≡ map sub_seen links.old.items) }
     ensures err { OnErr result (out.new.items ≡ out.old.items) }
 {

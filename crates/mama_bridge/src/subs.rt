@@ -3,12 +3,13 @@ ghost use Rattle.std.specs.VecDeque.{deque_len};
 ghost use Rattle.mama_link.specs.Link.{emit};
 ghost use Rattle.mama_event.specs.Object.{same_sub};
 ghost use Rattle.mama_event.specs.declared.market.MarketMsg.{MarketMsg};
+ghost use Rattle.mama_event.specs.Wire.{piece_of};
 ghost use Rattle.mama_laws_bridge.specs.Table.{SubRow, sub_passed};
 ghost use Rattle.mama_bridge.specs.Links.{sub_seen, sub_view, ready_len, Holds, IsReady, Each, ReadyIf, HoldsIf, weight, weights, emit_outs, PassStep, PassSteps, EndStep, EndSteps, sub_held};
 
 use crate::ends::{finish, plus};
 use crate::out::{BridgeOut, deliver, gone};
-use mama_event::{MarketMsg, ObjectId, SubId};
+use mama_event::{ObjectId, PieceMsg, SubId};
 use mama_link::{Link, Prepared};
 use mama_memory::{OutOfMemory, Outbox};
 use std::collections::VecDeque;
@@ -23,12 +24,12 @@ pub(crate) struct SubLink {
     pub(crate) slot: u32,
     pub(crate) recaps: u32,
     pub(crate) wished: u32,
-    pub(crate) link: Link<MarketMsg>,
-    pub(crate) ready: Option<Prepared<MarketMsg>>,
+    pub(crate) link: Link<PieceMsg>,
+    pub(crate) ready: Option<Prepared<PieceMsg>>,
 }
 
 /// Prepares the next pass of a link, and tells how many messages it will put out.
-pub(crate) fn prepare(link: &mut SubLink, msg: &MarketMsg) -> Result<usize, OutOfMemory>
+pub(crate) fn prepare(link: &mut SubLink, msg: &PieceMsg) -> Result<usize, OutOfMemory>
     ensures seen { sub_seen link.new ≡ sub_seen link.old }
     ensures ready { OnOk result (IsReady link.new) }
     ensures holds { OnOk result (Holds msg.now link.new.ready) }
@@ -41,7 +42,7 @@ pub(crate) fn prepare(link: &mut SubLink, msg: &MarketMsg) -> Result<usize, OutO
 }
 
 /// Prepares the next pass of a link on a topic, and nothing of another link.
-fn prepare_if(link: &mut SubLink, topic: u32, msg: &MarketMsg) -> Result<usize, OutOfMemory>
+fn prepare_if(link: &mut SubLink, topic: u32, msg: &PieceMsg) -> Result<usize, OutOfMemory>
     ensures seen { sub_seen link.new ≡ sub_seen link.old }
     ensures ready { OnOk result (ReadyIf topic link.new) }
     ensures holds { OnOk result (HoldsIf topic msg.now link.new) }
@@ -58,7 +59,7 @@ fn prepare_if(link: &mut SubLink, topic: u32, msg: &MarketMsg) -> Result<usize, 
 pub(crate) fn prepare_topic(
     links: &mut VecDeque<SubLink>,
     topic: u32,
-    msg: &MarketMsg,
+    msg: &PieceMsg,
 ) -> Result<usize, OutOfMemory>
     ensures seen { map sub_seen links.new.items ≡ map sub_seen links.old.items }
     ensures ready { OnOk result (Each (ReadyIf topic) links.new.items) }
@@ -76,15 +77,15 @@ pub(crate) fn prepare_topic(
 /// Passes the message that is prepared for a link, and delivers what comes out.
 pub(crate) fn pass<L>(
     link: &mut SubLink,
-    msgs: &mut Outbox<MarketMsg>,
+    msgs: &mut Outbox<PieceMsg>,
     out: &mut Outbox<BridgeOut<L>>,
 )
     requires ready { IsReady link.old }
     requires msgs { ready_len link.old.ready ≤ msgs.old.spare }
     requires out { ready_len link.old.ready ≤ out.old.spare }
-    ensures passed { (row : SubRow) (m : MarketMsg) → sub_seen link.old ≡ sub_view row → Holds m link.old.ready → sub_seen link.new ≡ sub_view (sub_passed m row) }
-    ensures out { (row : SubRow) (m : MarketMsg) → sub_seen link.old ≡ sub_view row → Holds m link.old.ready → msgs.old.items ≡ [] → out.new.items ≡ out.old.items ++ emit_outs m row }
-    ensures msgs { (row : SubRow) (m : MarketMsg) → sub_seen link.old ≡ sub_view row → Holds m link.old.ready → msgs.old.items ≡ [] → msgs.new.items ≡ [] }
+    ensures passed { (row : SubRow) (m : MarketMsg) → sub_seen link.old ≡ sub_view row → Holds (piece_of m) link.old.ready → sub_seen link.new ≡ sub_view (sub_passed m row) }
+    ensures out { (row : SubRow) (m : MarketMsg) → sub_seen link.old ≡ sub_view row → Holds (piece_of m) link.old.ready → msgs.old.items ≡ [] → out.new.items ≡ out.old.items ++ emit_outs m row }
+    ensures msgs { (row : SubRow) (m : MarketMsg) → sub_seen link.old ≡ sub_view row → Holds (piece_of m) link.old.ready → msgs.old.items ≡ [] → msgs.new.items ≡ [] }
     ensures msgs_spare { msgs.old.spare ≤ msgs.new.spare + ready_len link.old.ready }
     ensures out_spare { out.old.spare ≤ out.new.spare + ready_len link.old.ready }
 {
@@ -99,7 +100,7 @@ pub(crate) fn pass<L>(
 fn pass_if<L>(
     link: &mut SubLink,
     topic: u32,
-    msgs: &mut Outbox<MarketMsg>,
+    msgs: &mut Outbox<PieceMsg>,
     out: &mut Outbox<BridgeOut<L>>,
 )
     requires ready { ReadyIf topic link.old }
@@ -118,7 +119,7 @@ fn pass_if<L>(
 pub(crate) fn pass_topic<L>(
     links: &mut VecDeque<SubLink>,
     topic: u32,
-    msgs: &mut Outbox<MarketMsg>,
+    msgs: &mut Outbox<PieceMsg>,
     out: &mut Outbox<BridgeOut<L>>,
 )
     requires ready { Each (ReadyIf topic) links.old.items }
@@ -132,7 +133,7 @@ pub(crate) fn pass_topic<L>(
 }
 
 /// Ends a link: delivers what it still holds, and then the notice.
-pub(crate) fn end<L>(link: SubLink, msgs: &mut Outbox<MarketMsg>, out: &mut Outbox<BridgeOut<L>>)
+pub(crate) fn end<L>(link: SubLink, msgs: &mut Outbox<PieceMsg>, out: &mut Outbox<BridgeOut<L>>)
     requires msgs { sub_held link ≤ msgs.old.spare }
     requires out { sub_held link + 1 ≤ out.old.spare }
     ensures step { EndStep link msgs.old.items msgs.new.items out.old.items out.new.items }

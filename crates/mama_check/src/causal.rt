@@ -1,18 +1,22 @@
 ghost use Rattle.std.specs.Prelude.{◌≡◌, ◌↔◌, ◌<◌, ◌++◌, ℕ, true, length, map, replicate, None, IfOk, OnOk};
 ghost use Rattle.mama_event.specs.Ports.{queues_of};
 ghost use Rattle.mama_rules_legal.specs.Form.{IsCounted};
+ghost use Rattle.mama_rules_legal.specs.Legal.{IsLegal};
 ghost use Rattle.mama_script.specs.Tree.{IsShaped};
 ghost use Rattle.mama_check_puts.specs.Puts.{AreLists, timers_put_to};
 ghost use Rattle.mama_check.specs.Puts.{AreClientPuts, AreBridgePuts, AreServed, publisher_to_bridge};
 ghost use Rattle.mama_check.specs.Rules.{KeepsPublisherEdge, KeepsBridgeEdges, KeepsTimersEdges, KeepsQueueEdges};
-ghost use Rattle.mama_check.specs.Causal.{of_each, client_needs, publisher_needs, queue_needs, NeedsAreByNumber, ActorsAreByPort, IsCausal};
+ghost use Rattle.mama_check.specs.Causal.{of_each, client_needs, publisher_needs, queue_needs, all_needs, NeedsAreByNumber, ActorsAreByPort, IsCausal};
 
+use crate::all::all_puts;
+use crate::laws::{kept_rules_are_legal, legal_records_are_formed};
 use crate::takes::{needs_in_bridge, needs_in_publisher, needs_in_queue, needs_in_timers};
 use mama_check_order::{Need, has_order};
 use mama_check_puts::{BridgePuts, ClientPuts};
 use mama_check_queue::ServedQueue;
 use mama_event::{BridgeNote, QueueNote};
 use mama_memory::OutOfMemory;
+use mama_plans::plans_of;
 use mama_record::RunRecord;
 use mama_script::Script;
 use std::alloc::Global;
@@ -82,6 +86,42 @@ fn add_queues(
     Ok(())
 }
 
+/// What the entries of all actors need, in the order of the actors' numbers. All edges are whole, so that whatever was taken
+/// was put.
+fn needs_of_all(
+    alloc: Global,
+    script: &Script,
+    run: &RunRecord,
+    clients: &[ClientPuts],
+    publishers: &[Vec<(usize, BridgeNote)>],
+    bridge: &BridgePuts,
+    timers: &[Vec<(usize, QueueNote)>],
+    queues: &[ServedQueue],
+) -> Result<Vec<Vec<Option<Need>>>, OutOfMemory>
+    requires shaped { IsShaped script.now }
+    requires counted { IsCounted script.now run.now }
+    requires clients { AreClientPuts script.now run.now clients.now }
+    requires publishers { AreLists (map (λ list. list.items) publishers.now) (length script.now.publishers) (publisher_to_bridge script.now run.now) }
+    requires bridge { AreBridgePuts script.now run.now bridge.now }
+    requires timers { AreLists (map (λ list. list.items) timers.now) (queues_of script.now.shape) (timers_put_to script.now.shape run.now.timers) }
+    requires queues { AreServed script.now run.now queues.now }
+    requires publisher_edges { (p : ℕ) → p < length script.now.publishers → KeepsPublisherEdge script.now run.now p }
+    requires bridge_edges { KeepsBridgeEdges script.now run.now }
+    requires timers_edges { KeepsTimersEdges script.now run.now }
+    requires queue_edges { (q : ℕ) → q < queues_of script.now.shape → KeepsQueueEdges script.now run.now q }
+    ensures { IfOk result (λ needs. map (λ actor. actor.items) needs.items ≡ all_needs script.now run.now) }
+{
+    let mut needs = Vec::new(alloc);
+    add_clients(alloc, &mut needs, script)?;
+    add_publishers(alloc, &mut needs, script, run, bridge)?;
+    let of_bridge = needs_in_bridge(alloc, script, run, clients, publishers, queues)?;
+    needs.push(of_bridge.unwrap())?;
+    let of_timers = needs_in_timers(alloc, script, run, clients, queues, bridge)?;
+    needs.push(of_timers.unwrap())?;
+    add_queues(alloc, &mut needs, script, run, bridge, timers)?;
+    Ok(needs)
+}
+
 /// Whether one order of all entries and client lines keeps each actor's own order and has each event taken after it was
 /// put. All edges are whole, so that whatever was taken was put.
 ///
@@ -109,15 +149,40 @@ pub fn is_causal(
     requires queue_edges { (q : ℕ) → q < queues_of script.now.shape → KeepsQueueEdges script.now run.now q }
     ensures { IfOk result (λ causal. (causal ≡ true) ↔ IsCausal script.now run.now) }
 {
-    let mut needs = Vec::new(alloc);
-    add_clients(alloc, &mut needs, script)?;
-    add_publishers(alloc, &mut needs, script, run, bridge)?;
-    let of_bridge = needs_in_bridge(alloc, script, run, clients, publishers, queues)?;
-    needs.push(of_bridge.unwrap())?;
-    let of_timers = needs_in_timers(alloc, script, run, clients, queues, bridge)?;
-    needs.push(of_timers.unwrap())?;
-    add_queues(alloc, &mut needs, script, run, bridge, timers)?;
+    let needs = needs_of_all(
+        alloc, script, run, clients, publishers, bridge, timers, queues,
+    )?;
     has_order(alloc, &needs)
+}
+
+/// What the entries of all actors of a legal record need, in the order of the actors' numbers: clients, publishers, the
+/// bridge, the timer service, queues. An entry that takes an event needs the entry that put it. A client's lines stand for
+/// its entries, a pause among them, and one more stands for that it is done.
+///
+/// It takes time and memory by the length of the script and of the record. The error is want of memory.
+pub fn needs_of_run(
+    alloc: Global,
+    script: &Script,
+    run: &RunRecord,
+) -> Result<Vec<Vec<Option<Need>>>, OutOfMemory>
+    requires { IsLegal script.now run.now }
+    ensures { IfOk result (λ needs. map (λ actor. actor.items) needs.items ≡ all_needs script.now run.now) }
+{
+    let _shape = script.shape();
+    legal_records_are_formed();
+    kept_rules_are_legal();
+    let plans = plans_of(alloc, script)?;
+    let puts = all_puts(alloc, script, run, &plans)?;
+    needs_of_all(
+        alloc,
+        script,
+        run,
+        &puts.clients,
+        &puts.publishers,
+        &puts.bridge,
+        &puts.timers,
+        &puts.queues,
+    )
 }
 
 /// Laws: what the entries of each actor need stands at its number, and behind each port of a lane stands whose port it is.

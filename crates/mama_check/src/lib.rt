@@ -4,8 +4,8 @@
 //! A function for each rule finds that actor, and [`kept_rules_are_legal`] says that a record is legal exactly where all
 //! keep all of them (`specs/Kept.antt`). [`check`] gives the verdict on a whole record: legal, or the first rule that is
 //! broken and its first actor. [`is_causal`] says whether its entries could all be taken one after another, each after
-//! what it needs. [`has_sent_all`] decides whether a publisher did all its lines, was settled and told the end;
-//! [`sends_of`] and [`clock_lines_of`] count lines.
+//! what it needs, and [`needs_of_run`] what that is for each. [`has_sent_all`] decides whether a publisher did all its
+//! lines, was settled and told the end; [`sends_of`] and [`clock_lines_of`] count lines.
 #![tactic(auto)]
 
 mod actors;
@@ -25,7 +25,7 @@ mod sent;
 mod takes;
 mod verdict;
 
-pub use causal::{actors_have_their_numbers, is_causal};
+pub use causal::{actors_have_their_numbers, is_causal, needs_of_run};
 pub use edges::{
     first_of_publisher_edges, first_of_queue_edges, is_bridge_whole, is_publisher_whole,
     is_queue_whole, is_timing_whole,

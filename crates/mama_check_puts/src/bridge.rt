@@ -22,7 +22,8 @@ pub struct BridgePuts {
     pub to_timers: Vec<(usize, TimersNote)>,
 }
 
-/// What the bridge of a shape put by its journal. The error is want of memory, as of [`Bridge::take`].
+/// What the bridge of a shape put by its journal. The error is want of memory, as of [`Bridge::take`]. It also comes where the
+/// bridge took a message of more than 64 fields, which no publisher sends and no log tells.
 pub fn puts_of_bridge(
     alloc: Global,
     shape: &Shape,
@@ -55,7 +56,7 @@ fn taken(
     ensures journal { OnOk result (bridge.new ≡ record { shape = bridge.old.shape; journal = bridge.old.journal ++ (port, note.now) ∷ [] }) }
     ensures puts { IfOk result (λ out. map (put_note own_tag) out.items ≡ bridge_puts_at bridge.old.shape bridge.old.journal (port, note.now)) }
 {
-    let event = bridge_event(note)?;
+    let event = bridge_event(alloc, note)?;
     let mut out = Outbox::new(alloc);
     match bridge.take(port, event, &mut out) {
         Ok(_) => Ok(out),
@@ -79,12 +80,10 @@ fn deal_one(
             entry,
             publisher_note(event),
         ),
-        BridgeOut::Queue(number, event) => deal(
-            &mut puts.to_queues,
-            number,
-            entry,
-            queue_note(event),
-        ),
+        BridgeOut::Queue(number, event) => {
+            let note = queue_note(event)?;
+            deal(&mut puts.to_queues, number, entry, note)
+        }
         BridgeOut::Timers(event) => {
             puts.to_timers.push((entry, timers_note(event)))?;
             Ok(())

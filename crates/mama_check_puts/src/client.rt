@@ -85,7 +85,10 @@ fn add(puts: &mut ClientPuts, place: usize, put: ToService<ObjectId>) -> Result<
     ensures timers { OnOk result (puts.new.to_timers.items ≡ puts.old.to_timers.items ++ from_entry place (timers_part (note_of put))) }
 {
     match put {
-        ToService::Bridge(event) => puts.to_bridge.push((place, bridge_note(event)))?,
+        ToService::Bridge(event) => {
+            let note = bridge_note(event)?;
+            puts.to_bridge.push((place, note))?
+        }
         ToService::Timers(event) => puts.to_timers.push((place, timers_note(event)))?,
     }
     Ok(())

@@ -10,6 +10,8 @@ use mama_event::{
     ToQueue, ToTimers,
 };
 use mama_memory::{Duplicate, OutOfMemory};
+use mama_publisher::{packed, packed_message};
+use std::alloc::Global;
 
 /// The event of a note, whose listener is the tag itself.
 pub(crate) fn timers_event(note: TimersNote) -> ToTimers<ObjectId>
@@ -36,35 +38,10 @@ pub(crate) fn timers_event(note: TimersNote) -> ToTimers<ObjectId>
 }
 
 /// The note of an event to a queue.
-pub(crate) fn queue_note(event: ToQueue<ObjectId>) -> QueueNote
-    ensures { result ≡ queue_note_of own_tag event }
+pub(crate) fn queue_note(event: ToQueue<ObjectId>) -> Result<QueueNote, OutOfMemory>
+    ensures { IfOk result (λ note. note ≡ queue_note_of own_tag event) }
 {
-    match event {
-        ToQueue::Create {
-            slot,
-            object,
-            make,
-            listener,
-        } => QueueNote::Create {
-            slot,
-            object,
-            make,
-            tag: listener,
-        },
-        ToQueue::Deliver { slot, sub, msg } => QueueNote::Deliver { slot, sub, msg },
-        ToQueue::Reply { slot, inbox, body } => QueueNote::Reply { slot, inbox, body },
-        ToQueue::Tick {
-            slot,
-            timer,
-            moment,
-        } => QueueNote::Tick {
-            slot,
-            timer,
-            moment,
-        },
-        ToQueue::Gone { slot, object } => QueueNote::Gone { slot, object },
-        ToQueue::Fin => QueueNote::Fin,
-    }
+    event.note()
 }
 
 /// The note of an event to the timer service.
@@ -93,8 +70,12 @@ pub(crate) fn publisher_note(event: ToPublisher) -> PublisherNote
     event.note().unwrap()
 }
 
-/// A copy of a note to the bridge as an event, whose listener is the tag itself.
-pub(crate) fn bridge_event(note: &BridgeNote) -> Result<ToBridge<ObjectId>, OutOfMemory>
+/// A copy of a note to the bridge as an event, whose listener is the tag itself. The error is want of memory, and comes also
+/// where the message has more than 64 fields, which no log tells.
+pub(crate) fn bridge_event(
+    alloc: Global,
+    note: &BridgeNote,
+) -> Result<ToBridge<ObjectId>, OutOfMemory>
     ensures { IfOk result (λ event. bridge_note_of own_tag event ≡ note.now) }
 {
     match note {
@@ -116,15 +97,15 @@ pub(crate) fn bridge_event(note: &BridgeNote) -> Result<ToBridge<ObjectId>, OutO
             fids: *fids,
         }),
         BridgeNote::Publish { msg } => Ok(ToBridge::Publish {
-            msg: msg.try_clone()?,
+            msg: packed_message(alloc, msg)?,
         }),
         BridgeNote::Image { sub, msg } => Ok(ToBridge::Image {
             sub: *sub,
-            msg: msg.try_clone()?,
+            msg: packed_message(alloc, msg)?,
         }),
         BridgeNote::Reply { inbox, body } => Ok(ToBridge::Reply {
             inbox: *inbox,
-            body: body.try_clone()?,
+            body: packed(alloc, body)?,
         }),
         BridgeNote::RecapWish { sub, sender } => Ok(ToBridge::RecapWish {
             sub: *sub,
@@ -138,38 +119,8 @@ pub(crate) fn bridge_event(note: &BridgeNote) -> Result<ToBridge<ObjectId>, OutO
 }
 
 /// The note of an event to the bridge.
-pub(crate) fn bridge_note(event: ToBridge<ObjectId>) -> BridgeNote
-    ensures { result ≡ bridge_note_of own_tag event }
+pub(crate) fn bridge_note(event: ToBridge<ObjectId>) -> Result<BridgeNote, OutOfMemory>
+    ensures { IfOk result (λ note. note ≡ bridge_note_of own_tag event) }
 {
-    match event {
-        ToBridge::Join {
-            sub,
-            terms,
-            listener,
-        } => BridgeNote::Join {
-            sub,
-            terms,
-            tag: listener,
-        },
-        ToBridge::Leave { sub } => BridgeNote::Leave { sub },
-        ToBridge::OpenInbox {
-            inbox,
-            terms,
-            listener,
-        } => BridgeNote::OpenInbox {
-            inbox,
-            terms,
-            tag: listener,
-        },
-        ToBridge::CloseInbox { inbox } => BridgeNote::CloseInbox { inbox },
-        ToBridge::Ask { inbox, topic, fids } => BridgeNote::Ask { inbox, topic, fids },
-        ToBridge::Publish { msg } => BridgeNote::Publish { msg },
-        ToBridge::Image { sub, msg } => BridgeNote::Image { sub, msg },
-        ToBridge::Reply { inbox, body } => BridgeNote::Reply { inbox, body },
-        ToBridge::RecapWish { sub, sender } => BridgeNote::RecapWish { sub, sender },
-        ToBridge::ClientDone => BridgeNote::ClientDone,
-        ToBridge::SendsDone => BridgeNote::SendsDone,
-        ToBridge::Settled => BridgeNote::Settled,
-        ToBridge::Bye => BridgeNote::Bye,
-    }
+    event.note()
 }

@@ -173,7 +173,10 @@ impl<'a> Sender<'a> {
         taking_an_event();
         let mut out: Outbox<ToBridge<ObjectId>> = Outbox::new(alloc);
         match self.publisher.take(publisher_event(note), &mut out) {
-            Ok(_) => Ok(first_note(out)),
+            Ok(_) => {
+                let first = first_note(out)?;
+                Ok(first)
+            }
             // An event is given back for want of memory alone.
             Err(_event) => Err(OutOfMemory),
         }
@@ -181,13 +184,13 @@ impl<'a> Sender<'a> {
 }
 
 /// The note of the first event, if there is one.
-fn first_note(out: Outbox<ToBridge<ObjectId>>) -> Option<BridgeNote>
-    ensures some { IfSome result (λ note. map (note_of own_tag) out.items ≡ note ∷ map (note_of own_tag) (drop 1 out.items)) }
-    ensures none { IfNone result (out.items ≡ []) }
+fn first_note(out: Outbox<ToBridge<ObjectId>>) -> Result<Option<BridgeNote>, OutOfMemory>
+    ensures some { IfOk result (λ first. IfSome first (λ note. map (note_of own_tag) out.items ≡ note ∷ map (note_of own_tag) (drop 1 out.items))) }
+    ensures none { IfOk result (λ first. IfNone first (out.items ≡ [])) }
 {
     let mut out = out;
     match out.take_first() {
-        Some(event) => Some(bridge_note(event)),
-        None => None,
+        Some(event) => Ok(Some(bridge_note(event)?)),
+        None => Ok(None),
     }
 }

@@ -60,7 +60,8 @@ fn deal_all(
 {
     let mut out = out;
     while let Some(put) = out.take_first() {
-        deal(lists, put.queue, entry, queue_note(put.event))?;
+        let note = queue_note(put.event)?;
+        deal(lists, put.queue, entry, note)?;
     }
     Ok(())
 }

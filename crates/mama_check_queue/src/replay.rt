@@ -1,6 +1,8 @@
 ghost use Rattle.std.specs.Prelude.{◌≡◌, ℕ, ◌&&◌, not, ◌∷◌, [], OnOk};
 ghost use Rattle.mama_plans.specs.Orders.{orders_in};
 ghost use Rattle.mama_event.specs.declared.ids.ObjectId.{ObjectId as AnyObject};
+ghost use Rattle.mama_event.specs.Wire as wire;
+ghost use Rattle.mama_event.specs.declared.callback.Callback.TheVariants as on;
 ghost use Rattle.mama_event.specs.declared.to_queue.QueueNote.TheVariants as note;
 ghost use Rattle.mama_rules_queue.specs.Queue.{is_destroy as destroys};
 ghost use Rattle.mama_check_queue.specs.Rows.{seen_in};
@@ -11,7 +13,7 @@ use crate::orders::OrderBook;
 use crate::puts::Puts;
 use crate::seen::is_destroy;
 use mama_dq::Calls;
-use mama_event::{Callback, Make, MarketMsg, ObjectId, QueueNote, SubId};
+use mama_event::{Callback, Make, MarketMsg, ObjectId, Piece, QueueNote, SubId, code_of};
 use mama_memory::{Duplicate, OutOfMemory};
 use std::alloc::Global;
 
@@ -100,6 +102,23 @@ impl Replay {
         self.call_all(book, entry, &object, calls)
     }
 
+    /// Serves bytes for an object that spell no message.
+    fn fail(
+        &mut self,
+        book: &OrderBook,
+        entry: usize,
+        object: &ObjectId,
+        bytes: &Piece,
+    ) -> Result<(), OutOfMemory>
+        ensures { OnOk result (Makes (orders_in book.now) object.now (on.Error (wire.code_of bytes.now) ∷ []) entry self.old.objects self.new.objects self.old.puts self.new.puts) }
+    {
+        if self.objects.is_muted(object) {
+            return Ok(());
+        }
+        let code = code_of(bytes)?;
+        self.call(book, entry, object, Callback::Error { code })
+    }
+
     /// Serves an entry, but for the Byes that the second `Fin` puts.
     pub(crate) fn serve(
         &mut self,
@@ -131,6 +150,19 @@ impl Replay {
                     Callback::Reply { body },
                 )
             }
+            QueueNote::Bad {
+                slot: _,
+                sub,
+                kind: _,
+                sender: _,
+                seq: _,
+                bytes,
+            } => self.fail(book, entry, &ObjectId::Sub(*sub), bytes),
+            QueueNote::BadReply {
+                slot: _,
+                inbox,
+                bytes,
+            } => self.fail(book, entry, &ObjectId::Inbox(*inbox), bytes),
             QueueNote::Tick {
                 slot: _,
                 timer,

@@ -143,3 +143,6 @@ alone_is none all x is_none is_all = is_all ∙ ap (λ xs. xs ++ x ∷ []) is_no
 
 pub alone_holds : {A : Type 0} (P : A → Type 0) (none all : List A) (x : A) → none ≡ [] → all ≡ none ++ x ∷ [] → P x → All P all
 alone_holds P none all x is_none is_all holds = subst (All P) (sym (alone_is none all x is_none is_all)) (All-cons P x [] holds (All-nil P))
+
+pub alone_in : {X : Type 0} (P : X → Type 0) (none all : List X) (x : X) → none ≡ [] → all ≡ none ++ x ∷ [] → All P all → P x
+alone_in P none all x is_none is_all whole = All-head P x [] (subst (All P) (alone_is none all x is_none is_all) whole)

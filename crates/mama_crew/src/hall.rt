@@ -55,8 +55,8 @@ impl<L: Listener> Hall<L> {
         }
     }
 
-    // The plans of the script's objects.
-    pub(crate) fn plans(&self) -> &Plans
+    /// The plans of the script's objects.
+    pub fn plans(&self) -> &Plans
         ensures { result.now ≡ self.now.objects }
     {
         &self.plans

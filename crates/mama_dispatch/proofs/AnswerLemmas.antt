@@ -3,27 +3,26 @@ use Rattle.std.specs.Prelude.{not, map, Option, Some, None, is_some, if◌then�
 use Rattle.std.specs.Option.{option_and_then}
 use Rattle.std.proofs.Common.{◌≡◌, ℕ, suc, ◌+◌, Bool, true, false, ◌&&◌, List, [], ◌∷◌, ◌++◌, length, refl, ap, sym, ◌∙◌, subst}
 use Rattle.mama_event.specs.declared.ids.SubId.{SubId}
-use Rattle.mama_event.specs.declared.ids.TimerId.{TimerId}
-use Rattle.mama_event.specs.declared.ids.InboxId.{InboxId}
 use Rattle.mama_event.specs.declared.ids.ObjectId.{ObjectId}
-use Rattle.mama_event.specs.declared.ids.ObjectId.TheVariants.{Sub, Timer, Inbox}
+use Rattle.mama_event.specs.declared.ids.ObjectId.TheVariants.{Sub}
 use Rattle.mama_event.specs.declared.market.MarketMsg.{MarketMsg}
 use Rattle.mama_event.specs.declared.callback.CallNote.{CallNote}
 use Rattle.mama_event.specs.declared.callback.Callback.{Callback}
 use Rattle.mama_event.specs.declared.callback.Callback.TheVariants as on
 use Rattle.mama_event.specs.declared.order.Order.{Order}
 use Rattle.mama_event.specs.declared.to_queue.Make.{Make}
+use Rattle.mama_event.specs.declared.to_queue.QueueNote.{QueueNote}
 use Rattle.mama_event.specs.declared.to_queue.QueueNote.TheVariants as q
-use Rattle.mama_msg.specs.Field.{FieldData}
 use Rattle.mama_dq.specs.Strategy.{callbacks_of}
 use Rattle.mama_event.specs.Listener.{ListenerData}
 use Rattle.mama_rules_queue.specs.Queue.{Deed, QueuePut, handled, called, is_destroy, calls_of, is_muted, made, served}
+use Rattle.mama_dispatch.specs.declared.turn.Turn.{Turn}
 use Rattle.mama_dispatch.specs.declared.turn.Turn.TheVariants as turn
 use Rattle.mama_dispatch.specs.Journals.{born, is_born, notes_of}
 use Rattle.mama_dispatch.specs.Seats.{SeatData, has_seat, listener_in, is_muted_in, context_in, at, with_room, with_listener, Fits}
 use Rattle.mama_dispatch.specs.Seating.{is_live}
 use Rattle.mama_dispatch.specs.Standing.{Stands}
-use Rattle.mama_dispatch.specs.Making.{Ended, Delivered}
+use Rattle.mama_dispatch.specs.Making.{Ended, WasTold, Delivered}
 use Rattle.mama_dispatch.specs.Hearing.{HasHeard, HeardSince, HeardAt}
 use Rattle.mama_dispatch.specs.Answering.{told_or_muted, Answers}
 use Rattle.mama_dispatch.proofs.DeedLemmas.{same_object-refl}
@@ -32,7 +31,7 @@ use Rattle.mama_dispatch.proofs.PlaceLemmas.{apart_kept, at_object}
 use Rattle.mama_dispatch.proofs.CallLemmas.{seat_from}
 use Rattle.mama_dispatch.proofs.ArmLemmas.{gone_deed, gone_seated}
 use Rattle.mama_dispatch.proofs.BirthLemmas.{unbegun, seated_has}
-use Rattle.mama_dispatch.proofs.ServeLemmas.{fits_change, stands_room, listener_room, served_delivered, muted_is}
+use Rattle.mama_dispatch.proofs.ServeLemmas.{IsTelling, fits_change, stands_room, listener_room, served_delivered, muted_is}
 use Rattle.mama_dispatch.proofs.KeepLemmas.{kept_room, kept_once, seat_at}
 
 -- HOW MANY CALLBACKS
@@ -82,32 +81,22 @@ answers_delivered {L} view slot s m before after pb pa n delivered here unmuted 
     ((delivered.made orders (born journal) ds fits stands.seated).count
     ∙ sym (ap (λ (xs : List Deed). length (calls_of (Sub s) xs)) (served_delivered orders journal ds slot s m before here unmuted stands) ∙ made_all orders (Sub s) es cs))
 
-pub answers_replied : {L : Type 0} (view : L → ListenerData) (slot : ℕ) (i : InboxId) (body : List FieldData) (before after : List SeatData)
-    → is_some (listener_in (Inbox i) before) ≡ true → is_muted_in (Inbox i) before ≡ false → Answers view (q.Reply slot i body) before after (turn.Called 1)
-answers_replied {L} view slot i body before after here unmuted = λ orders journal ds middle apart fits stands.
-    let loud : is_muted (Inbox i) ds ≡ false = muted_is journal ds before (Inbox i) stands here ∙ unmuted in
-    told_so {L = L} (Inbox i) (is_muted (Inbox i) ds) 1 (length (calls_of (Inbox i) (served orders journal ds (q.Reply slot i body)))) loud (sym (one_call orders (Inbox i) ds (on.Reply body) loud))
-
-pub answers_ticked : {L : Type 0} (view : L → ListenerData) (slot : ℕ) (t : TimerId) (moment : ℕ) (before after : List SeatData)
-    → is_some (listener_in (Timer t) before) ≡ true → is_muted_in (Timer t) before ≡ false → Answers view (q.Tick slot t moment) before after (turn.Called 1)
-answers_ticked {L} view slot t moment before after here unmuted = λ orders journal ds middle apart fits stands.
-    let loud : is_muted (Timer t) ds ≡ false = muted_is journal ds before (Timer t) stands here ∙ unmuted in
-    told_so {L = L} (Timer t) (is_muted (Timer t) ds) 1 (length (calls_of (Timer t) (served orders journal ds (q.Tick slot t moment)))) loud (sym (one_call orders (Timer t) ds (on.Tick moment) loud))
+-- what may only tell its object one thing is answered by whether that was told
+pub answers_what_was_told : {L : Type 0} (note : QueueNote) (o : ObjectId) (c : Callback) (before after : List SeatData) (pb pa : List QueuePut) (answer : Turn L)
+    → IsTelling note o c → is_some (listener_in o before) ≡ true → WasTold o c before after pb pa answer
+    → (orders : ObjectId → ℕ → List Order) (journal : List (ℕ × QueueNote)) (ds : List Deed) → Stands journal ds before
+    → answer ≡ told_or_muted o (is_muted o ds) (length (calls_of o (served orders journal ds note)))
+answers_what_was_told {L} note o c before after pb pa answer telling here (WasTold.called unmuted calls is) = λ orders journal ds stands.
+    let loud : is_muted o ds ≡ false = muted_is journal ds before o stands here ∙ unmuted in
+    is ∙ told_so {L = L} o (is_muted o ds) 1 (length (calls_of o (served orders journal ds note))) loud
+    (sym (ap (λ (xs : List Deed). length (calls_of o xs)) (telling.serves orders journal ds) ∙ one_call orders o ds c loud))
+answers_what_was_told {L} note o c before after pb pa answer telling here (WasTold.muted quiet same none is) = λ orders journal ds stands.
+    is ∙ muted_so {L = L} o (is_muted o ds) (length (calls_of o (served orders journal ds note))) (muted_is journal ds before o stands here ∙ quiet)
 
 pub mutes_delivered : {L : Type 0} (view : L → ListenerData) (slot : ℕ) (s : SubId) (m : MarketMsg) (ss : List SeatData)
     → is_some (listener_in (Sub s) ss) ≡ true → is_muted_in (Sub s) ss ≡ true → Answers view (q.Deliver slot s m) ss ss (turn.Muted (Sub s))
 mutes_delivered {L} view slot s m ss here muted = λ orders journal ds middle apart fits stands.
     muted_so {L = L} (Sub s) (is_muted (Sub s) ds) (length (calls_of (Sub s) (served orders journal ds (q.Deliver slot s m)))) (muted_is journal ds ss (Sub s) stands here ∙ muted)
-
-pub mutes_replied : {L : Type 0} (view : L → ListenerData) (slot : ℕ) (i : InboxId) (body : List FieldData) (ss : List SeatData)
-    → is_some (listener_in (Inbox i) ss) ≡ true → is_muted_in (Inbox i) ss ≡ true → Answers view (q.Reply slot i body) ss ss (turn.Muted (Inbox i))
-mutes_replied {L} view slot i body ss here muted = λ orders journal ds middle apart fits stands.
-    muted_so {L = L} (Inbox i) (is_muted (Inbox i) ds) (length (calls_of (Inbox i) (served orders journal ds (q.Reply slot i body)))) (muted_is journal ds ss (Inbox i) stands here ∙ muted)
-
-pub mutes_ticked : {L : Type 0} (view : L → ListenerData) (slot : ℕ) (t : TimerId) (moment : ℕ) (ss : List SeatData)
-    → is_some (listener_in (Timer t) ss) ≡ true → is_muted_in (Timer t) ss ≡ true → Answers view (q.Tick slot t moment) ss ss (turn.Muted (Timer t))
-mutes_ticked {L} view slot t moment ss here muted = λ orders journal ds middle apart fits stands.
-    muted_so {L = L} (Timer t) (is_muted (Timer t) ds) (length (calls_of (Timer t) (served orders journal ds (q.Tick slot t moment)))) (muted_is journal ds ss (Timer t) stands here ∙ muted)
 
 -- THE LISTENER THAT IS HANDED BACK
 

@@ -150,6 +150,8 @@ orderly_next port notes (q.Create slot x make tag) fit was =
     }
 orderly_next port notes (q.Deliver slot sub msg) fit was = orderly_quiet port notes (q.Deliver slot sub msg) (λ bs. refl) (λ o. refl) was
 orderly_next port notes (q.Reply slot inbox body) fit was = orderly_quiet port notes (q.Reply slot inbox body) (λ bs. refl) (λ o. refl) was
+orderly_next port notes (q.Bad slot sub kind sender seq bytes) fit was = orderly_quiet port notes (q.Bad slot sub kind sender seq bytes) (λ bs. refl) (λ o. refl) was
+orderly_next port notes (q.BadReply slot inbox bytes) fit was = orderly_quiet port notes (q.BadReply slot inbox bytes) (λ bs. refl) (λ o. refl) was
 orderly_next port notes (q.Tick slot timer moment) fit was = orderly_quiet port notes (q.Tick slot timer moment) (λ bs. refl) (λ o. refl) was
 orderly_next port notes (q.Gone slot x) fit was =
     let note : QueueNote = q.Gone slot x in
@@ -252,6 +254,8 @@ known_next journal port note lawful was = record { live = live note refl; made =
     live : (n : QueueNote) → note ≡ n → (p : ℕ) (o : ObjectId) → has_block o (open_blocks (by_port p (journal ++ e ∷ []))) ≡ true → is_live_here o (journal ++ e ∷ []) ≡ true
     live (q.Deliver slot sub msg) is p o has = quiet (λ bs. ap (blocks_after bs) is) (λ x l. ap (lives x l) is) p o has
     live (q.Reply slot inbox body) is p o has = quiet (λ bs. ap (blocks_after bs) is) (λ x l. ap (lives x l) is) p o has
+    live (q.Bad slot sub kind sender seq bytes) is p o has = quiet (λ bs. ap (blocks_after bs) is) (λ x l. ap (lives x l) is) p o has
+    live (q.BadReply slot inbox bytes) is p o has = quiet (λ bs. ap (blocks_after bs) is) (λ x l. ap (lives x l) is) p o has
     live (q.Tick slot timer moment) is p o has = quiet (λ bs. ap (blocks_after bs) is) (λ x l. ap (lives x l) is) p o has
     live q.Fin is p o has = quiet (λ bs. ap (blocks_after bs) is) (λ x l. ap (lives x l) is) p o has
     live (q.Create slot x make tag) is p o has =
@@ -303,6 +307,8 @@ known_next journal port note lawful was = record { live = live note refl; made =
     made : (n : QueueNote) → note ≡ n → (o : ObjectId) → is_born o (journal ++ e ∷ []) ≡ true → (p : ℕ) × (list_any (creates o) (by_port p (journal ++ e ∷ [])) ≡ true)
     made (q.Deliver slot sub msg) is o has = unmade (ap born_in is) o has
     made (q.Reply slot inbox body) is o has = unmade (ap born_in is) o has
+    made (q.Bad slot sub kind sender seq bytes) is o has = unmade (ap born_in is) o has
+    made (q.BadReply slot inbox bytes) is o has = unmade (ap born_in is) o has
     made (q.Tick slot timer moment) is o has = unmade (ap born_in is) o has
     made (q.Gone slot x) is o has = unmade (ap born_in is) o has
     made q.Fin is o has = unmade (ap born_in is) o has
@@ -345,6 +351,8 @@ comes journal port (q.Create slot o make tag) lawful is fit =
     true≢false (sym by.1 ∙ ap (λ (p : ℕ). list_any (creates o) (by_port p journal)) same ∙ so.fresh)))
 comes journal port (q.Deliver slot sub msg) lawful is fit = is.live port (Sub sub) (in_slot slot (Sub sub) (open_blocks (by_port port journal)) fit)
 comes journal port (q.Reply slot inbox body) lawful is fit = is.live port (Inbox inbox) (in_slot slot (Inbox inbox) (open_blocks (by_port port journal)) fit)
+comes journal port (q.Bad slot sub kind sender seq bytes) lawful is fit = is.live port (Sub sub) (in_slot slot (Sub sub) (open_blocks (by_port port journal)) fit)
+comes journal port (q.BadReply slot inbox bytes) lawful is fit = is.live port (Inbox inbox) (in_slot slot (Inbox inbox) (open_blocks (by_port port journal)) fit)
 comes journal port (q.Tick slot timer moment) lawful is fit = is.live port (Timer timer) (in_slot slot (Timer timer) (open_blocks (by_port port journal)) fit)
 comes journal port (q.Gone slot object) lawful is fit = is.live port object (in_slot slot object (open_blocks (by_port port journal)) fit)
 comes journal port q.Fin lawful is fit = refl

@@ -1,5 +1,5 @@
 -- What callbacks keep of the seats: no two of one object, what the listeners have heard and given, and the orders of their plans.
-use Rattle.std.specs.Prelude.{map, Option, Some, None, if◌then◌else◌}
+use Rattle.std.specs.Prelude.{map, Option, Some, None, Result, Ok, Err, IfOk, OnOk, if◌then◌else◌}
 use Rattle.std.specs.Option.{option_and_then}
 use Rattle.std.proofs.Common.{◌≡◌, ℕ, zero, suc, ◌+◌, ◌<◌, ◌≤◌, Bool, true, false, List, [], ◌∷◌, ◌++◌, length, refl, ap, sym, ◌∙◌, subst, append-nil, append_assoc, length-append, arith}
 use Rattle.std.proofs.lemmas.List.{map-append}
@@ -17,7 +17,8 @@ use Rattle.mama_rules_queue.specs.Queue.{QueuePut}
 use Rattle.mama_event.specs.Listener.{ListenerData, most_calls, risen, reached, HeardNext, GivenNext, Heard, IsPlanned, planned}
 use Rattle.mama_dispatch.specs.Seats.{SeatData, has_seat, AreApart, seat_of, listener_in, at, HeardIn, called_with, muted_by_all, with_room, stepped, with_listener, new_seat, AreOrders, Fits}
 use Rattle.mama_dispatch.specs.Seating.{CalledOnce}
-use Rattle.mama_dispatch.specs.Making.{Created, Ended}
+use Rattle.mama_dispatch.specs.declared.turn.Turn.{Turn}
+use Rattle.mama_dispatch.specs.Making.{Created, Ended, WasTold}
 use Rattle.mama_dispatch.specs.Keeping.{AreFew, Kept, KeptWith}
 use Rattle.mama_dispatch.specs.Hearing.{AllSeats, AtSeat, HeardOn, GivenOn, HasHeard, HeardSince, HeardAt, PlanGives, ListensAs, IsPlannedSeat, PlannedAt, ArePlanned, ComesWith, ComesPlanned}
 use Rattle.mama_dispatch.proofs.DeedLemmas.{same_object-true, same_object-refl}
@@ -198,10 +199,20 @@ kept_ended o l before after pb pa ended =
     (kept_once o on.Destroy (map (at o (with_room ended.room)) before) ended.middle pb pa ended.once)
     (kept_to ended.middle (map (at o (with_listener None)) ended.middle) after ended.seats (kept_emptied o ended.middle)))
 
+-- what may be told of an object
+kept_told : {L : Type 0} (o : ObjectId) (c : Callback) (before after : List SeatData) (pb pa : List QueuePut) (answer : Turn L) → WasTold o c before after pb pa answer → Kept before after
+kept_told o c before after pb pa answer (WasTold.called unmuted calls is) = calls.kept
+kept_told o c before after pb pa answer (WasTold.muted quiet same none is) = kept_to before before after same (kept_same before)
+
 -- WHAT AN EVENT KEEPS
 
 pub kept_with : (before after : List SeatData) → Kept before after → KeptWith None before after
 kept_with before after kept = record { heard = λ x came apart comes heard. kept.heard x came apart heard; planned = λ x f count apart comes planned. kept.planned x f count apart planned }
+
+pub kept_each_told : {L E : Type 0} (r : Result (Turn L) E) (o : ObjectId) (c : Callback) (before after : List SeatData) (pb pa : List QueuePut)
+    → IfOk r (λ answer. WasTold o c before after pb pa answer) → OnOk r (KeptWith None before after)
+kept_each_told (Ok answer) o c before after pb pa was = kept_with before after (kept_told o c before after pb pa answer was)
+kept_each_told (Err e) o c before after pb pa was = tt
 
 pub kept_created : (o : ObjectId) (make : Make) (l : ListenerData) (before after : List SeatData) (pb pa : List QueuePut)
     → Created o make l before after pb pa → has_seat o before ≡ false → KeptWith (Some (o, l)) before after

@@ -48,6 +48,8 @@ left_there : (orders : ObjectId → ℕ → List Order) (journal : List (ℕ × 
 left_there orders journal ss (q.Create slot object make tag) stands = refl
 left_there orders journal ss (q.Deliver slot sub msg) stands = refl
 left_there orders journal ss (q.Reply slot inbox body) stands = refl
+left_there orders journal ss (q.Bad slot sub kind sender seq bytes) stands = refl
+left_there orders journal ss (q.BadReply slot inbox bytes) stands = refl
 left_there orders journal ss (q.Tick slot timer moment) stands = refl
 left_there orders journal ss (q.Gone slot (Sub s)) stands = ap (λ (c : ContextData). image_put s (image_in c)) (context_there orders journal ss s stands)
 left_there orders journal ss (q.Gone slot (Timer t)) stands = refl

@@ -1,5 +1,5 @@
 -- What the calls on seats are of the entries that they serve.
-use Rattle.std.specs.Prelude.{not, map, Option, Some, None, is_some, Result, Ok, Err, OnErr, if◌then◌else◌}
+use Rattle.std.specs.Prelude.{not, map, Option, Some, None, is_some, Result, Ok, Err, OnErr, OnOk, IfOk, if◌then◌else◌}
 use Rattle.std.specs.List.{flat_map}
 use Rattle.std.specs.Option.{option_map_or, option_and_then}
 use Rattle.std.proofs.Common.{◌≡◌, ℕ, ◌+◌, Bool, true, false, ◌&&◌, List, [], ◌∷◌, ◌++◌, length, refl, ap, sym, ◌∙◌, subst, append-nil, append_assoc}
@@ -7,7 +7,12 @@ use Rattle.std.proofs.lemmas.Bool.{and_from, and_parts}
 use Rattle.mama_journal.specs.Journal.{first_said}
 use Rattle.mama_event.specs.declared.ids.SubId.{SubId}
 use Rattle.mama_event.specs.declared.ids.ObjectId.{ObjectId}
-use Rattle.mama_event.specs.declared.ids.ObjectId.TheVariants.{Sub}
+use Rattle.mama_event.specs.declared.ids.TimerId.{TimerId}
+use Rattle.mama_event.specs.declared.ids.InboxId.{InboxId}
+use Rattle.mama_event.specs.declared.ids.ObjectId.TheVariants.{Sub, Timer, Inbox}
+use Rattle.mama_event.specs.declared.market.MsgKind.{MsgKind}
+use Rattle.mama_msg.specs.Field.{FieldData}
+use Rattle.mama_event.specs.Wire.{code_of}
 use Rattle.mama_event.specs.declared.market.MarketMsg.{MarketMsg}
 use Rattle.mama_event.specs.declared.callback.CallNote.{CallNote}
 use Rattle.mama_event.specs.declared.callback.Callback.{Callback}
@@ -27,7 +32,8 @@ use Rattle.mama_dispatch.specs.Journals.{Born, born}
 use Rattle.mama_dispatch.specs.Seats.{SeatData, seat_of, has_seat, listener_in, is_muted_in, context_in, room_in, stepped, at, with_room, with_listener, new_seat, AreOrders, Fits}
 use Rattle.mama_dispatch.specs.Seating.{is_live, is_plain, SeatAt, Seated, CallsMade}
 use Rattle.mama_dispatch.specs.Standing.{Stands, Serves}
-use Rattle.mama_dispatch.specs.Making.{Created, Ended, Delivered}
+use Rattle.mama_dispatch.specs.declared.turn.Turn.{Turn}
+use Rattle.mama_dispatch.specs.Making.{Created, Ended, WasTold, Delivered}
 use Rattle.mama_dispatch.proofs.SeatLemmas.{seated_map, seated_here, seat_stepped, found}
 use Rattle.mama_dispatch.proofs.CallLemmas.{seat_from, once_fits}
 use Rattle.mama_dispatch.proofs.CallBound.{calls_plain}
@@ -231,6 +237,43 @@ serves_untold note o c ss puts telling here muted =
     telling.serves orders journal ds
     ∙ ap (λ (t : Bool). if t && not (is_destroy c) then [] else called o c (orders o (length (calls_of o ds) + 1)) ∷ []) (muted_says journal ds ss o stands here muted)
     ∙ ap (λ (t : Bool). if t then [] else called o c (orders o (length (calls_of o ds) + 1)) ∷ []) (and_parts (not (is_create c)) (not (is_destroy c)) telling.plain).1)
+
+-- THINGS THAT ARE TOLD
+
+pub telling_reply : (slot : ℕ) (i : InboxId) (body copy : List FieldData) → copy ≡ body → IsTelling (q.Reply slot i body) (Inbox i) (on.Reply copy)
+telling_reply slot i body copy same =
+    subst (λ (fields : List FieldData). IsTelling (q.Reply slot i fields) (Inbox i) (on.Reply copy)) same
+    (record { middle = record { none = refl; lives = λ x live. refl }; serves = λ orders journal ds. refl; plain = refl })
+
+pub telling_tick : (slot : ℕ) (t : TimerId) (moment : ℕ) → IsTelling (q.Tick slot t moment) (Timer t) (on.Tick moment)
+telling_tick slot t moment = record { middle = record { none = refl; lives = λ x live. refl }; serves = λ orders journal ds. refl; plain = refl }
+
+-- the code of bytes that spell no message
+pub telling_bad : (slot : ℕ) (s : SubId) (kind : MsgKind) (sender seq : ℕ) (bytes : List ℕ) (code : ℕ)
+    → code ≡ code_of bytes → IsTelling (q.Bad slot s kind sender seq bytes) (Sub s) (on.Error code)
+telling_bad slot s kind sender seq bytes code same =
+    subst (λ (n : ℕ). IsTelling (q.Bad slot s kind sender seq bytes) (Sub s) (on.Error n)) (sym same)
+    (record { middle = record { none = refl; lives = λ x live. refl }; serves = λ orders journal ds. refl; plain = refl })
+
+pub telling_bad_reply : (slot : ℕ) (i : InboxId) (bytes : List ℕ) (code : ℕ) → code ≡ code_of bytes → IsTelling (q.BadReply slot i bytes) (Inbox i) (on.Error code)
+telling_bad_reply slot i bytes code same =
+    subst (λ (n : ℕ). IsTelling (q.BadReply slot i bytes) (Inbox i) (on.Error n)) (sym same)
+    (record { middle = record { none = refl; lives = λ x live. refl }; serves = λ orders journal ds. refl; plain = refl })
+
+-- an entry that may only tell its object one thing was served where that was told, or the object is muted
+pub serves_what_was_told : {L : Type 0} (note : QueueNote) (o : ObjectId) (c : Callback) (before after : List SeatData) (pb pa : List QueuePut) (answer : Turn L)
+    → IsTelling note o c → is_some (listener_in o before) ≡ true → WasTold o c before after pb pa answer → Serves note before after pb pa
+serves_what_was_told note o c before after pb pa answer telling here (WasTold.called loud calls is) =
+    serves_told note o c before after pb pa 1 telling here calls.fits calls.made
+serves_what_was_told note o c before after pb pa answer telling here (WasTold.muted quiet same none is) =
+    subst (λ (ss : List SeatData). Serves note before ss pb pa) (sym same)
+    (subst (λ (ps : List QueuePut). Serves note before before pb ps) (sym none) (serves_untold note o c before pb telling here quiet))
+
+-- and so on each answer that a call may give
+pub serves_each_told : {L E : Type 0} (r : Result (Turn L) E) (note : QueueNote) (o : ObjectId) (c : Callback) (before after : List SeatData) (pb pa : List QueuePut)
+    → IsTelling note o c → is_some (listener_in o before) ≡ true → IfOk r (λ answer. WasTold o c before after pb pa answer) → OnOk r (Serves note before after pb pa)
+serves_each_told (Ok answer) note o c before after pb pa telling here was = serves_what_was_told note o c before after pb pa answer telling here was
+serves_each_told (Err e) note o c before after pb pa telling here was = tt
 
 -- a Fin
 pub serves_fin : (ss : List SeatData) (puts : List QueuePut) → Serves q.Fin ss ss puts puts

@@ -1,11 +1,12 @@
 -- What the seats say of a journal, and what serving an entry makes of both.
-use Rattle.std.specs.Prelude.{not, map, Option, Some, None, is_some, if◌then◌else◌, ◌-◌, ◌==◌}
+use Rattle.std.specs.Prelude.{not, map, Option, Some, None, is_some, Ok, Err, if◌then◌else◌, ◌-◌, ◌==◌}
 use Rattle.std.specs.List.{list_any}
 use Rattle.std.specs.Option.{option_and_then, option_map_or}
 use Rattle.std.proofs.Common.{◌≡◌, ℕ, suc, ◌+◌, ◌<◌, ◌≤◌, get_or, Bool, true, false, ◌&&◌, ◌||◌, List, [], ◌∷◌, ◌++◌, length, refl, ap, sym, ◌∙◌, subst, append-nil, arith}
 use Rattle.std.proofs.lemmas.Bool.{or_parts}
 use Rattle.mama_journal.specs.Journal.{first_said, count_of}
 use Rattle.mama_event.specs.declared.ids.SubId.{SubId}
+use Rattle.mama_event.specs.declared.ids.InboxId.{InboxId}
 use Rattle.mama_event.specs.declared.ids.ObjectId.{ObjectId}
 use Rattle.mama_event.specs.declared.ids.ObjectId.TheVariants.{Sub, Timer, Inbox}
 use Rattle.mama_event.specs.declared.callback.CallNote.{CallNote}
@@ -21,7 +22,8 @@ use Rattle.mama_event.specs.declared.to_queue.QueueNote.{QueueNote}
 use Rattle.mama_event.specs.declared.to_queue.QueueNote.TheVariants as q
 use Rattle.mama_event.specs.declared.to_queue.ToQueue.{ToQueue}
 use Rattle.mama_event.specs.declared.to_queue.ToQueue.TheVariants as event
-use Rattle.mama_event.specs.ToQueue.{note_of}
+use Rattle.mama_event.specs.ToQueue.{note_of, delivered_note, replied_note}
+use Rattle.mama_event.specs.Wire.{Arrival, ReplyArrival, arrival_of, reply_of}
 use Rattle.mama_event.specs.Object.{same_object}
 use Rattle.mama_dq.specs.Context.{quality_in, ContextData, new_context}
 use Rattle.mama_event.specs.Listener.{ListenerData}
@@ -29,9 +31,9 @@ use Rattle.mama_rules_queue.specs.Queue.{Deed, QueuePut, to_bridge, to_timers, m
 use Rattle.mama_dispatch.specs.Journals.{Born, born, is_born, is_live_here, may_come, noted, notes_of, context_after, image_in}
 use Rattle.mama_dispatch.specs.Seats.{SeatData, has_seat, AreApart, seat_of, listener_in, context_in, with_room, AreOrders, Fits}
 use Rattle.mama_dispatch.specs.Seating.{is_live, Seated}
-use Rattle.mama_dispatch.specs.Standing.{Stands, Serves, MayServe}
+use Rattle.mama_dispatch.specs.Standing.{Stands, Serves, MayServe, is_making}
 use Rattle.mama_dispatch.specs.Keeping.{AreFew, KeptWith}
-use Rattle.mama_dispatch.specs.Hearing.{AtSeat, HeardSince, HeardAt, IsPlannedSeat, PlannedAt, ArePlanned}
+use Rattle.mama_dispatch.specs.Hearing.{AtSeat, HeardSince, HeardAt, IsPlannedSeat, PlannedAt, ArePlanned, brought}
 use Rattle.mama_dispatch.specs.declared.turn.Turn.{Turn}
 use Rattle.mama_dispatch.specs.Answering.{AnswersTo}
 use Rattle.std.specs.Prelude.{IfSome}
@@ -66,14 +68,48 @@ fins_few (e ∷ es) =
     let rest : count_of is_fin es ≤ length es = fins_few es in
     elim (is_fin e) as (λ b. (if b then suc (count_of is_fin es) else count_of is_fin es) ≤ suc (length es)) [ true ↦ omega arith | false ↦ omega arith ]
 
+-- what arrives is no Fin
+delivered_on : (port slot : ℕ) (sub : SubId) (a : Arrival) → is_fin (port, delivered_note slot sub a) ≡ false
+delivered_on port slot sub (Ok msg) = refl
+delivered_on port slot sub (Err piece) = refl
+
+replied_on : (port slot : ℕ) (inbox : InboxId) (a : ReplyArrival) → is_fin (port, replied_note slot inbox a) ≡ false
+replied_on port slot inbox (Ok body) = refl
+replied_on port slot inbox (Err bytes) = refl
+
 -- the note of an event that is no Fin is none
 pub not_fin : {L : Type 0} (tagged : L → ObjectId) (e : ToQueue L) (port : ℕ) → (e ≡ event.Fin → ⊥) → is_fin (port, note_of tagged e) ≡ false
 not_fin tagged (event.Create slot object make l) port other = refl
-not_fin tagged (event.Deliver slot sub msg) port other = refl
-not_fin tagged (event.Reply slot inbox body) port other = refl
+not_fin tagged (event.Deliver slot sub msg) port other = delivered_on port slot sub (arrival_of msg)
+not_fin tagged (event.Reply slot inbox body) port other = replied_on port slot inbox (reply_of body)
 not_fin tagged (event.Tick slot timer moment) port other = refl
 not_fin tagged (event.Gone slot object) port other = refl
 not_fin tagged event.Fin port other = absurd (other refl)
+
+-- no event but a Create makes an object, and none brings a listener
+delivered_unmaking : (slot : ℕ) (sub : SubId) (a : Arrival) → is_making (delivered_note slot sub a) ≡ false
+delivered_unmaking slot sub (Ok msg) = refl
+delivered_unmaking slot sub (Err piece) = refl
+
+replied_unmaking : (slot : ℕ) (inbox : InboxId) (a : ReplyArrival) → is_making (replied_note slot inbox a) ≡ false
+replied_unmaking slot inbox (Ok body) = refl
+replied_unmaking slot inbox (Err bytes) = refl
+
+pub makes_none : {L : Type 0} (tagged : L → ObjectId) (e : ToQueue L) → ((slot : ℕ) (object : ObjectId) (make : Make) (l : L) → e ≡ event.Create slot object make l → ⊥) → is_making (note_of tagged e) ≡ false
+makes_none tagged (event.Create slot object make l) other = absurd (other slot object make l refl)
+makes_none tagged (event.Deliver slot sub msg) other = delivered_unmaking slot sub (arrival_of msg)
+makes_none tagged (event.Reply slot inbox body) other = replied_unmaking slot inbox (reply_of body)
+makes_none tagged (event.Tick slot timer moment) other = refl
+makes_none tagged (event.Gone slot object) other = refl
+makes_none tagged event.Fin other = refl
+
+pub brings_none : {L : Type 0} (view : L → ListenerData) (e : ToQueue L) → ((slot : ℕ) (object : ObjectId) (make : Make) (l : L) → e ≡ event.Create slot object make l → ⊥) → brought view e ≡ None
+brings_none view (event.Create slot object make l) other = absurd (other slot object make l refl)
+brings_none view (event.Deliver slot sub msg) other = refl
+brings_none view (event.Reply slot inbox body) other = refl
+brings_none view (event.Tick slot timer moment) other = refl
+brings_none view (event.Gone slot object) other = refl
+brings_none view event.Fin other = refl
 
 -- SEATS WITHOUT THEIR ROOM
 
@@ -268,9 +304,20 @@ pub may_serve : (journal : List (ℕ × QueueNote)) (fins : ℕ) (ss : List Seat
 may_serve journal fins ss (q.Create slot object make tag) served apart may = born_there journal fins ss object served apart ∙ not_true (is_born object journal) may
 may_serve journal fins ss (q.Deliver slot sub msg) served apart may = here_there journal fins ss (Sub sub) served apart ∙ may
 may_serve journal fins ss (q.Reply slot inbox body) served apart may = here_there journal fins ss (Inbox inbox) served apart ∙ may
+may_serve journal fins ss (q.Bad slot sub kind sender seq bytes) served apart may = here_there journal fins ss (Sub sub) served apart ∙ may
+may_serve journal fins ss (q.BadReply slot inbox bytes) served apart may = here_there journal fins ss (Inbox inbox) served apart ∙ may
 may_serve journal fins ss (q.Tick slot timer moment) served apart may = here_there journal fins ss (Timer timer) served apart ∙ may
 may_serve journal fins ss (q.Gone slot object) served apart may = here_there journal fins ss object served apart ∙ may
 may_serve journal fins ss q.Fin served apart may = tt
+
+-- what arrives for an object may come where the object is live
+pub delivered_may : (journal : List (ℕ × QueueNote)) (slot : ℕ) (sub : SubId) (a : Arrival) → may_come journal (delivered_note slot sub a) ≡ is_live_here (Sub sub) journal
+delivered_may journal slot sub (Ok msg) = refl
+delivered_may journal slot sub (Err piece) = refl
+
+pub replied_may : (journal : List (ℕ × QueueNote)) (slot : ℕ) (inbox : InboxId) (a : ReplyArrival) → may_come journal (replied_note slot inbox a) ≡ is_live_here (Inbox inbox) journal
+replied_may journal slot inbox (Ok body) = refl
+replied_may journal slot inbox (Err bytes) = refl
 
 -- AN ENTRY THAT CAME
 
@@ -327,6 +374,8 @@ pub answers_told : {L : Type 0} (view : L → ListenerData) (orders : ObjectId �
 answers_told view orders ss journal ds (q.Create slot object make tag) answer is = is
 answers_told view orders ss journal ds (q.Deliver slot sub msg) answer is = is
 answers_told view orders ss journal ds (q.Reply slot inbox body) answer is = is
+answers_told view orders ss journal ds (q.Bad slot sub kind sender seq bytes) answer is = is
+answers_told view orders ss journal ds (q.BadReply slot inbox bytes) answer is = is
 answers_told view orders ss journal ds (q.Tick slot timer moment) answer is = is
 answers_told view orders ss journal ds (q.Gone slot object) answer is = record { listener = is.listener; is = is.is; heard = λ came heard. is.heard came (heard_untold object came ss heard) }
 answers_told view orders ss journal ds q.Fin answer is = is

@@ -55,6 +55,8 @@ apart_next port notes (q.Create slot object make tag) follows apart =
     apart_begun (open_blocks notes) (record { slot = slot; object = object }) (not-true (is_taken slot notes) free) apart
 apart_next port notes (q.Deliver slot sub msg) follows apart = apart
 apart_next port notes (q.Reply slot inbox body) follows apart = apart
+apart_next port notes (q.Bad slot sub kind sender seq bytes) follows apart = apart
+apart_next port notes (q.BadReply slot inbox bytes) follows apart = apart
 apart_next port notes (q.Tick slot timer moment) follows apart = apart
 apart_next port notes (q.Gone slot object) follows apart = apart_filtered (λ (b : Block). not (b.slot == slot)) (open_blocks notes) apart
 apart_next port notes q.Fin follows apart = apart

@@ -9,6 +9,7 @@ use Rattle.mama_event.specs.Lawful.{each_fits, IsLawful}
 use Rattle.mama_event.specs.LawfulLaws.{IsLawful-at}
 use Rattle.mama_event.specs.Object.{same_object}
 use Rattle.mama_event.specs.ToQueue.{is_last, fits, Block, blocks_after, open_blocks, is_live_in}
+use Rattle.mama_event.specs.Wire.{code_of}
 use Rattle.mama_event.specs.declared.ids.SubId.{SubId}
 use Rattle.mama_event.specs.declared.ids.ObjectId.{ObjectId}
 use Rattle.mama_event.specs.declared.ids.ObjectId.TheVariants.{Sub, Timer, Inbox}
@@ -240,6 +241,10 @@ after_entry orders journal port (q.Create slot object make tag) ds x may was = a
 after_entry orders journal port (q.Deliver slot sub msg) ds x may was = after_delivered orders slot sub msg x journal port ds may was
 after_entry orders journal port (q.Reply slot inbox body) ds x may was =
     after_told orders (Inbox inbox) x journal port (q.Reply slot inbox body) ds ds (on.Reply body ∷ []) refl (λ y live. refl) (λ y. refl) refl may was
+after_entry orders journal port (q.Bad slot sub kind sender seq bytes) ds x may was =
+    after_told orders (Sub sub) x journal port (q.Bad slot sub kind sender seq bytes) ds ds (on.Error (code_of bytes) ∷ []) refl (λ y live. refl) (λ y. refl) refl may was
+after_entry orders journal port (q.BadReply slot inbox bytes) ds x may was =
+    after_told orders (Inbox inbox) x journal port (q.BadReply slot inbox bytes) ds ds (on.Error (code_of bytes) ∷ []) refl (λ y live. refl) (λ y. refl) refl may was
 after_entry orders journal port (q.Tick slot timer moment) ds x may was =
     after_told orders (Timer timer) x journal port (q.Tick slot timer moment) ds ds (on.Tick moment ∷ []) refl (λ y live. refl) (λ y. refl) refl may was
 after_entry orders journal port (q.Gone slot object) ds x may was = after_gone orders slot object x journal port ds may was
@@ -327,6 +332,12 @@ of_block orders port journal ds notes (q.Deliver slot sub msg) fit =
 of_block orders port journal ds notes (q.Reply slot inbox body) fit =
     made_pass (is_of_block (q.Reply slot inbox body) notes) orders (Inbox inbox)
     (λ c os. or_left (is_live_in slot (Inbox inbox) notes) (is_live_in slot (Inbox inbox) (notes ++ q.Reply slot inbox body ∷ [])) fit) ds (on.Reply body ∷ [])
+of_block orders port journal ds notes (q.Bad slot sub kind sender seq bytes) fit =
+    made_pass (is_of_block (q.Bad slot sub kind sender seq bytes) notes) orders (Sub sub)
+    (λ c os. or_left (is_live_in slot (Sub sub) notes) (is_live_in slot (Sub sub) (notes ++ q.Bad slot sub kind sender seq bytes ∷ [])) fit) ds (on.Error (code_of bytes) ∷ [])
+of_block orders port journal ds notes (q.BadReply slot inbox bytes) fit =
+    made_pass (is_of_block (q.BadReply slot inbox bytes) notes) orders (Inbox inbox)
+    (λ c os. or_left (is_live_in slot (Inbox inbox) notes) (is_live_in slot (Inbox inbox) (notes ++ q.BadReply slot inbox bytes ∷ [])) fit) ds (on.Error (code_of bytes) ∷ [])
 of_block orders port journal ds notes (q.Tick slot timer moment) fit =
     made_pass (is_of_block (q.Tick slot timer moment) notes) orders (Timer timer)
     (λ c os. or_left (is_live_in slot (Timer timer) notes) (is_live_in slot (Timer timer) (notes ++ q.Tick slot timer moment ∷ [])) fit) ds (on.Tick moment ∷ [])

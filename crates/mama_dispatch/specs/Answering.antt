@@ -36,6 +36,10 @@ AnswersTo view orders seats before sofar (q.Deliver slot sub msg) answer =
     answer ≡ told_or_muted (Sub sub) (is_muted (Sub sub) sofar) (length (calls_of (Sub sub) (served orders before sofar (q.Deliver slot sub msg))))
 AnswersTo view orders seats before sofar (q.Reply slot inbox body) answer =
     answer ≡ told_or_muted (Inbox inbox) (is_muted (Inbox inbox) sofar) (length (calls_of (Inbox inbox) (served orders before sofar (q.Reply slot inbox body))))
+AnswersTo view orders seats before sofar (q.Bad slot sub kind sender seq bytes) answer =
+    answer ≡ told_or_muted (Sub sub) (is_muted (Sub sub) sofar) (length (calls_of (Sub sub) (served orders before sofar (q.Bad slot sub kind sender seq bytes))))
+AnswersTo view orders seats before sofar (q.BadReply slot inbox bytes) answer =
+    answer ≡ told_or_muted (Inbox inbox) (is_muted (Inbox inbox) sofar) (length (calls_of (Inbox inbox) (served orders before sofar (q.BadReply slot inbox bytes))))
 AnswersTo view orders seats before sofar (q.Tick slot timer moment) answer =
     answer ≡ told_or_muted (Timer timer) (is_muted (Timer timer) sofar) (length (calls_of (Timer timer) (served orders before sofar (q.Tick slot timer moment))))
 AnswersTo view orders seats before sofar (q.Gone slot object) answer =

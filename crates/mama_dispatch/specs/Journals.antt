@@ -29,6 +29,8 @@ abbrev pub born_in : QueueNote → List Born
 born_in (q.Create slot object make tag) = record { object = object; make = make } ∷ []
 born_in (q.Deliver slot sub msg) = []
 born_in (q.Reply slot inbox body) = []
+born_in (q.Bad slot sub kind sender seq bytes) = []
+born_in (q.BadReply slot inbox bytes) = []
 born_in (q.Tick slot timer moment) = []
 born_in (q.Gone slot object) = []
 born_in q.Fin = []
@@ -46,6 +48,8 @@ abbrev pub lives : ObjectId → Bool → QueueNote → Bool
 lives o live (q.Create slot object make tag) = live || same_object object o
 lives o live (q.Deliver slot sub msg) = live
 lives o live (q.Reply slot inbox body) = live
+lives o live (q.Bad slot sub kind sender seq bytes) = live
+lives o live (q.BadReply slot inbox bytes) = live
 lives o live (q.Tick slot timer moment) = live
 lives o live (q.Gone slot object) = live && not (same_object object o)
 lives o live q.Fin = live
@@ -59,6 +63,8 @@ abbrev pub may_come : List (ℕ × QueueNote) → QueueNote → Bool
 may_come journal (q.Create slot object make tag) = not (is_born object journal)
 may_come journal (q.Deliver slot sub msg) = is_live_here (Sub sub) journal
 may_come journal (q.Reply slot inbox body) = is_live_here (Inbox inbox) journal
+may_come journal (q.Bad slot sub kind sender seq bytes) = is_live_here (Sub sub) journal
+may_come journal (q.BadReply slot inbox bytes) = is_live_here (Inbox inbox) journal
 may_come journal (q.Tick slot timer moment) = is_live_here (Timer timer) journal
 may_come journal (q.Gone slot object) = is_live_here object journal
 may_come journal q.Fin = true
@@ -99,6 +105,8 @@ abbrev pub left_in : (SubId → ContextData) → QueueNote → List (SubId × Im
 left_in context (q.Create slot object make tag) = []
 left_in context (q.Deliver slot sub msg) = []
 left_in context (q.Reply slot inbox body) = []
+left_in context (q.Bad slot sub kind sender seq bytes) = []
+left_in context (q.BadReply slot inbox bytes) = []
 left_in context (q.Tick slot timer moment) = []
 left_in context (q.Gone slot object) = left_by context object
 left_in context q.Fin = []

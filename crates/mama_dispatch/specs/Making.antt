@@ -1,5 +1,5 @@
 -- inner: What the calls on seats make of them, by what is served.
-use Rattle.std.specs.Prelude.{◌≡◌, ℕ, ◌*◌, ◌≤◌, true, List, [], ◌∷◌, ◌++◌, length, map, is_some, Some, None}
+use Rattle.std.specs.Prelude.{◌≡◌, ℕ, ◌*◌, ◌≤◌, true, false, List, [], ◌∷◌, ◌++◌, length, map, is_some, Some, None}
 use Rattle.std.specs.List.{list_all}
 use Rattle.mama_event.specs.declared.ids.ObjectId.{ObjectId}
 use Rattle.mama_event.specs.declared.ids.ObjectId.TheVariants.{Sub}
@@ -13,7 +13,9 @@ use Rattle.mama_event.specs.Listener.{ListenerData}
 use Rattle.mama_dq.specs.Strategy.{callbacks_of}
 use Rattle.mama_rules_queue.specs.Queue.{Deed, QueuePut, handled}
 use Rattle.mama_dispatch.specs.Journals.{Born}
-use Rattle.mama_dispatch.specs.Seats.{SeatData, listener_in, room_in, context_in, at, with_room, with_listener, new_seat, Fits}
+use Rattle.mama_dispatch.specs.declared.turn.Turn.{Turn}
+use Rattle.mama_dispatch.specs.declared.turn.Turn.TheVariants as turn
+use Rattle.mama_dispatch.specs.Seats.{SeatData, is_muted_in, listener_in, room_in, context_in, at, with_room, with_listener, new_seat, Fits}
 use Rattle.mama_dispatch.specs.Seating.{is_live, is_plain, Seated, CalledOnce, CallsMade}
 use Rattle.mama_dispatch.specs.Keeping.{Kept}
 
@@ -43,6 +45,11 @@ pub record Ended (o : ObjectId) (l : ListenerData) (before after : List SeatData
   pub once : CalledOnce o on.Destroy (map (at o (with_room room)) before) middle put_before put_after
   pub left : listener_in o middle ≡ Some l
   pub seats : after ≡ map (at o (with_listener None)) middle
+
+-- A callback was made of an object that was not muted before, and none of one that was: so the turn answers.
+pub data WasTold {L : Type 0} (o : ObjectId) (call : Callback) (before after : List SeatData) (put_before put_after : List QueuePut) (answer : Turn L) : Type 0 where
+  called : is_muted_in o before ≡ false → WereCalled o (call ∷ []) before after put_before put_after 1 → answer ≡ turn.Called 1 → WasTold o call before after put_before put_after answer
+  muted : is_muted_in o before ≡ true → after ≡ before → put_after ≡ put_before → answer ≡ turn.Muted o → WasTold o call before after put_before put_after answer
 
 -- a subscription's context took a message, and the callbacks of that were made
 pub record Delivered (s : SubId) (m : MarketMsg) (before after : List SeatData) (put_before put_after : List QueuePut) (so_many : ℕ) : Type 0 where

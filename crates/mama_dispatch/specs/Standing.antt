@@ -1,5 +1,5 @@
 -- believed: When the objects that a queue keeps are those that its journal says, and when an entry is served as the rules say.
-use Rattle.std.specs.Prelude.{◌≡◌, ℕ, true, false, is_some, List, [], ◌∷◌, ◌++◌}
+use Rattle.std.specs.Prelude.{◌≡◌, ℕ, Bool, true, false, is_some, List, [], ◌∷◌, ◌++◌}
 use Rattle.std.specs.List.{flat_map}
 use Rattle.mama_event.specs.declared.ids.ObjectId.{ObjectId}
 use Rattle.mama_event.specs.declared.ids.ObjectId.TheVariants.{Sub, Timer, Inbox}
@@ -34,9 +34,16 @@ abbrev pub MayServe : QueueNote → List SeatData → Type 0
 MayServe (q.Create slot object make tag) ss = has_seat object ss ≡ false
 MayServe (q.Deliver slot sub msg) ss = is_some (listener_in (Sub sub) ss) ≡ true
 MayServe (q.Reply slot inbox body) ss = is_some (listener_in (Inbox inbox) ss) ≡ true
+MayServe (q.Bad slot sub kind sender seq bytes) ss = is_some (listener_in (Sub sub) ss) ≡ true
+MayServe (q.BadReply slot inbox bytes) ss = is_some (listener_in (Inbox inbox) ss) ≡ true
 MayServe (q.Tick slot timer moment) ss = is_some (listener_in (Timer timer) ss) ≡ true
 MayServe (q.Gone slot object) ss = is_some (listener_in object ss) ≡ true
 MayServe q.Fin ss = Unit {0}
+
+-- an entry makes an object
+abbrev pub is_making : QueueNote → Bool
+is_making (q.Create slot object make tag) = true
+is_making _ = false
 
 -- A law: no seats are those of an empty journal.
 abbrev pub StandsAtFirst : Type 0

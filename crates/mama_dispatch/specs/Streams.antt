@@ -42,6 +42,8 @@ abbrev pub has_block : QueueNote → List QueueNote → ObjectId → Bool
 has_block (q.Create slot object make tag) notes o = is_live_in slot o notes
 has_block (q.Deliver slot sub msg) notes o = is_live_in slot o notes
 has_block (q.Reply slot inbox body) notes o = is_live_in slot o notes
+has_block (q.Bad slot sub kind sender seq bytes) notes o = is_live_in slot o notes
+has_block (q.BadReply slot inbox bytes) notes o = is_live_in slot o notes
 has_block (q.Tick slot timer moment) notes o = is_live_in slot o notes
 has_block (q.Gone slot object) notes o = is_live_in slot o notes
 has_block q.Fin notes o = false

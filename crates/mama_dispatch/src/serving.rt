@@ -31,7 +31,7 @@ use crate::row::ImageRow;
 use crate::seats::Seats;
 use crate::turn::Turn;
 use mama_event::{
-    CallNote, ImageHead, Listener, ObjectId, QueueNote, Stream, SubId, Tagged, ToBridge, ToQueue,
+    CallNote, ImageHead, Listener, ObjectId, QueueNote, SubId, Tagged, ToBridge, ToQueue,
     ToService, ToTimers,
 };
 use mama_memory::{Duplicate, OutOfMemory, Outbox};
@@ -89,6 +89,13 @@ impl<L: Listener> Serving<L> {
         self.queue
     }
 
+    /// What it took so far, each event with its port.
+    pub fn taken(&self) -> &[(u32, QueueNote)]
+        ensures { result.now ≡ self.now.journal }
+    {
+        self.journal.as_slice()
+    }
+
     /// Whether an event may come: a Create is the first of its object, and else the object is live here.
     pub fn may_take(&self, event: &ToQueue<L>) -> bool
         ensures { result ≡ may_come self.now.journal (note_of L.tagged event.now) }
@@ -124,6 +131,9 @@ impl<L: Listener> Serving<L> {
     /// Takes the next event of a port: makes its callbacks one by one, and puts what follows from them at the end of
     /// `out`. The second Fin says Bye to the bridge and to the timer service.
     ///
+    /// Bytes that spell no message or no reply change nothing of what their object has: its listener is told the code of the
+    /// fault, unless it is muted.
+    ///
     /// The answer is how many callbacks were made of the event's object, or that it was muted before. A Gone hands the
     /// object's listener back, which has heard all callbacks of its object. A Fin is answered with Running, and the
     /// second with Finished.
@@ -156,7 +166,7 @@ impl<L: Listener> Serving<L> {
         ensures puts_err { OnErr result (out.new.items ≡ out.old.items) }
         ensures back { IfErr result (λ given. given ≡ event) }
     {
-        let Ok(note) = event.note() else {
+        let Ok((note, code)) = event.read() else {
             return Err(event);
         };
         match event {
@@ -169,7 +179,7 @@ impl<L: Listener> Serving<L> {
                     return Err(event);
                 };
                 self.seats.apart();
-                match self.seats.serve(self.alloc, event, out) {
+                match self.seats.serve(self.alloc, event, &note, code, out) {
                     Ok(turn) => {
                         self.seats.apart();
                         self.journal.push_reserved((port, note));

@@ -1,2 +1,3 @@
 pub mod FidLemmas
 pub mod WorkedRows
+pub mod WireLemmas

@@ -1,5 +1,5 @@
 -- believed: plain data is compared exactly: the tests hold where both sides are one, and nowhere else.
-use Rattle.std.specs.Prelude.{Bool, true, false, ◌==◌, ◌&&◌, List}
+use Rattle.std.specs.Prelude.{ℕ, Bool, true, false, ◌==◌, ◌&&◌, List}
 use Rattle.std.specs.Cmp.Lexicographic.{pointwise}
 use Rattle.std.specs.Str.{bytes_eq}
 use Rattle.mama_msg.specs.Equality.{same_message}
@@ -12,6 +12,8 @@ use Rattle.mama_event.specs.declared.market.Quality.TheVariants as quality
 use Rattle.mama_event.specs.declared.market.SubKind.{SubKind}
 use Rattle.mama_event.specs.declared.market.SubKind.TheVariants as sub_kind
 use Rattle.mama_event.specs.declared.market.MarketMsg.{MarketMsg}
+use Rattle.mama_event.specs.declared.wire.WireMsg.{WireMsg}
+use Rattle.mama_event.specs.declared.wire.PieceMsg.{PieceMsg}
 use Rattle.mama_event.specs.declared.shape.Strategy.{Strategy}
 use Rattle.mama_event.specs.declared.shape.Strategy.TheVariants as strategy
 use Rattle.mama_event.specs.declared.order.Order.{Order}
@@ -69,6 +71,17 @@ same_make _ _ = false
 -- two messages are of one kind, sender and number, and have the same fields in the same order
 abbrev pub same_market_msg : MarketMsg → MarketMsg → Bool
 same_market_msg a b = same_kind a.kind b.kind && a.sender == b.sender && a.seq == b.seq && same_message a.body b.body
+
+-- two messages are of one kind, sender and number
+abbrev pub same_heads : MsgKind → ℕ → ℕ → MsgKind → ℕ → ℕ → Bool
+same_heads kind sender seq kind' sender' seq' = same_kind kind kind' && sender == sender' && seq == seq'
+
+-- two messages that travel have the same head and the same bytes
+abbrev pub same_wire_msg : WireMsg → WireMsg → Bool
+same_wire_msg a b = same_heads a.kind a.sender a.seq b.kind b.sender b.seq && bytes_eq a.body b.body
+
+abbrev pub same_piece_msg : PieceMsg → PieceMsg → Bool
+same_piece_msg a b = same_heads a.kind a.sender a.seq b.kind b.sender b.seq && bytes_eq a.body b.body
 
 -- two orders order the same
 abbrev pub same_order : Order → Order → Bool
@@ -132,6 +145,8 @@ abbrev pub same_queue_note : QueueNote → QueueNote → Bool
 same_queue_note (queued.Create slot object made tag) (queued.Create slot' object' made' tag') = slot == slot' && (same_object object object' && same_make made made' && same_object tag tag')
 same_queue_note (queued.Deliver slot sub msg) (queued.Deliver slot' sub' msg') = slot == slot' && same_sub sub sub' && same_market_msg msg msg'
 same_queue_note (queued.Reply slot inbox body) (queued.Reply slot' inbox' body') = slot == slot' && same_inbox inbox inbox' && same_message body body'
+same_queue_note (queued.Bad slot sub kind sender seq bytes) (queued.Bad slot' sub' kind' sender' seq' bytes') = slot == slot' && same_sub sub sub' && same_heads kind sender seq kind' sender' seq' && bytes_eq bytes bytes'
+same_queue_note (queued.BadReply slot inbox bytes) (queued.BadReply slot' inbox' bytes') = slot == slot' && same_inbox inbox inbox' && bytes_eq bytes bytes'
 same_queue_note (queued.Tick slot timer moment) (queued.Tick slot' timer' moment') = slot == slot' && same_timer timer timer' && moment == moment'
 same_queue_note (queued.Gone slot object) (queued.Gone slot' object') = slot == slot' && same_object object object'
 same_queue_note queued.Fin queued.Fin = true

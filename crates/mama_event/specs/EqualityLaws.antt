@@ -24,6 +24,8 @@ use Rattle.mama_event.specs.declared.order.PlanRow.{PlanRow}
 use Rattle.mama_event.specs.declared.callback.Callback.{Callback}
 use Rattle.mama_event.specs.declared.callback.Callback.TheVariants as call
 use Rattle.mama_event.specs.declared.callback.CallNote.{CallNote}
+use Rattle.mama_event.specs.declared.wire.WireMsg.{WireMsg}
+use Rattle.mama_event.specs.declared.wire.PieceMsg.{PieceMsg}
 use Rattle.mama_event.specs.declared.to_publisher.PublisherNote.{PublisherNote}
 use Rattle.mama_event.specs.declared.to_publisher.PublisherNote.TheVariants as asked
 use Rattle.mama_event.specs.declared.publisher_entry.PublisherEntry.{PublisherEntry}
@@ -42,7 +44,7 @@ use Rattle.mama_event.specs.declared.ids.InboxId.{InboxId}
 use Rattle.mama_event.specs.declared.ids.ObjectId.{ObjectId}
 use Rattle.mama_event.specs.declared.ids.ObjectId.TheVariants.{Sub, Timer, Inbox}
 use Rattle.mama_event.specs.Object.{same_sub, same_timer, same_inbox, same_object}
-use Rattle.mama_event.specs.Equality.{same_kind, same_quality, same_sub_kind, same_strategy, same_make, same_market_msg, same_order, same_orders, same_plan_row, same_callback, same_call_note, same_sub_terms, same_inbox_terms, same_publisher_note, same_publisher_entry, same_queue_note, same_bridge_note}
+use Rattle.mama_event.specs.Equality.{same_kind, same_quality, same_sub_kind, same_strategy, same_make, same_market_msg, same_wire_msg, same_piece_msg, same_order, same_orders, same_plan_row, same_callback, same_call_note, same_sub_terms, same_inbox_terms, same_publisher_note, same_publisher_entry, same_queue_note, same_bridge_note}
 
 -- two tests decide two facts
 and-Decides : {a b : Bool} {P Q : Type 0} → Decides a P → Decides b Q → Decides (a && b) (P × Q)
@@ -101,6 +103,12 @@ same_make-Decides _ _ = (λ h. absurd (true≢false (sym h)), λ e. cc)
 pub same_market_msg-Decides : (a b : MarketMsg) → Decides (same_market_msg a b) (a ≡ b)
 same_market_msg-Decides a b = via (and-Decides (and-Decides (and-Decides (same_kind-Decides a.kind b.kind) (Decides-eqb a.sender b.sender)) (Decides-eqb a.seq b.seq)) (same_message-Decides a.body b.body)) (λ p. λ i. record { kind = p.0.0.0 i; sender = p.0.0.1 i; seq = p.0.1 i; body = p.1 i }) (λ e. (((ap (λ (x : MarketMsg). x.kind) e, ap (λ (x : MarketMsg). x.sender) e), ap (λ (x : MarketMsg). x.seq) e), ap (λ (x : MarketMsg). x.body) e))
 
+pub same_wire_msg-Decides : (a b : WireMsg) → Decides (same_wire_msg a b) (a ≡ b)
+same_wire_msg-Decides a b = via (and-Decides (and-Decides (and-Decides (same_kind-Decides a.kind b.kind) (Decides-eqb a.sender b.sender)) (Decides-eqb a.seq b.seq)) (bytes_eq-Decides a.body b.body)) (λ p. λ i. record { kind = p.0.0.0 i; sender = p.0.0.1 i; seq = p.0.1 i; body = p.1 i }) (λ e. (((ap (λ (x : WireMsg). x.kind) e, ap (λ (x : WireMsg). x.sender) e), ap (λ (x : WireMsg). x.seq) e), ap (λ (x : WireMsg). x.body) e))
+
+pub same_piece_msg-Decides : (a b : PieceMsg) → Decides (same_piece_msg a b) (a ≡ b)
+same_piece_msg-Decides a b = via (and-Decides (and-Decides (and-Decides (same_kind-Decides a.kind b.kind) (Decides-eqb a.sender b.sender)) (Decides-eqb a.seq b.seq)) (bytes_eq-Decides a.body b.body)) (λ p. λ i. record { kind = p.0.0.0 i; sender = p.0.0.1 i; seq = p.0.1 i; body = p.1 i }) (λ e. (((ap (λ (x : PieceMsg). x.kind) e, ap (λ (x : PieceMsg). x.sender) e), ap (λ (x : PieceMsg). x.seq) e), ap (λ (x : PieceMsg). x.body) e))
+
 pub same_order-Decides : (a b : Order) → Decides (same_order a b) (a ≡ b)
 same_order-Decides (order.Stop sub) (order.Stop sub') = via (same_sub-Decides sub sub') (λ p. λ i. order.Stop (p i)) (λ e. (cc))
 same_order-Decides (order.Disarm timer) (order.Disarm timer') = via (same_timer-Decides timer timer') (λ p. λ i. order.Disarm (p i)) (λ e. (cc))
@@ -153,6 +161,11 @@ pub same_queue_note-Decides : (a b : QueueNote) → Decides (same_queue_note a b
 same_queue_note-Decides (queued.Create slot object made tag) (queued.Create slot' object' made' tag') = via (and-Decides (Decides-eqb slot slot') (and-Decides (and-Decides (same_object-Decides object object') (same_make-Decides made made')) (same_object-Decides tag tag'))) (λ p. λ i. queued.Create (p.0 i) (p.1.0.0 i) (p.1.0.1 i) (p.1.1 i)) (λ e. ((cc), (((cc), (cc)), (cc))))
 same_queue_note-Decides (queued.Deliver slot sub msg) (queued.Deliver slot' sub' msg') = via (and-Decides (and-Decides (Decides-eqb slot slot') (same_sub-Decides sub sub')) (same_market_msg-Decides msg msg')) (λ p. λ i. queued.Deliver (p.0.0 i) (p.0.1 i) (p.1 i)) (λ e. (((cc), (cc)), (cc)))
 same_queue_note-Decides (queued.Reply slot inbox body) (queued.Reply slot' inbox' body') = via (and-Decides (and-Decides (Decides-eqb slot slot') (same_inbox-Decides inbox inbox')) (same_message-Decides body body')) (λ p. λ i. queued.Reply (p.0.0 i) (p.0.1 i) (p.1 i)) (λ e. (((cc), (cc)), (cc)))
+same_queue_note-Decides (queued.Bad slot sub kind sender seq bytes) (queued.Bad slot' sub' kind' sender' seq' bytes') =
+    via (and-Decides (and-Decides (and-Decides (Decides-eqb slot slot') (same_sub-Decides sub sub')) (and-Decides (and-Decides (same_kind-Decides kind kind') (Decides-eqb sender sender')) (Decides-eqb seq seq'))) (bytes_eq-Decides bytes bytes'))
+    (λ p. λ i. queued.Bad (p.0.0.0 i) (p.0.0.1 i) (p.0.1.0.0 i) (p.0.1.0.1 i) (p.0.1.1 i) (p.1 i))
+    (λ e. ((((cc), (cc)), (((cc), (cc)), (cc))), (cc)))
+same_queue_note-Decides (queued.BadReply slot inbox bytes) (queued.BadReply slot' inbox' bytes') = via (and-Decides (and-Decides (Decides-eqb slot slot') (same_inbox-Decides inbox inbox')) (bytes_eq-Decides bytes bytes')) (λ p. λ i. queued.BadReply (p.0.0 i) (p.0.1 i) (p.1 i)) (λ e. (((cc), (cc)), (cc)))
 same_queue_note-Decides (queued.Tick slot timer moment) (queued.Tick slot' timer' moment') = via (and-Decides (and-Decides (Decides-eqb slot slot') (same_timer-Decides timer timer')) (Decides-eqb moment moment')) (λ p. λ i. queued.Tick (p.0.0 i) (p.0.1 i) (p.1 i)) (λ e. (((cc), (cc)), (cc)))
 same_queue_note-Decides (queued.Gone slot object) (queued.Gone slot' object') = via (and-Decides (Decides-eqb slot slot') (same_object-Decides object object')) (λ p. λ i. queued.Gone (p.0 i) (p.1 i)) (λ e. ((cc), (cc)))
 same_queue_note-Decides queued.Fin queued.Fin = (λ h. refl, λ e. refl)
@@ -177,6 +190,12 @@ same_bridge_note-Decides _ _ = (λ h. absurd (true≢false (sym h)), λ e. cc)
 -- so they are equivalences
 pub same_market_msg_equivalence : IsEquivalence same_market_msg
 same_market_msg_equivalence = decided same_market_msg same_market_msg-Decides
+
+pub same_wire_msg_equivalence : IsEquivalence same_wire_msg
+same_wire_msg_equivalence = decided same_wire_msg same_wire_msg-Decides
+
+pub same_piece_msg_equivalence : IsEquivalence same_piece_msg
+same_piece_msg_equivalence = decided same_piece_msg same_piece_msg-Decides
 
 pub same_order_equivalence : IsEquivalence same_order
 same_order_equivalence = decided same_order same_order-Decides

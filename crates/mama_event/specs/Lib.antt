@@ -14,3 +14,5 @@ pub mod ToPublisher
 pub mod ToQueue
 pub mod ToService
 pub mod ToTimers
+pub mod Wire
+pub mod WireLaws

@@ -1,5 +1,7 @@
 -- believed: what the bridge takes, as plain data, and what its ports may put.
 use Rattle.std.specs.Prelude.{ℕ, Bool, true, false, ◌&&◌, nat_lt, List}
+use Rattle.mama_packet.specs.Packet.{message_of}
+use Rattle.mama_event.specs.Wire.{market_of}
 use Rattle.mama_event.specs.declared.ids.ObjectId.{ObjectId}
 use Rattle.mama_event.specs.declared.shape.Bounds.{Bounds}
 use Rattle.mama_event.specs.declared.to_bridge.SubTerms.{SubTerms}
@@ -9,16 +11,16 @@ use Rattle.mama_event.specs.declared.to_bridge.ToBridge.TheVariants as event
 use Rattle.mama_event.specs.declared.to_bridge.BridgeNote.{BridgeNote}
 use Rattle.mama_event.specs.declared.to_bridge.BridgeNote.TheVariants as note
 
--- the note of an event: the same data, with the listener's tag in place of the listener
+-- the note of an event: the same data, with the listener's tag in place of the listener, and the message that a packet spells
 abbrev pub note_of : {L : Type 0} → (L → ObjectId) → ToBridge L → BridgeNote
 note_of tagged (event.Join sub terms listener) = note.Join sub terms (tagged listener)
 note_of tagged (event.Leave sub) = note.Leave sub
 note_of tagged (event.OpenInbox inbox terms listener) = note.OpenInbox inbox terms (tagged listener)
 note_of tagged (event.CloseInbox inbox) = note.CloseInbox inbox
 note_of tagged (event.Ask inbox topic fids) = note.Ask inbox topic fids
-note_of tagged (event.Publish msg) = note.Publish msg
-note_of tagged (event.Image sub msg) = note.Image sub msg
-note_of tagged (event.Reply inbox body) = note.Reply inbox body
+note_of tagged (event.Publish msg) = note.Publish (market_of msg)
+note_of tagged (event.Image sub msg) = note.Image sub (market_of msg)
+note_of tagged (event.Reply inbox body) = note.Reply inbox (message_of body)
 note_of tagged (event.RecapWish sub sender) = note.RecapWish sub sender
 note_of tagged event.ClientDone = note.ClientDone
 note_of tagged event.SendsDone = note.SendsDone

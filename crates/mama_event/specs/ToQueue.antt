@@ -1,7 +1,10 @@
 -- believed: what a queue takes, as plain data, and what its ports may put: for each slot blocks of one object each.
-use Rattle.std.specs.Prelude.{ℕ, Bool, true, false, ◌&&◌, not, ◌==◌, List, [], ◌∷◌, ◌++◌, filter, fold, length}
+use Rattle.std.specs.Prelude.{ℕ, Bool, true, false, ◌&&◌, not, ◌==◌, List, [], ◌∷◌, ◌++◌, filter, fold, length, Ok, Err}
 use Rattle.std.specs.List.{list_any}
 use Rattle.mama_event.specs.Object.{same_object}
+use Rattle.mama_event.specs.Wire.{Arrival, ReplyArrival, arrival_of, reply_of, code_of}
+use Rattle.mama_event.specs.declared.ids.SubId.{SubId}
+use Rattle.mama_event.specs.declared.ids.InboxId.{InboxId}
 use Rattle.mama_event.specs.declared.ids.ObjectId.{ObjectId}
 use Rattle.mama_event.specs.declared.ids.ObjectId.TheVariants as object
 use Rattle.mama_event.specs.declared.to_queue.Make.{Make}
@@ -11,20 +14,37 @@ use Rattle.mama_event.specs.declared.to_queue.ToQueue.TheVariants as event
 use Rattle.mama_event.specs.declared.to_queue.QueueNote.{QueueNote}
 use Rattle.mama_event.specs.declared.to_queue.QueueNote.TheVariants as note
 
--- the note of an event: the same data, with the listener's tag in place of the listener
+-- the note of what arrives for a subscription, and for an inbox
+abbrev pub delivered_note : ℕ → SubId → Arrival → QueueNote
+delivered_note slot sub (Ok msg) = note.Deliver slot sub msg
+delivered_note slot sub (Err piece) = note.Bad slot sub piece.kind piece.sender piece.seq piece.body
+
+abbrev pub replied_note : ℕ → InboxId → ReplyArrival → QueueNote
+replied_note slot inbox (Ok body) = note.Reply slot inbox body
+replied_note slot inbox (Err bytes) = note.BadReply slot inbox bytes
+
+-- the note of an event: the same data, with the listener's tag in place of the listener, and with what is read of bytes
 abbrev pub note_of : {L : Type 0} → (L → ObjectId) → ToQueue L → QueueNote
 note_of tagged (event.Create slot object make listener) = note.Create slot object make (tagged listener)
-note_of tagged (event.Deliver slot sub msg) = note.Deliver slot sub msg
-note_of tagged (event.Reply slot inbox body) = note.Reply slot inbox body
+note_of tagged (event.Deliver slot sub msg) = delivered_note slot sub (arrival_of msg)
+note_of tagged (event.Reply slot inbox body) = replied_note slot inbox (reply_of body)
 note_of tagged (event.Tick slot timer moment) = note.Tick slot timer moment
 note_of tagged (event.Gone slot object) = note.Gone slot object
 note_of tagged event.Fin = note.Fin
+
+-- the code of the fault in the bytes of a note, and 0 where it has a message or none
+abbrev pub note_code : QueueNote → ℕ
+note_code (note.Bad slot sub kind sender seq bytes) = code_of bytes
+note_code (note.BadReply slot inbox bytes) = code_of bytes
+note_code _ = 0
 
 -- nothing follows a Fin
 abbrev pub is_last : QueueNote → Bool
 is_last (note.Create slot object make tag) = false
 is_last (note.Deliver slot sub msg) = false
 is_last (note.Reply slot inbox body) = false
+is_last (note.Bad slot sub kind sender seq bytes) = false
+is_last (note.BadReply slot inbox bytes) = false
 is_last (note.Tick slot timer moment) = false
 is_last (note.Gone slot object) = false
 is_last note.Fin = true
@@ -39,6 +59,8 @@ abbrev pub blocks_after : List Block → QueueNote → List Block
 blocks_after blocks (note.Create slot object make tag) = blocks ++ record { slot = slot; object = object } ∷ []
 blocks_after blocks (note.Deliver slot sub msg) = blocks
 blocks_after blocks (note.Reply slot inbox body) = blocks
+blocks_after blocks (note.Bad slot sub kind sender seq bytes) = blocks
+blocks_after blocks (note.BadReply slot inbox bytes) = blocks
 blocks_after blocks (note.Tick slot timer moment) = blocks
 blocks_after blocks (note.Gone slot object) = filter (λ b. not (b.slot == slot)) blocks
 blocks_after blocks note.Fin = blocks
@@ -60,6 +82,8 @@ abbrev pub creates : ObjectId → QueueNote → Bool
 creates object (note.Create slot made make tag) = same_object made object
 creates object (note.Deliver slot sub msg) = false
 creates object (note.Reply slot inbox body) = false
+creates object (note.Bad slot sub kind sender seq bytes) = false
+creates object (note.BadReply slot inbox bytes) = false
 creates object (note.Tick slot timer moment) = false
 creates object (note.Gone slot gone) = false
 creates object note.Fin = false
@@ -83,13 +107,15 @@ is_made_as make.Inbox (object.Timer timer) = false
 is_made_as make.Inbox (object.Inbox inbox) = true
 
 -- an event fits those before it: a Create takes a free slot for an object that has had no block, of its port and
--- made as its kind; a message, a reply, a tick and a Gone belong to the unfinished block of their slot; and a Fin
+-- made as its kind; a message, a reply, be they read or bad, a tick and a Gone belong to the unfinished block of their slot; and a Fin
 -- comes after finished blocks alone
 abbrev pub fits : ℕ → List QueueNote → QueueNote → Bool
 fits port before (note.Create slot object make tag) =
     not (is_taken slot before) && not (list_any (creates object) before) && is_for_port port object && is_made_as make object
 fits port before (note.Deliver slot sub msg) = is_live_in slot (object.Sub sub) before
 fits port before (note.Reply slot inbox body) = is_live_in slot (object.Inbox inbox) before
+fits port before (note.Bad slot sub kind sender seq bytes) = is_live_in slot (object.Sub sub) before
+fits port before (note.BadReply slot inbox bytes) = is_live_in slot (object.Inbox inbox) before
 fits port before (note.Tick slot timer moment) = is_live_in slot (object.Timer timer) before
 fits port before (note.Gone slot object) = is_live_in slot object before
 fits port before note.Fin = length (open_blocks before) == 0

@@ -1,5 +1,6 @@
-ghost use Rattle.std.specs.Prelude.{◌≡◌, ◌↔◌, ◌<◌, ◌≤◌, true, length, slice_index, IsSome, IfSome};
+ghost use Rattle.std.specs.Prelude.{◌≡◌, ◌↔◌, ◌<◌, ◌≤◌, true, length, slice_index, take, IsSome, IfSome};
 ghost use Rattle.mama_event.specs.FidList.{is_fid_list};
+ghost use Rattle.mama_event.specs.Fids.{before_zero};
 
 use std::marker::Model;
 
@@ -9,8 +10,8 @@ pub const MOST_FIDS: usize = 8;
 /// 1 to 8 fids that a reply is asked to have, each from 1 and strictly ascending. They lie in the value itself.
 #[derive(Clone, Copy, Debug)]
 pub struct Fids {
-    length: u8,
-    fids: [u16; 8],
+    // They end at the first 0, which is no fid.
+    fids: [u16; MOST_FIDS],
 }
 
 impl Model for Fids {
@@ -72,10 +73,7 @@ impl Fids {
             kept[i] = *fid;
             before = *fid;
         }
-        Some(Fids {
-            length: count as u8,
-            fids: kept,
-        })
+        Some(Fids { fids: kept })
     }
 
     /// How many fids there are: 1 to 8.
@@ -83,7 +81,7 @@ impl Fids {
         ensures len { result ≡ length self.now }
         ensures form { is_fid_list self.now ≡ true }
     {
-        self.length as usize
+        count(&self.fids)
     }
 
     /// The fid at a place, counted from 0.
@@ -91,14 +89,26 @@ impl Fids {
         requires { i < length self.now }
         ensures { result ≡ slice_index self.now i }
     {
-        let fids = &self.fids;
-        fids[i]
+        self.as_slice()[i]
     }
 
     /// The fids in order.
     pub fn as_slice(&self) -> &[u16]
         ensures { result.now ≡ self.now }
     {
-        &self.fids[..self.length as usize]
+        &self.fids[..count(&self.fids)]
     }
+}
+
+// How many fids stand before the first 0.
+fn count(fids: &[u16]) -> usize
+    ensures len { result ≡ length (before_zero fids.now) }
+    ensures front { take result fids.now ≡ before_zero fids.now }
+{
+    for (i, fid) in fids.iter().enumerate() {
+        if *fid == 0 {
+            return i;
+        }
+    }
+    fids.len()
 }

@@ -12,6 +12,7 @@ use crate::to_bridge::{BridgeNote, InboxTerms, SubTerms};
 use crate::to_publisher::{PublisherNote, ToPublisher};
 use crate::to_queue::{Make, QueueNote};
 use crate::to_timers::TimersNote;
+use crate::wire::{PieceMsg, WireMsg};
 
 /// A law: `==` of the plain data of this crate holds exactly where both sides are the same data.
 pub fn plain_data_is_compared_exactly()
@@ -24,6 +25,8 @@ pub fn plain_data_is_compared_exactly()
     ensures quality { (a b : Quality) → Decides (⟦<Quality as PartialEq>⟧.eq a b) (a ≡ b) }
     ensures sub_kind { (a b : SubKind) → Decides (⟦<SubKind as PartialEq>⟧.eq a b) (a ≡ b) }
     ensures market_msg { (a b : MarketMsg) → Decides (⟦<MarketMsg as PartialEq>⟧.eq a b) (a ≡ b) }
+    ensures wire_msg { (a b : WireMsg) → Decides (⟦<WireMsg as PartialEq>⟧.eq a b) (a ≡ b) }
+    ensures piece_msg { (a b : PieceMsg) → Decides (⟦<PieceMsg as PartialEq>⟧.eq a b) (a ≡ b) }
     ensures image_head { (a b : ImageHead) → Decides (⟦<ImageHead as PartialEq>⟧.eq a b) (a ≡ b) }
     ensures order { (a b : Order) → Decides (⟦<Order as PartialEq>⟧.eq a b) (a ≡ b) }
     ensures orders { (a b : List Order) → Decides (⟦<Orders as PartialEq>⟧.eq a b) (a ≡ b) }

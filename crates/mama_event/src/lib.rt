@@ -10,6 +10,10 @@
 //! that promise, with `fits` of each lane for what an event asks of those before it. Nothing follows a last event, and
 //! every prefix of a lawful list is lawful. The words for what a publisher puts over its journal are here too, as
 //! `publisher_puts_at`, and so are those for a publisher's record, `record_after`, and for a genuine message.
+//!
+//! A message of the market that travels is a [`WireMsg`], with its body packed, and behind a link a [`PieceMsg`], whose body
+//! may have been cut. `specs/Wire.antt` says what arrives of it: a message, or bytes that spell none, of which a listener is
+//! told by a code ([`error_code`]). The notes of events hold messages, and the bytes only where they spell none.
 #![tactic(auto)]
 
 mod boxed;
@@ -28,6 +32,7 @@ mod to_publisher;
 mod to_queue;
 mod to_service;
 mod to_timers;
+mod wire;
 
 pub use callback::{CallNote, Callback};
 pub use fids::{Fids, MOST_FIDS};
@@ -35,6 +40,7 @@ pub use ids::{InboxId, ObjectId, SubId, TimerId};
 pub use laws::plain_data_is_compared_exactly;
 pub use listener::Listener;
 pub use mama_memory::{Duplicate, OutOfMemory};
+pub use mama_packet::{Packet, Piece};
 pub use market::{ImageHead, MarketMsg, MsgKind, Quality, SubKind};
 pub use order::{MOST_ORDERS, Order, Orders, PlanRow};
 pub use publisher_entry::PublisherEntry;
@@ -45,3 +51,4 @@ pub use to_publisher::{PublisherNote, ToPublisher};
 pub use to_queue::{Make, QueueNote, ToQueue};
 pub use to_service::ToService;
 pub use to_timers::{TimersNote, ToTimers};
+pub use wire::{PieceMsg, WireMsg, code_of, error_code, packed_messages_arrive};

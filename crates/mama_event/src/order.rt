@@ -64,7 +64,7 @@ impl Eq for Order {
 /// The orders of one callback, in the order in which they were given: at most 8. They lie in the value itself.
 #[derive(Debug, Drop)]
 pub struct Orders {
-    count: usize,
+    count: u8,
     orders: [Order; MOST_ORDERS],
 }
 
@@ -126,10 +126,10 @@ impl Orders {
         ensures full { OnErr result (self.new ≡ self.old) }
         ensures back { IfErr result (λ given. given ≡ order) }
     {
-        if self.count >= MOST_ORDERS {
+        if self.len() >= MOST_ORDERS {
             return Err(order);
         }
-        self.orders[self.count] = order;
+        self.orders[self.count as usize] = order;
         self.count += 1;
         Ok(())
     }
@@ -139,7 +139,7 @@ impl Orders {
         ensures len { result ≡ length self.now }
         ensures most { result ≤ 8 }
     {
-        self.count
+        self.count as usize
     }
 
     /// Whether there is none.
@@ -162,7 +162,7 @@ impl Orders {
     pub fn as_slice(&self) -> &[Order]
         ensures { result.now ≡ self.now }
     {
-        &self.orders[..self.count]
+        &self.orders[..self.count as usize]
     }
 
     /// The same orders once more.
@@ -170,7 +170,7 @@ impl Orders {
         ensures { result ≡ self.now }
     {
         let mut orders = Orders::new();
-        for i in 0..self.count {
+        for i in 0..self.count as usize {
             orders.orders[i] = self.orders[i];
         }
         orders.count = self.count;

@@ -4,9 +4,11 @@ use crate::fids::Fids;
 use crate::ids::{InboxId, ObjectId, SubId};
 use crate::market::{MarketMsg, SubKind};
 use crate::stream::{Stream, Tagged};
+use crate::wire::WireMsg;
 use mama_link::Faults;
 use mama_memory::{Duplicate, OutOfMemory};
 use mama_msg::Msg;
+use mama_packet::Packet;
 
 /// What a client asks of a subscription: its topic, its kind, the queue that gets its callbacks, the most updates
 /// that it caches, the most recaps that may be asked for it, and the faults of its link.
@@ -133,17 +135,17 @@ pub enum ToBridge<L> {
     },
     /// A publisher sends to all subscriptions of its topic.
     Publish {
-        msg: MarketMsg,
+        msg: WireMsg,
     },
     /// A publisher sends its record to one subscription.
     Image {
         sub: SubId,
-        msg: MarketMsg,
+        msg: WireMsg,
     },
     /// A publisher answers an inbox.
     Reply {
         inbox: InboxId,
-        body: Msg,
+        body: Packet,
     },
     /// A queue asks for a recap of this sender's record.
     RecapWish {
@@ -331,15 +333,15 @@ impl<L: Tagged> Stream for ToBridge<L> {
                 fids: *fids,
             }),
             ToBridge::Publish { msg } => Ok(BridgeNote::Publish {
-                msg: msg.try_clone()?,
+                msg: msg.into_market()?,
             }),
             ToBridge::Image { sub, msg } => Ok(BridgeNote::Image {
                 sub: *sub,
-                msg: msg.try_clone()?,
+                msg: msg.into_market()?,
             }),
             ToBridge::Reply { inbox, body } => Ok(BridgeNote::Reply {
                 inbox: *inbox,
-                body: body.try_clone()?,
+                body: body.unpack()?,
             }),
             ToBridge::RecapWish { sub, sender } => Ok(BridgeNote::RecapWish {
                 sub: *sub,

@@ -1,13 +1,18 @@
 ghost use Rattle.std.specs.Prelude.{◌≡◌, ◌&&◌, IfOk};
 ghost use Rattle.mama_event.specs.Object.{same_object};
-ghost use Rattle.mama_event.specs.Equality.{same_make};
+ghost use Rattle.mama_event.specs.Equality.{same_make, same_heads};
+ghost use Rattle.mama_event.specs.ToQueue.{note_of as noted_as, delivered_note, replied_note, note_code};
+ghost use Rattle.mama_event.specs.Wire.{arrival_of, reply_of};
 
 use crate::ids::{InboxId, ObjectId, SubId, TimerId};
-use crate::market::{MarketMsg, SubKind};
+use crate::market::{MarketMsg, MsgKind, SubKind};
 use crate::shape::Strategy;
 use crate::stream::{Stream, Tagged};
+use crate::wire::{PieceMsg, error_code};
 use mama_memory::{Duplicate, OutOfMemory};
 use mama_msg::Msg;
+use mama_packet::Piece;
+use mama_payload::DecodeFault;
 
 /// What an object is made as. It is of the object's kind.
 #[derive(Clone, Copy, Debug, PartialEq, Eq)]
@@ -33,17 +38,17 @@ pub enum ToQueue<L> {
         make: Make,
         listener: L,
     },
-    /// A message for a subscription.
+    /// A message for a subscription, whose body may have been cut.
     Deliver {
         slot: u32,
         sub: SubId,
-        msg: MarketMsg,
+        msg: PieceMsg,
     },
-    /// A reply to an inbox.
+    /// A reply to an inbox, which may have been cut.
     Reply {
         slot: u32,
         inbox: InboxId,
-        body: Msg,
+        body: Piece,
     },
     /// A timer ticks, at this moment in milliseconds.
     Tick {
@@ -60,7 +65,7 @@ pub enum ToQueue<L> {
     Fin,
 }
 
-/// A `ToQueue` as plain data.
+/// A `ToQueue` as plain data, with the message that was read, or with the bytes where they spell none.
 #[derive(Debug, Drop)]
 pub enum QueueNote {
     Create {
@@ -78,6 +83,21 @@ pub enum QueueNote {
         slot: u32,
         inbox: InboxId,
         body: Msg,
+    },
+    /// Bytes for a subscription that spell no message, under the head of the message that was cut.
+    Bad {
+        slot: u32,
+        sub: SubId,
+        kind: MsgKind,
+        sender: u32,
+        seq: u32,
+        bytes: Piece,
+    },
+    /// Bytes for an inbox that spell no reply.
+    BadReply {
+        slot: u32,
+        inbox: InboxId,
+        bytes: Piece,
     },
     Tick {
         slot: u32,
@@ -117,6 +137,20 @@ fn same_making(
     ensures { result ≡ (same_object object.now other_object.now && same_make make.now other_make.now && same_object tag.now other_tag.now) }
 {
     same(object, other_object) && made_alike(make, other_make) && same(tag, other_tag)
+}
+
+/// Whether two messages are of one kind, sender and number.
+fn same_head(
+    kind: MsgKind,
+    sender: u32,
+    seq: u32,
+    other_kind: MsgKind,
+    other_sender: u32,
+    other_seq: u32,
+) -> bool
+    ensures { result ≡ same_heads kind sender seq other_kind other_sender other_seq }
+{
+    kind == other_kind && sender == other_sender && seq == other_seq
 }
 
 impl PartialEq for QueueNote {
@@ -165,6 +199,35 @@ impl PartialEq for QueueNote {
                 },
             ) => slot == other_slot && inbox == other_inbox && body == other_body,
             (
+                QueueNote::Bad {
+                    slot,
+                    sub,
+                    kind,
+                    sender,
+                    seq,
+                    bytes,
+                },
+                QueueNote::Bad {
+                    slot: other_slot,
+                    sub: other_sub,
+                    kind: other_kind,
+                    sender: other_sender,
+                    seq: other_seq,
+                    bytes: other_bytes,
+                },
+            ) => slot == other_slot
+                && sub == other_sub
+                && same_head(*kind, *sender, *seq, *other_kind, *other_sender, *other_seq)
+                && bytes == other_bytes,
+            (
+                QueueNote::BadReply { slot, inbox, bytes },
+                QueueNote::BadReply {
+                    slot: other_slot,
+                    inbox: other_inbox,
+                    bytes: other_bytes,
+                },
+            ) => slot == other_slot && inbox == other_inbox && bytes == other_bytes,
+            (
                 QueueNote::Tick {
                     slot,
                     timer,
@@ -195,6 +258,93 @@ impl Eq for QueueNote {
     ghost laws = { same_queue_note_equivalence };
 }
 
+/// Reads a message that may have been cut, and tells the code of the fault where it spells none.
+fn read_delivered(slot: u32, sub: SubId, msg: &PieceMsg) -> Result<(QueueNote, u8), OutOfMemory>
+    ensures note { IfOk result (λ read. read.0 ≡ delivered_note slot sub (arrival_of msg.now)) }
+    ensures code { IfOk result (λ read. read.1 ≡ note_code read.0) }
+{
+    match msg.into_market() {
+        Ok(msg) => Ok((QueueNote::Deliver { slot, sub, msg }, 0)),
+        Err(DecodeFault::OutOfMemory) => Err(OutOfMemory),
+        Err(fault) => {
+            let bytes = msg.body.try_clone()?;
+            let note = QueueNote::Bad {
+                slot,
+                sub,
+                kind: msg.kind,
+                sender: msg.sender,
+                seq: msg.seq,
+                bytes,
+            };
+            Ok((note, error_code(fault)))
+        }
+    }
+}
+
+/// Reads a reply that may have been cut, and tells the code of the fault where it spells none.
+fn read_replied(slot: u32, inbox: InboxId, body: &Piece) -> Result<(QueueNote, u8), OutOfMemory>
+    ensures note { IfOk result (λ read. read.0 ≡ replied_note slot inbox (reply_of body.now)) }
+    ensures code { IfOk result (λ read. read.1 ≡ note_code read.0) }
+{
+    match body.unpack() {
+        Ok(body) => Ok((QueueNote::Reply { slot, inbox, body }, 0)),
+        Err(DecodeFault::OutOfMemory) => Err(OutOfMemory),
+        Err(fault) => {
+            let bytes = body.try_clone()?;
+            let note = QueueNote::BadReply { slot, inbox, bytes };
+            Ok((note, error_code(fault)))
+        }
+    }
+}
+
+impl<L: Tagged> ToQueue<L> {
+    /// The event's note, and the code of the fault where its bytes spell no message, which is 0 where they do. The error is
+    /// want of memory.
+    pub fn read(&self) -> Result<(QueueNote, u8), OutOfMemory>
+        ensures note { IfOk result (λ read. read.0 ≡ noted_as L.tagged self.now) }
+        ensures code { IfOk result (λ read. read.1 ≡ note_code read.0) }
+    {
+        match self {
+            ToQueue::Create {
+                slot,
+                object,
+                make,
+                listener,
+            } => {
+                let note = QueueNote::Create {
+                    slot: *slot,
+                    object: *object,
+                    make: *make,
+                    tag: listener.tag(),
+                };
+                Ok((note, 0))
+            }
+            ToQueue::Deliver { slot, sub, msg } => read_delivered(*slot, *sub, msg),
+            ToQueue::Reply { slot, inbox, body } => read_replied(*slot, *inbox, body),
+            ToQueue::Tick {
+                slot,
+                timer,
+                moment,
+            } => {
+                let note = QueueNote::Tick {
+                    slot: *slot,
+                    timer: *timer,
+                    moment: *moment,
+                };
+                Ok((note, 0))
+            }
+            ToQueue::Gone { slot, object } => {
+                let note = QueueNote::Gone {
+                    slot: *slot,
+                    object: *object,
+                };
+                Ok((note, 0))
+            }
+            ToQueue::Fin => Ok((QueueNote::Fin, 0)),
+        }
+    }
+}
+
 impl<L: Tagged> Stream for ToQueue<L> {
     ghost use Rattle.mama_event.specs.Lawful.{IsLawful};
     ghost use Rattle.mama_event.specs.LawfulLaws.{IsLawful-start, IsLawful-prefix, IsLawful-end};
@@ -215,43 +365,8 @@ impl<L: Tagged> Stream for ToQueue<L> {
     ghost lawful_end = { λ bounds port. IsLawful-end is_last (fits port) };
 
     fn note(&self) -> Result<QueueNote, OutOfMemory> {
-        match self {
-            ToQueue::Create {
-                slot,
-                object,
-                make,
-                listener,
-            } => Ok(QueueNote::Create {
-                slot: *slot,
-                object: *object,
-                make: *make,
-                tag: listener.tag(),
-            }),
-            ToQueue::Deliver { slot, sub, msg } => Ok(QueueNote::Deliver {
-                slot: *slot,
-                sub: *sub,
-                msg: msg.try_clone()?,
-            }),
-            ToQueue::Reply { slot, inbox, body } => Ok(QueueNote::Reply {
-                slot: *slot,
-                inbox: *inbox,
-                body: body.try_clone()?,
-            }),
-            ToQueue::Tick {
-                slot,
-                timer,
-                moment,
-            } => Ok(QueueNote::Tick {
-                slot: *slot,
-                timer: *timer,
-                moment: *moment,
-            }),
-            ToQueue::Gone { slot, object } => Ok(QueueNote::Gone {
-                slot: *slot,
-                object: *object,
-            }),
-            ToQueue::Fin => Ok(QueueNote::Fin),
-        }
+        let (note, _code) = self.read()?;
+        Ok(note)
     }
 
     fn is_last(&self) -> bool {

@@ -2,12 +2,14 @@
 use Rattle.std.proofs.Common.{◌≡◌, ℕ, Bool, true, false, ◌||◌, List, [], ◌∷◌, ◌++◌, map, sym, refl, ap, ◌∙◌, subst, append_assoc, append-nil}
 use Rattle.std.proofs.lemmas.List.Elements.{All-from_recursion}
 use Rattle.std.specs.List.{All, AllByRecursion, list_any}
+use base.Growing.{prefix_trans}
 use mathlib.Core.List.{IsPrefix}
 use Rattle.mama_event.specs.declared.shape.Bounds.{Bounds}
 use Rattle.mama_journal.specs.Lane.{by_port, IsEdge}
 use Rattle.mama_lane.specs.declared.view.View.{View}
 use Rattle.mama_lane.specs.Steps.{with_ended}
 use Rattle.mama_lane.specs.Values.{PortValue}
+use Rattle.mama_lane.proofs.Lists.{by_port-append}
 
 module _ {N : Type 0} (last : N → Bool) where
   -- where the list has a last event, it stands in it
@@ -42,15 +44,20 @@ module _ {N : Type 0} (last : N → Bool) where
     edge : (b : Bounds) (p : ℕ) (taken put : List N) → IsPrefix taken put → lawful b p put → IsEdge last taken put
     edge b p taken put begins may = record { rest = begins.0; prefix = begins.1; whole = λ e. whole b p taken begins.0 put begins.1 may (has_last taken e) }
 
-    each_edge : (b : Bounds) (taken : List (ℕ × N)) (ports : List (PortValue N))
-        → AllByRecursion (λ (c : ℕ × List N). IsPrefix (by_port c.0 taken) c.1 × lawful b c.0 c.1) (map (λ (p : PortValue N). (p.number, p.put)) ports) → AllByRecursion (λ (p : PortValue N). IsEdge last (by_port p.number taken) p.put) ports
-    each_edge b taken [] h = tt
-    each_edge b taken (p ∷ ps) h = (edge b p.number (by_port p.number taken) p.put h.0.0 h.0.1, each_edge b taken ps h.1)
+    -- what was taken of each port begins what it put, and so does what of it was not taken ahead
+    front_begins : (p : ℕ) (front back : List (ℕ × N)) (put : List N) → IsPrefix (by_port p (front ++ back)) put → IsPrefix (by_port p front) put
+    front_begins p front back put h = prefix_trans _ _ _ (by_port p back, sym (by_port-append p front back)) h
+
+    each_edge : (b : Bounds) (front back : List (ℕ × N)) (ports : List (PortValue N))
+        → AllByRecursion (λ (c : ℕ × List N). IsPrefix (by_port c.0 (front ++ back)) c.1 × lawful b c.0 c.1) (map (λ (p : PortValue N). (p.number, p.put)) ports) → AllByRecursion (λ (p : PortValue N). IsEdge last (by_port p.number front) p.put) ports
+    each_edge b front back [] h = tt
+    each_edge b front back (p ∷ ps) h = (edge b p.number (by_port p.number front) p.put (front_begins p.number front back p.put h.0.0) h.0.1, each_edge b front back ps h.1)
 
     -- what the taker, which had taken in no port before, learns of the ports that it took in
-    pub are_edges : (v w : View N) (ports : List (PortValue N)) → w ≡ with_ended v ports → v.closed ≡ [] → AllByRecursion (λ (c : ℕ × List N). IsPrefix (by_port c.0 w.taken) c.1 × lawful w.bounds c.0 c.1) w.closed
-        → All (λ (p : PortValue N). IsEdge last (by_port p.number v.taken) p.put) ports
-    are_edges v w ports is none h =
+    pub are_edges : (v w : View N) (front back : List (ℕ × N)) (ports : List (PortValue N)) → v.taken ≡ front ++ back → w ≡ with_ended v ports → v.closed ≡ []
+        → AllByRecursion (λ (c : ℕ × List N). IsPrefix (by_port c.0 w.taken) c.1 × lawful w.bounds c.0 c.1) w.closed
+        → All (λ (p : PortValue N). IsEdge last (by_port p.number front) p.put) ports
+    are_edges v w front back ports parts is none h =
         let Begun : View N → Type 0 = λ u. AllByRecursion (λ (c : ℕ × List N). IsPrefix (by_port c.0 u.taken) c.1 × lawful u.bounds c.0 c.1) u.closed in
-        let Closed : List (ℕ × List N) → Type 0 = λ l. AllByRecursion (λ (c : ℕ × List N). IsPrefix (by_port c.0 v.taken) c.1 × lawful v.bounds c.0 c.1) (l ++ map (λ (p : PortValue N). (p.number, p.put)) ports) in
-        All-from_recursion _ ports (each_edge v.bounds v.taken ports (subst Closed none (subst Begun is h)))
+        let Closed : List (ℕ × List N) × List (ℕ × N) → Type 0 = λ l. AllByRecursion (λ (c : ℕ × List N). IsPrefix (by_port c.0 l.1) c.1 × lawful v.bounds c.0 c.1) (l.0 ++ map (λ (p : PortValue N). (p.number, p.put)) ports) in
+        All-from_recursion _ ports (each_edge v.bounds front back ports (subst Closed (λ k. (none k, parts k)) (subst Begun is h)))

@@ -5,6 +5,7 @@ ghost use Rattle.mama_journal.specs.Lane.{by_port, IsEdge};
 ghost use Rattle.mama_lane.specs.Steps.{with_ended};
 
 use crate::lane::Lane;
+use crate::looker::Looker;
 use crate::port::Port;
 use crate::rule::Pass;
 use crate::steps;
@@ -13,7 +14,7 @@ use mama_event::Stream;
 use std::sync::Wait;
 
 /// Ends a lane. Of each port that is handed in, what was taken from it begins what it put, and is all of it where its
-/// last event was taken. Events that are left in the lane are dropped. It takes no memory.
+/// last event was taken. Events that are left in the lane, or were taken ahead, are dropped. It takes no memory.
 pub fn close_lane<E: Stream, Rt: Wait + Copy>(
     rt: Rt,
     lane: Lane<E>,
@@ -24,7 +25,12 @@ pub fn close_lane<E: Stream, Rt: Wait + Copy>(
     requires taker { taker.lane ≡ lane.id }
     ensures { All (λ port. IsEdge E.last (by_port port.number taker.taken) port.put) ports.items }
 {
-    let Taker { mut pass, ended: _ } = taker;
+    let Taker {
+        looker,
+        ended: _,
+        buffer: _,
+    } = taker;
+    let Looker { mut pass } = looker;
     end_all(&lane, &mut pass, ports);
     steps::compare(&rt, &lane.queue, &mut pass);
 }

@@ -3,13 +3,16 @@ ghost use Rattle.crossbeam_queue.specs.SegTies.{IsSegPassOf};
 ghost use Rattle.mama_lane.specs.Steps.{opened};
 ghost use Rattle.mama_lane.specs.Values.{new_port, new_ports, new_taker};
 
+use crate::ahead::AHEAD;
 use crate::lane::Lane;
+use crate::looker::Looker;
 use crate::port::Port;
 use crate::rule::{Pass, Queue};
 use crate::steps;
 use crate::taker::Taker;
 use mama_event::{Bounds, OutOfMemory, Stream};
 use std::alloc::Global;
+use std::collections::VecDeque;
 use std::marker::Brand;
 
 /// A lane with its ports, in the order of their numbers, which count from 0, and its taker. Nothing was put or taken.
@@ -27,6 +30,7 @@ pub fn open_lane<E: Stream, Rt: Copy>(
 {
     let ended = Vec::from_elem(alloc, false, ports as usize)?;
     let room = Vec::with_capacity(alloc, ports as usize)?;
+    let buffer = VecDeque::with_capacity(alloc, AHEAD)?;
     let (queue, mut pass) = Queue::<E>::with_rule(alloc)?;
     steps::bind::<E, Brand>(&queue, &mut pass, bounds);
     let lane = Lane {
@@ -35,7 +39,12 @@ pub fn open_lane<E: Stream, Rt: Copy>(
         ports,
     };
     let made = make_ports(&lane, &mut pass, room);
-    Ok((lane, made, Taker { pass, ended }))
+    let taker = Taker {
+        looker: Looker { pass },
+        ended,
+        buffer,
+    };
+    Ok((lane, made, taker))
 }
 
 // Makes all ports of the lane, for which there is room.

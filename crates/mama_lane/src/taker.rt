@@ -4,36 +4,42 @@ ghost use mathlib.Core.List.{IsPrefix};
 ghost use Rattle.mama_journal.specs.Lane.{by_port};
 ghost use Rattle.mama_lane.specs.Values.{after_take, after_learn};
 
+use crate::ahead::next;
 use crate::lane::Lane;
+use crate::looker::Looker;
 use crate::note::PutNote;
-use crate::rule::Pass;
-use crate::steps;
 use mama_event::Stream;
+use std::collections::VecDeque;
 use std::marker::Model;
 use std::sync::Wait;
 
 /// The end of a lane by which events are taken. It may go to another thread.
 ///
 /// In a clause a taker is a record of its lane, the bounds within which the ports put, how many ports there are, what
-/// it took, and the notes that it learnt, each with the number of its port.
+/// it took, and the notes that it learnt, each with the number of its port. What it took from the lane ahead of its
+/// calls and has not answered yet is not among what it took.
 #[derive(Drop)]
 pub struct Taker<E: Stream> {
-    pub(crate) pass: Pass<E>,
-    /// For each port, whether its last event was taken.
+    pub(crate) looker: Looker<E>,
+    /// For each port, whether its last event was answered.
     pub(crate) ended: Vec<bool>,
+    /// What was taken ahead, first to last.
+    pub(crate) buffer: VecDeque<(u32, E)>,
 }
 
 impl<E: Stream> Model for Taker<E> {
-    ghost use Rattle.std.specs.Prelude.{◌≡◌, None};
+    ghost use Rattle.std.specs.Prelude.{◌≤◌};
+    ghost use Rattle.std.specs.VecDeque.{deque_capacity};
     ghost use Rattle.mama_lane.specs.Values.{TakerValue};
 
     ghost Value = { TakerValue E.Note };
 
-    ghost use Rattle.mama_lane.specs.Taker.{IsTakerPass};
+    ghost use Rattle.mama_lane.specs.declared.ahead.TheConstants.{AHEAD};
+    ghost use Rattle.mama_lane.specs.Taker.{without, IsTaker};
 
-    ghost view = { λ t. record { lane = record { web = t.pass.web; heap = t.pass.heap }; bounds = t.pass.me.view.client.bounds; ports = t.pass.me.view.client.made; taken = t.pass.me.view.client.taken; learnt = t.pass.me.view.client.learnt } };
+    ghost view = { λ t. without t.looker t.buffer.items };
 
-    ghost invariant = { λ t. IsTakerPass E.last E.lawful t.pass.me.view.client t.ended.items × (t.pass.id ≡ 0) × (t.pass.me.hand ≡ None) × (t.pass.me.spare ≡ None) };
+    ghost invariant = { λ t. IsTaker E.noted E.last t.looker t.ended.items t.buffer.items × (AHEAD ≤ deque_capacity t.buffer) };
 }
 
 impl<E: Stream> Taker<E> {
@@ -48,7 +54,9 @@ impl<E: Stream> Taker<E> {
         // All that is named by the notes which this taker learnt was taken.
         ensures caught_up { IfNone result (All (λ note. IsPrefix note.1 (by_port note.0 self.old.taken)) self.old.learnt) }
     {
-        let (port, event) = steps::take(&rt, &lane.queue, &mut self.pass)?;
+        let taken = next(&rt, lane, &mut self.looker, &mut self.buffer);
+        self.looker.is_lawful();
+        let (port, event) = taken?;
         mark_ended(&mut self.ended, port, event.is_last());
         Some((port, event))
     }
@@ -59,8 +67,7 @@ impl<E: Stream> Taker<E> {
         requires note { note.lane ≡ lane.now.id }
         ensures { self.new ≡ after_learn self.old note }
     {
-        let PutNote { number: _, pass } = note;
-        steps::learn(&lane.queue, &mut self.pass, pass);
+        self.looker.learn(lane, note);
     }
 
     /// Whether the last event of this port was taken. It takes no memory, and is false for a port that is not there.

@@ -259,6 +259,37 @@ fn the_lane_of_a_timer_service(rt: HostRuntime) -> Result<(), Fail> {
     );
     assert!(rt; taker.ended(0));
     assert!(rt; !taker.ended(1) && !taker.ended(2) && !taker.ended(3));
+    Ok(())
+}
+
+#[test]
+fn events_that_wait_come_in_order(rt: HostRuntime) -> Result<(), Fail> {
+    let bounds = Bounds {
+        topics: 0,
+        queues: 0,
+    };
+    let (lane, mut ports, mut taker) = open_lane::<ToTimers<ObjectId>, HostRuntime>(
+        rt,
+        rt.alloc(),
+        1,
+        bounds,
+    )?;
+    put_one(rt, &lane, &mut ports[0], ToTimers::Now { moment: 1 })?;
+    put_one(rt, &lane, &mut ports[0], ToTimers::Now { moment: 2 })?;
+    put_one(rt, &lane, &mut ports[0], ToTimers::Now { moment: 3 })?;
+    assert_eq!(rt;
+        take_one(rt, &lane, &mut taker)?,
+        (0, TimersNote::Now { moment: 1 })
+    );
+    assert_eq!(rt;
+        take_one(rt, &lane, &mut taker)?,
+        (0, TimersNote::Now { moment: 2 })
+    );
+    assert_eq!(rt;
+        take_one(rt, &lane, &mut taker)?,
+        (0, TimersNote::Now { moment: 3 })
+    );
+    assert!(rt; taker.take(rt, &lane).is_none());
     close_lane(rt, lane, ports, taker);
     Ok(())
 }

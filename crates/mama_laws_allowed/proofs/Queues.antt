@@ -53,6 +53,8 @@ fin_is_last : (port : ℕ) (n : QueueNote) → is_fin (port, n) ≡ queue.is_las
 fin_is_last port (q.Create slot object make tag) = refl
 fin_is_last port (q.Deliver slot sub msg) = refl
 fin_is_last port (q.Reply slot inbox body) = refl
+fin_is_last port (q.Bad slot sub kind sender seq bytes) = refl
+fin_is_last port (q.BadReply slot inbox bytes) = refl
 fin_is_last port (q.Tick slot timer moment) = refl
 fin_is_last port (q.Gone slot object) = refl
 fin_is_last port q.Fin = refl

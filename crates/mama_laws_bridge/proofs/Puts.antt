@@ -1,7 +1,7 @@
 -- Of what is put, only a Create places an object, and only a forwarded wish counts as one.
 use Rattle.std.specs.Prelude.{position}
 use Rattle.std.specs.List.{flat_map}
-use Rattle.std.proofs.Common.{◌≡◌, ℕ, ◌+◌, ◌==◌, Bool, true, false, cond, List, [], ◌∷◌, ◌++◌, length, map, Option, None, Some, refl}
+use Rattle.std.proofs.Common.{◌≡◌, ℕ, ◌==◌, Bool, true, false, cond, List, [], ◌∷◌, ◌++◌, map, Option, None, Some, Ok, Err, refl}
 use Rattle.mama_msg.specs.Field.{FieldData}
 use Rattle.mama_journal.specs.Journal.{count_of, first_said, numbers_below}
 use Rattle.mama_event.specs.declared.ids.SubId.{SubId}
@@ -17,8 +17,11 @@ use Rattle.mama_event.specs.declared.to_publisher.PublisherNote.TheVariants as p
 use Rattle.mama_event.specs.declared.to_timers.TimersNote.TheVariants as t
 use Rattle.mama_event.specs.declared.to_queue.QueueNote.TheVariants as q
 use Rattle.mama_event.specs.Ports.{publishers_of, queues_of}
-use Rattle.mama_link.specs.Link.{emit, rest}
-use Rattle.mama_rules_services.specs.Bridge.{BridgeEvent, BridgePut, to_publisher, to_queue, to_timers, created_in, to_found, to_first, wants_image, is_recap_want}
+use Rattle.mama_link.specs.Link.{rest}
+use Rattle.mama_event.specs.Wire.{Arrival, ReplyArrival, arriving, answering, cut_arrival, cut_reply}
+use Rattle.mama_event.specs.ToQueue.{delivered_note, replied_note}
+use Rattle.mama_event.specs.declared.ids.InboxId.{InboxId}
+use Rattle.mama_rules_services.specs.Bridge.{BridgeEvent, BridgePut, to_publisher, to_queue, to_timers, created_in, to_found, to_first, wants_image, passed_on, is_recap_want}
 use Rattle.mama_laws_bridge.specs.Table.{SubRow, InboxRow, Table, begins_settling, begins_ending, sub_delivered, inbox_replied, sub_emits, inbox_emits, sub_ends, inbox_ends, settles_all, ends_all, closing}
 use Rattle.mama_laws_bridge.proofs.Lists.{Each, each_all, each_append, each_map, each_flat_map}
 
@@ -37,6 +40,8 @@ no_place o (to_timers note) h = refl
 no_place o (to_queue k (q.Create slot object made tag)) h = cc
 no_place o (to_queue k (q.Deliver slot s m)) h = refl
 no_place o (to_queue k (q.Reply slot i body)) h = refl
+no_place o (to_queue k (q.Bad slot s kind sender seq bytes)) h = refl
+no_place o (to_queue k (q.BadReply slot i bytes)) h = refl
 no_place o (to_queue k (q.Tick slot timer moment)) h = refl
 no_place o (to_queue k (q.Gone slot object)) h = refl
 no_place o (to_queue k q.Fin) h = refl
@@ -59,29 +64,39 @@ pub plain_wishes : (s : SubId) (puts : List BridgePut) → Plain puts → count_
 plain_wishes s [] h = refl
 plain_wishes s (x ∷ xs) h = let here = no_wish s x h.0 in rw here (plain_wishes s xs h.1)
 
-plain_delivered : (row : SubRow) (msgs : List MarketMsg) → Plain (sub_delivered row msgs)
-plain_delivered row msgs =
-    each_map (λ (x : BridgePut). plain x ≡ true) (λ (m : MarketMsg). to_queue row.terms.queue (q.Deliver row.slot row.sub m)) msgs (each_all (λ (m : MarketMsg). true ≡ true) msgs (λ m. refl))
+plain_arrival : (queue slot : ℕ) (s : SubId) (a : Arrival) → plain (to_queue queue (delivered_note slot s a)) ≡ true
+plain_arrival queue slot s (Ok m) = refl
+plain_arrival queue slot s (Err piece) = refl
 
-plain_replied : (row : InboxRow) (bodies : List (List FieldData)) → Plain (inbox_replied row bodies)
-plain_replied row bodies =
-    each_map (λ (x : BridgePut). plain x ≡ true) (λ (body : List FieldData). to_queue row.terms.queue (q.Reply row.slot row.inbox body)) bodies (each_all (λ (body : List FieldData). true ≡ true) bodies (λ m. refl))
+plain_answer : (queue slot : ℕ) (i : InboxId) (a : ReplyArrival) → plain (to_queue queue (replied_note slot i a)) ≡ true
+plain_answer queue slot i (Ok body) = refl
+plain_answer queue slot i (Err bytes) = refl
+
+plain_delivered : (row : SubRow) (arrivals : List Arrival) → Plain (sub_delivered row arrivals)
+plain_delivered row arrivals =
+    each_map (λ (x : BridgePut). plain x ≡ true) (λ (a : Arrival). to_queue row.terms.queue (delivered_note row.slot row.sub a)) arrivals
+    (each_all (λ (a : Arrival). plain (to_queue row.terms.queue (delivered_note row.slot row.sub a)) ≡ true) arrivals (plain_arrival row.terms.queue row.slot row.sub))
+
+plain_replied : (row : InboxRow) (arrivals : List ReplyArrival) → Plain (inbox_replied row arrivals)
+plain_replied row arrivals =
+    each_map (λ (x : BridgePut). plain x ≡ true) (λ (a : ReplyArrival). to_queue row.terms.queue (replied_note row.slot row.inbox a)) arrivals
+    (each_all (λ (a : ReplyArrival). plain (to_queue row.terms.queue (replied_note row.slot row.inbox a)) ≡ true) arrivals (plain_answer row.terms.queue row.slot row.inbox))
 
 plain_sub_end : (row : SubRow) → Plain (sub_ends row)
 plain_sub_end row =
-    each_append (λ (x : BridgePut). plain x ≡ true) (sub_delivered row (rest row.terms.faults row.sent)) (to_queue row.terms.queue (q.Gone row.slot (Sub row.sub)) ∷ [])
-    (plain_delivered row (rest row.terms.faults row.sent)) (refl, tt)
+    each_append (λ (x : BridgePut). plain x ≡ true) (sub_delivered row (rest row.terms.faults (arriving row.sent))) (to_queue row.terms.queue (q.Gone row.slot (Sub row.sub)) ∷ [])
+    (plain_delivered row (rest row.terms.faults (arriving row.sent))) (refl, tt)
 
 plain_inbox_end : (row : InboxRow) → Plain (inbox_ends row)
 plain_inbox_end row =
-    each_append (λ (x : BridgePut). plain x ≡ true) (inbox_replied row (rest row.terms.faults row.sent)) (to_queue row.terms.queue (q.Gone row.slot (Inbox row.inbox)) ∷ [])
-    (plain_replied row (rest row.terms.faults row.sent)) (refl, tt)
+    each_append (λ (x : BridgePut). plain x ≡ true) (inbox_replied row (rest row.terms.faults (answering row.sent))) (to_queue row.terms.queue (q.Gone row.slot (Inbox row.inbox)) ∷ [])
+    (plain_replied row (rest row.terms.faults (answering row.sent))) (refl, tt)
 
 pub plain_sub_emits : (m : MarketMsg) (rows : List SubRow) → Plain (flat_map (sub_emits m) rows)
-plain_sub_emits m rows = each_flat_map (λ (x : BridgePut). plain x ≡ true) (sub_emits m) rows (λ row. plain_delivered row (emit row.terms.faults (row.sent ++ m ∷ []) (length row.sent + 1)))
+plain_sub_emits m rows = each_flat_map (λ (x : BridgePut). plain x ≡ true) (sub_emits m) rows (λ row. plain_delivered row (passed_on cut_arrival row.terms.faults (arriving row.sent) (arriving (m ∷ []))))
 
 pub plain_inbox_emits : (body : List FieldData) (rows : List InboxRow) → Plain (flat_map (inbox_emits body) rows)
-plain_inbox_emits body rows = each_flat_map (λ (x : BridgePut). plain x ≡ true) (inbox_emits body) rows (λ row. plain_replied row (emit row.terms.faults (row.sent ++ body ∷ []) (length row.sent + 1)))
+plain_inbox_emits body rows = each_flat_map (λ (x : BridgePut). plain x ≡ true) (inbox_emits body) rows (λ row. plain_replied row (passed_on cut_reply row.terms.faults (answering row.sent) (answering (body ∷ []))))
 
 pub plain_sub_ends : (rows : List SubRow) → Plain (flat_map sub_ends rows)
 plain_sub_ends rows = each_flat_map (λ (x : BridgePut). plain x ≡ true) sub_ends rows plain_sub_end

@@ -20,6 +20,8 @@ use Rattle.mama_event.specs.declared.to_timers.TimersNote.TheVariants as t
 use Rattle.mama_event.specs.declared.to_queue.QueueNote.TheVariants as q
 use Rattle.mama_event.specs.Ports.{publishers_of, queues_of}
 use Rattle.mama_event.specs.Object.{same_sub, same_inbox}
+use Rattle.mama_event.specs.Wire.{Arrival, ReplyArrival, arriving, answering, cut_arrival, cut_reply}
+use Rattle.mama_event.specs.ToQueue.{delivered_note, replied_note}
 use Rattle.mama_rules_services.specs.Bridge.{BridgeEvent, joins, leaves, opens, closes, asks, publishes, images, replies, wishes, client_done, sends_done, settled, bye, no_event, terms_in, joins_sub, opens_inbox, leaves_sub, closes_inbox, is_settling, has_ending, is_live, is_open, newly_joined, newly_opened, live_subs, open_inboxes, window, reply_window, sent_with, sent_to, replied_to, faults_of, inbox_faults_of, BridgePut, to_publisher, to_queue, to_timers, place_of, to_place, slot_on, live_objects, free_slot, delivered, replied, passed, passed_reply, passed_on, ended, ended_inbox, gone, is_recap_want, may_wish, answer, settle_begins, ending_comes, bridge_reaction}
 use Rattle.mama_laws_bridge.specs.Table.{SubRow, InboxRow, Table, table_next, of_sub, of_inbox, settling_now, ended_now, begins_settling, begins_ending, sub_slots, inbox_slots, slot_for, is_on_topic_of, sub_delivered, inbox_replied, sub_emits, inbox_emits, sub_ends, inbox_ends, sub_wishes, settles_all, ends_all, closing, table_puts}
 use Rattle.mama_laws_bridge.proofs.Lists.{Each, each_weaker, flat_map_each, flat_map-map}
@@ -29,49 +31,49 @@ use Rattle.mama_laws_bridge.proofs.Ties.{SubTells, InboxTells, Ties, sub_made, i
 
 -- ---- what is put for one row
 
-delivered_at : (s : SubId) (msgs : List MarketMsg) (place : Option (ℕ × ℕ)) (queue slot : ℕ) → place ≡ Some (queue, slot)
-    → flat_map (λ m. to_place place (λ n. q.Deliver n s m)) msgs ≡ map (λ m. to_queue queue (q.Deliver slot s m)) msgs
-delivered_at s msgs place queue slot h =
-    ap (λ (pl : Option (ℕ × ℕ)). flat_map (λ m. to_place pl (λ n. q.Deliver n s m)) msgs) h
-    ∙ flat_map_single (λ m. to_queue queue (q.Deliver slot s m)) msgs
+delivered_at : (s : SubId) (arrivals : List Arrival) (place : Option (ℕ × ℕ)) (queue slot : ℕ) → place ≡ Some (queue, slot)
+    → flat_map (λ a. to_place place (λ n. delivered_note n s a)) arrivals ≡ map (λ a. to_queue queue (delivered_note slot s a)) arrivals
+delivered_at s arrivals place queue slot h =
+    ap (λ (pl : Option (ℕ × ℕ)). flat_map (λ a. to_place pl (λ n. delivered_note n s a)) arrivals) h
+    ∙ flat_map_single (λ a. to_queue queue (delivered_note slot s a)) arrivals
 
-replied_at : (i : InboxId) (bodies : List (List FieldData)) (place : Option (ℕ × ℕ)) (queue slot : ℕ) → place ≡ Some (queue, slot)
-    → flat_map (λ body. to_place place (λ n. q.Reply n i body)) bodies ≡ map (λ body. to_queue queue (q.Reply slot i body)) bodies
-replied_at i bodies place queue slot h =
-    ap (λ (pl : Option (ℕ × ℕ)). flat_map (λ body. to_place pl (λ n. q.Reply n i body)) bodies) h
-    ∙ flat_map_single (λ body. to_queue queue (q.Reply slot i body)) bodies
+replied_at : (i : InboxId) (arrivals : List ReplyArrival) (place : Option (ℕ × ℕ)) (queue slot : ℕ) → place ≡ Some (queue, slot)
+    → flat_map (λ a. to_place place (λ n. replied_note n i a)) arrivals ≡ map (λ a. to_queue queue (replied_note slot i a)) arrivals
+replied_at i arrivals place queue slot h =
+    ap (λ (pl : Option (ℕ × ℕ)). flat_map (λ a. to_place pl (λ n. replied_note n i a)) arrivals) h
+    ∙ flat_map_single (λ a. to_queue queue (replied_note slot i a)) arrivals
 
 gone_at : (o : ObjectId) (place : Option (ℕ × ℕ)) (queue slot : ℕ) → place ≡ Some (queue, slot) → to_place place (λ n. q.Gone n o) ≡ to_queue queue (q.Gone slot o) ∷ []
 gone_at o place queue slot h = rw h refl
 
 sub_ended : (shape : Shape) (es : List BridgeEvent) (sofar : List BridgePut) (row : SubRow) → SubTells shape es sofar row → sub_ends row ≡ ended shape es sofar row.sub
 sub_ended shape es sofar row h = sym (
-    ap (λ (o : Option SubTerms). delivered row.sub sofar (rest (faults_of o) (window shape row.sub es)) ++ gone (Sub row.sub) sofar) h.terms
-    ∙ ap (λ (x : List MarketMsg). delivered row.sub sofar (rest row.terms.faults x) ++ gone (Sub row.sub) sofar) h.sent
-    ∙ ap (λ (ys : List BridgePut). ys ++ gone (Sub row.sub) sofar) (delivered_at row.sub (rest row.terms.faults row.sent) (place_of (Sub row.sub) sofar) row.terms.queue row.slot h.place)
-    ∙ ap (λ (ys : List BridgePut). sub_delivered row (rest row.terms.faults row.sent) ++ ys) (gone_at (Sub row.sub) (place_of (Sub row.sub) sofar) row.terms.queue row.slot h.place))
+    ap (λ (o : Option SubTerms). delivered row.sub sofar (rest (faults_of o) (arriving (window shape row.sub es))) ++ gone (Sub row.sub) sofar) h.terms
+    ∙ ap (λ (x : List MarketMsg). delivered row.sub sofar (rest row.terms.faults (arriving x)) ++ gone (Sub row.sub) sofar) h.sent
+    ∙ ap (λ (ys : List BridgePut). ys ++ gone (Sub row.sub) sofar) (delivered_at row.sub (rest row.terms.faults (arriving row.sent)) (place_of (Sub row.sub) sofar) row.terms.queue row.slot h.place)
+    ∙ ap (λ (ys : List BridgePut). sub_delivered row (rest row.terms.faults (arriving row.sent)) ++ ys) (gone_at (Sub row.sub) (place_of (Sub row.sub) sofar) row.terms.queue row.slot h.place))
 
 inbox_ended : (shape : Shape) (es : List BridgeEvent) (sofar : List BridgePut) (row : InboxRow) → InboxTells shape es sofar row → inbox_ends row ≡ ended_inbox shape es sofar row.inbox
 inbox_ended shape es sofar row h = sym (
-    ap (λ (o : Option InboxTerms). replied row.inbox sofar (rest (inbox_faults_of o) (reply_window shape row.inbox es)) ++ gone (Inbox row.inbox) sofar) h.terms
-    ∙ ap (λ (x : List (List FieldData)). replied row.inbox sofar (rest row.terms.faults x) ++ gone (Inbox row.inbox) sofar) h.sent
-    ∙ ap (λ (ys : List BridgePut). ys ++ gone (Inbox row.inbox) sofar) (replied_at row.inbox (rest row.terms.faults row.sent) (place_of (Inbox row.inbox) sofar) row.terms.queue row.slot h.place)
-    ∙ ap (λ (ys : List BridgePut). inbox_replied row (rest row.terms.faults row.sent) ++ ys) (gone_at (Inbox row.inbox) (place_of (Inbox row.inbox) sofar) row.terms.queue row.slot h.place))
+    ap (λ (o : Option InboxTerms). replied row.inbox sofar (rest (inbox_faults_of o) (answering (reply_window shape row.inbox es))) ++ gone (Inbox row.inbox) sofar) h.terms
+    ∙ ap (λ (x : List (List FieldData)). replied row.inbox sofar (rest row.terms.faults (answering x)) ++ gone (Inbox row.inbox) sofar) h.sent
+    ∙ ap (λ (ys : List BridgePut). ys ++ gone (Inbox row.inbox) sofar) (replied_at row.inbox (rest row.terms.faults (answering row.sent)) (place_of (Inbox row.inbox) sofar) row.terms.queue row.slot h.place)
+    ∙ ap (λ (ys : List BridgePut). inbox_replied row (rest row.terms.faults (answering row.sent)) ++ ys) (gone_at (Inbox row.inbox) (place_of (Inbox row.inbox) sofar) row.terms.queue row.slot h.place))
 
 -- what goes into a row's link
 sub_sent : (shape : Shape) (es : List BridgeEvent) (sofar : List BridgePut) (row : SubRow) (e : BridgeEvent) → SubTells shape es sofar row
-    → passed shape es sofar e row.sub ≡ sub_delivered row (passed_on row.terms.faults row.sent (sent_to shape row.sub row.terms.topic e))
+    → passed shape es sofar e row.sub ≡ sub_delivered row (passed_on cut_arrival row.terms.faults (arriving row.sent) (arriving (sent_to shape row.sub row.terms.topic e)))
 sub_sent shape es sofar row e h =
-    ap (λ (o : Option SubTerms). delivered row.sub sofar (passed_on (faults_of o) (window shape row.sub es) (sent_with shape row.sub o e))) h.terms
-    ∙ ap (λ (x : List MarketMsg). delivered row.sub sofar (passed_on row.terms.faults x (sent_to shape row.sub row.terms.topic e))) h.sent
-    ∙ delivered_at row.sub (passed_on row.terms.faults row.sent (sent_to shape row.sub row.terms.topic e)) (place_of (Sub row.sub) sofar) row.terms.queue row.slot h.place
+    ap (λ (o : Option SubTerms). delivered row.sub sofar (passed_on cut_arrival (faults_of o) (arriving (window shape row.sub es)) (arriving (sent_with shape row.sub o e)))) h.terms
+    ∙ ap (λ (x : List MarketMsg). delivered row.sub sofar (passed_on cut_arrival row.terms.faults (arriving x) (arriving (sent_to shape row.sub row.terms.topic e)))) h.sent
+    ∙ delivered_at row.sub (passed_on cut_arrival row.terms.faults (arriving row.sent) (arriving (sent_to shape row.sub row.terms.topic e))) (place_of (Sub row.sub) sofar) row.terms.queue row.slot h.place
 
 inbox_sent : (shape : Shape) (es : List BridgeEvent) (sofar : List BridgePut) (row : InboxRow) (e : BridgeEvent) → InboxTells shape es sofar row
-    → passed_reply shape es sofar e row.inbox ≡ inbox_replied row (passed_on row.terms.faults row.sent (replied_to row.inbox e))
+    → passed_reply shape es sofar e row.inbox ≡ inbox_replied row (passed_on cut_reply row.terms.faults (answering row.sent) (answering (replied_to row.inbox e)))
 inbox_sent shape es sofar row e h =
-    ap (λ (o : Option InboxTerms). replied row.inbox sofar (passed_on (inbox_faults_of o) (reply_window shape row.inbox es) (replied_to row.inbox e))) h.terms
-    ∙ ap (λ (x : List (List FieldData)). replied row.inbox sofar (passed_on row.terms.faults x (replied_to row.inbox e))) h.sent
-    ∙ replied_at row.inbox (passed_on row.terms.faults row.sent (replied_to row.inbox e)) (place_of (Inbox row.inbox) sofar) row.terms.queue row.slot h.place
+    ap (λ (o : Option InboxTerms). replied row.inbox sofar (passed_on cut_reply (inbox_faults_of o) (answering (reply_window shape row.inbox es)) (answering (replied_to row.inbox e)))) h.terms
+    ∙ ap (λ (x : List (List FieldData)). replied row.inbox sofar (passed_on cut_reply row.terms.faults (answering x) (answering (replied_to row.inbox e)))) h.sent
+    ∙ replied_at row.inbox (passed_on cut_reply row.terms.faults (answering row.sent) (answering (replied_to row.inbox e))) (place_of (Inbox row.inbox) sofar) row.terms.queue row.slot h.place
 
 -- ---- lists of rows
 
@@ -183,7 +185,7 @@ module _ (shape : Shape) (es : List BridgeEvent) (sofar : List BridgePut) (table
   each_inbox : (f : InboxRow → List BridgePut) (g : InboxId → List BridgePut) → ((row : InboxRow) → InboxTells shape es sofar row → f row ≡ g row.inbox) → Each (λ row. f row ≡ g row.inbox) table.inboxes
   each_inbox f g h = each_weaker (InboxTells shape es sofar) (λ (row : InboxRow). f row ≡ g row.inbox) table.inboxes h ties.inbox_rows
 
-  emits_by : (row : SubRow) (m : MarketMsg) (b : Bool) → sub_delivered row (passed_on row.terms.faults row.sent (cond b (m ∷ []) [])) ≡ cond b (sub_emits m row) []
+  emits_by : (row : SubRow) (m : MarketMsg) (b : Bool) → sub_delivered row (passed_on cut_arrival row.terms.faults (arriving row.sent) (arriving (cond b (m ∷ []) []))) ≡ cond b (sub_emits m row) []
   emits_by row m true = refl
   emits_by row m false = refl
 

@@ -1,10 +1,10 @@
 -- believed: What a bridge keeps, as a second definition over what it heard: a row for each live subscription and for each open
 -- inbox, in order, which ids were there before, and who is done. What it puts is told by the rows alone.
-use Rattle.std.specs.Prelude.{ℕ, suc, ◌+◌, ◌-◌, Bool, true, false, not, ◌&&◌, ◌==◌, nat_lt, nat_le, List, [], ◌∷◌, ◌++◌, length, map, filter, Option, None, Some, slice_index, slice_set, replicate, if◌then◌else◌}
+use Rattle.std.specs.Prelude.{ℕ, suc, ◌-◌, Bool, true, false, not, ◌&&◌, ◌==◌, nat_lt, nat_le, List, [], ◌∷◌, ◌++◌, map, filter, Option, None, Some, slice_index, slice_set, replicate, if◌then◌else◌}
 use Rattle.std.specs.List.{list_any, list_all, flat_map}
 use Rattle.mama_msg.specs.Field.{FieldData}
 use Rattle.mama_journal.specs.Journal.{numbers_below, least_free}
-use Rattle.mama_link.specs.Link.{emit, rest}
+use Rattle.mama_link.specs.Link.{rest}
 use Rattle.mama_event.specs.declared.ids.SubId.{SubId}
 use Rattle.mama_event.specs.declared.ids.InboxId.{InboxId}
 use Rattle.mama_event.specs.declared.ids.ObjectId.TheVariants.{Sub, Inbox}
@@ -19,7 +19,9 @@ use Rattle.mama_event.specs.declared.to_timers.TimersNote.TheVariants as t
 use Rattle.mama_event.specs.declared.to_queue.QueueNote.TheVariants as q
 use Rattle.mama_event.specs.Ports.{clients_of, publishers_of, queues_of}
 use Rattle.mama_event.specs.Object.{same_sub, same_inbox}
-use Rattle.mama_rules_services.specs.Bridge.{BridgeEvent, joins, leaves, opens, closes, asks, publishes, images, replies, wishes, client_done, sends_done, settled, bye, BridgePut, to_publisher, to_queue, to_timers, slot_on, to_first, wants_image}
+use Rattle.mama_event.specs.Wire.{Arrival, ReplyArrival, arriving, answering, cut_arrival, cut_reply}
+use Rattle.mama_event.specs.ToQueue.{delivered_note, replied_note}
+use Rattle.mama_rules_services.specs.Bridge.{BridgeEvent, joins, leaves, opens, closes, asks, publishes, images, replies, wishes, client_done, sends_done, settled, bye, BridgePut, to_publisher, to_queue, to_timers, slot_on, to_first, wants_image, passed_on}
 
 -- a live subscription: on what terms, in which slot, how many of its recap wishes were forwarded, and what went into its link
 pub record SubRow : Type 0 where
@@ -156,25 +158,25 @@ sub_wished row = record row { wished = suc row.wished }
 
 -- WHAT THE ROWS PUT
 
-abbrev pub sub_delivered : SubRow → List MarketMsg → List BridgePut
-sub_delivered row msgs = map (λ (m : MarketMsg). to_queue row.terms.queue (q.Deliver row.slot row.sub m)) msgs
+abbrev pub sub_delivered : SubRow → List Arrival → List BridgePut
+sub_delivered row arrivals = map (λ (a : Arrival). to_queue row.terms.queue (delivered_note row.slot row.sub a)) arrivals
 
-abbrev pub inbox_replied : InboxRow → List (List FieldData) → List BridgePut
-inbox_replied row bodies = map (λ (body : List FieldData). to_queue row.terms.queue (q.Reply row.slot row.inbox body)) bodies
+abbrev pub inbox_replied : InboxRow → List ReplyArrival → List BridgePut
+inbox_replied row arrivals = map (λ (a : ReplyArrival). to_queue row.terms.queue (replied_note row.slot row.inbox a)) arrivals
 
 -- what comes out of a row's link where a message goes in
 abbrev pub sub_emits : MarketMsg → SubRow → List BridgePut
-sub_emits m row = sub_delivered row (emit row.terms.faults (row.sent ++ m ∷ []) (length row.sent + 1))
+sub_emits m row = sub_delivered row (passed_on cut_arrival row.terms.faults (arriving row.sent) (arriving (m ∷ [])))
 
 abbrev pub inbox_emits : List FieldData → InboxRow → List BridgePut
-inbox_emits body row = inbox_replied row (emit row.terms.faults (row.sent ++ body ∷ []) (length row.sent + 1))
+inbox_emits body row = inbox_replied row (passed_on cut_reply row.terms.faults (answering row.sent) (answering (body ∷ [])))
 
 -- the end of a row: what its link holds, and then its notice
 abbrev pub sub_ends : SubRow → List BridgePut
-sub_ends row = sub_delivered row (rest row.terms.faults row.sent) ++ to_queue row.terms.queue (q.Gone row.slot (Sub row.sub)) ∷ []
+sub_ends row = sub_delivered row (rest row.terms.faults (arriving row.sent)) ++ to_queue row.terms.queue (q.Gone row.slot (Sub row.sub)) ∷ []
 
 abbrev pub inbox_ends : InboxRow → List BridgePut
-inbox_ends row = inbox_replied row (rest row.terms.faults row.sent) ++ to_queue row.terms.queue (q.Gone row.slot (Inbox row.inbox)) ∷ []
+inbox_ends row = inbox_replied row (rest row.terms.faults (answering row.sent)) ++ to_queue row.terms.queue (q.Gone row.slot (Inbox row.inbox)) ∷ []
 
 abbrev pub sub_wishes : Shape → Bool → ℕ → SubRow → List BridgePut
 sub_wishes shape settling sender row = if may_ask shape settling sender row then to_publisher (sender - 1) (p.Want row.sub Recap) ∷ [] else []

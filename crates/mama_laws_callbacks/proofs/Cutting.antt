@@ -7,6 +7,7 @@ use Rattle.std.proofs.lemmas.List.{map-append}
 use Rattle.std.proofs.lemmas.List.Concat.{flat_map-append}
 use Rattle.std.proofs.lemmas.Bool.{and_from, both_ways}
 use Rattle.mama_journal.specs.Journal.{puts_so_far, first_said}
+use Rattle.mama_event.specs.Wire.{code_of}
 use Rattle.mama_event.specs.Object.{same_object}
 use Rattle.mama_event.specs.declared.ids.ObjectId.{ObjectId}
 use Rattle.mama_event.specs.declared.ids.ObjectId.TheVariants.{Sub, Timer, Inbox}
@@ -74,6 +75,8 @@ module _ (orders : ObjectId → ℕ → List Order) (o : ObjectId) where
           | false ↦ none_told (Sub sub) (sofar ++ handled sub msg ∷ []) calls other
         ]
     other_told (q.Reply slot inbox body) other = none_told (Inbox inbox) sofar (on.Reply body ∷ []) other
+    other_told (q.Bad slot sub kind sender seq bytes) other = none_told (Sub sub) sofar (on.Error (code_of bytes) ∷ []) other
+    other_told (q.BadReply slot inbox bytes) other = none_told (Inbox inbox) sofar (on.Error (code_of bytes) ∷ []) other
     other_told (q.Tick slot timer moment) other = none_told (Timer timer) sofar (on.Tick moment ∷ []) other
     other_told (q.Gone slot object) other = none_told object sofar (on.Destroy ∷ []) other
     other_told q.Fin other = refl
@@ -82,6 +85,8 @@ module _ (orders : ObjectId → ℕ → List Order) (o : ObjectId) where
   other_make (q.Create slot object make tag) other = ap (λ (b : Bool). if b then Some make else None) other
   other_make (q.Deliver slot sub msg) other = refl
   other_make (q.Reply slot inbox body) other = refl
+  other_make (q.Bad slot sub kind sender seq bytes) other = refl
+  other_make (q.BadReply slot inbox bytes) other = refl
   other_make (q.Tick slot timer moment) other = refl
   other_make (q.Gone slot object) other = refl
   other_make q.Fin other = refl
@@ -333,12 +338,12 @@ module _ (orders : ObjectId → ℕ → List Order) (o : ObjectId) where
   }
 
   -- one callback, be it muted or not
-  pub live_one : (Known : List Deed → Type 0) (whole : List Callback) (c : Callback) (sofar : List Deed) → ((ds : List Deed) → Known ds) → is_plain c ≡ true
-      → Live Known whole sofar → Live Known (whole ++ c ∷ []) (sofar ++ made orders o sofar (c ∷ []))
-  live_one Known whole c sofar always plain live = ⊎_elim
-      (λ h. live_open Known Known whole (c ∷ []) sofar sofar live h.0 refl h.1.0 (and_from (is_plain c) true plain refl) (always (sofar ++ made orders o sofar (c ∷ []))))
-      (λ h. subst (λ (ds : List Deed). Live Known (whole ++ c ∷ []) (sofar ++ ds)) (sym (muted_made sofar (c ∷ []) h.1 (and_from (is_plain c) true plain refl)))
-      (subst (Live Known (whole ++ c ∷ [])) (sym (append-nil sofar)) (live_muted Known Known whole (c ∷ []) sofar live h.0 h.1)))
+  pub live_one : (Known Next : List Deed → Type 0) (whole : List Callback) (c : Callback) (sofar : List Deed) → (Known sofar → Next (sofar ++ made orders o sofar (c ∷ []))) → is_plain c ≡ true
+      → Live Known whole sofar → Live Next (whole ++ c ∷ []) (sofar ++ made orders o sofar (c ∷ []))
+  live_one Known Next whole c sofar next plain live = ⊎_elim
+      (λ h. live_open Known Next whole (c ∷ []) sofar sofar live h.0 refl h.1.0 (and_from (is_plain c) true plain refl) (next h.1.1))
+      (λ h. subst (λ (ds : List Deed). Live Next (whole ++ c ∷ []) (sofar ++ ds)) (sym (muted_made sofar (c ∷ []) h.1 (and_from (is_plain c) true plain refl)))
+      (subst (Live Next (whole ++ c ∷ [])) (sym (append-nil sofar)) (live_muted Known Next whole (c ∷ []) sofar live h.0 h.1)))
       live.stands
 
   -- ---- its notices

@@ -5,6 +5,7 @@ use Rattle.std.proofs.Common.{◌≡◌, ℕ, ◌+◌, ◌<◌, List, [], ◌∷
 use Rattle.mama_journal.specs.Journal.{first_said}
 use Rattle.mama_link.specs.Link.{through}
 use Rattle.mama_msg.specs.Field.{FieldData}
+use Rattle.mama_event.specs.Wire.{arriving, answering, cut_arrival, cut_reply}
 use Rattle.mama_event.specs.declared.ids.SubId.{SubId}
 use Rattle.mama_event.specs.declared.ids.TimerId.{TimerId}
 use Rattle.mama_event.specs.declared.ids.InboxId.{InboxId}
@@ -81,8 +82,8 @@ module _ (script : ScriptData) (run : RunData) (orderly : IsOrderly script) (leg
         terms = terms;
         joined = said;
         there = of.made.there;
-        told = subst (IsTold (Sub s) (tells script.shape.strategy terms.kind terms.cache (through terms.faults (window_of s))) (deeds_on script run queue)) (sym (calls_noted (notes_of queue (Sub s))))
-            (sub_told (orders_by (setting_of script)) s script.shape.strategy terms.kind terms.cache stream.slot stream.tag (through terms.faults (window_of s)) (journal queue) stream.whole);
+        told = subst (IsTold (Sub s) (tells script.shape.strategy terms.kind terms.cache (through cut_arrival terms.faults (arriving (window_of s)))) (deeds_on script run queue)) (sym (calls_noted (notes_of queue (Sub s))))
+            (sub_told (orders_by (setting_of script)) s script.shape.strategy terms.kind terms.cache stream.slot stream.tag (through cut_arrival terms.faults (arriving (window_of s))) (journal queue) stream.whole);
         at_once = sub_at_once (orders_by (setting_of script)) s script.shape.strategy terms.kind terms.cache (journal queue);
       }
 
@@ -112,8 +113,8 @@ module _ (script : ScriptData) (run : RunData) (orderly : IsOrderly script) (leg
         terms = terms;
         opened = said;
         there = of.made.there;
-        told = subst (IsTold (Inbox i) (replies_told (through terms.faults (replies_of i))) (deeds_on script run queue)) (sym (calls_noted (notes_of queue (Inbox i))))
-            (inbox_told (orders_by (setting_of script)) i stream.slot stream.tag (through terms.faults (replies_of i)) (journal queue) stream.whole);
+        told = subst (IsTold (Inbox i) (replies_told (through cut_reply terms.faults (answering (replies_of i)))) (deeds_on script run queue)) (sym (calls_noted (notes_of queue (Inbox i))))
+            (inbox_told (orders_by (setting_of script)) i stream.slot stream.tag (through cut_reply terms.faults (answering (replies_of i))) (journal queue) stream.whole);
         at_once = inbox_at_once (orders_by (setting_of script)) i (journal queue);
       }
 

@@ -1,11 +1,12 @@
 -- What a queue tells a subscription, a timer and an inbox, by the events that its journal has of it.
-use Rattle.std.specs.Prelude.{if◌then◌else◌, Option, Some}
-use Rattle.std.specs.List.{flat_map}
+use Rattle.std.specs.Prelude.{if◌then◌else◌, Option, Some, Ok, Err}
 use Rattle.std.proofs.Common.{◌≡◌, ⊎_elim, ℕ, Bool, true, false, List, [], ◌∷◌, ◌++◌, map, refl, sym, ◌∙◌, ap, subst, append_assoc, append-nil}
 use Rattle.std.proofs.lemmas.List.{map-append}
 use Rattle.std.proofs.lemmas.List.Concat.{flat_map-append}
 use Rattle.mama_journal.specs.Journal.{first_said}
-use Rattle.mama_msg.specs.Field.{FieldData}
+use Rattle.mama_event.specs.Wire.{Arrival, ReplyArrival, code_of}
+use Rattle.mama_event.specs.ToQueue.{delivered_note, replied_note}
+use Rattle.mama_event.specs.declared.wire.PieceMsg.{PieceMsg}
 use Rattle.mama_event.specs.declared.ids.SubId.{SubId}
 use Rattle.mama_event.specs.declared.ids.TimerId.{TimerId}
 use Rattle.mama_event.specs.declared.ids.InboxId.{InboxId}
@@ -22,27 +23,37 @@ use Rattle.mama_event.specs.declared.to_queue.Make.TheVariants as make
 use Rattle.mama_event.specs.declared.to_queue.QueueNote.{QueueNote}
 use Rattle.mama_event.specs.declared.to_queue.QueueNote.TheVariants as q
 use Rattle.mama_dq.specs.Context.{ContextData, new_context}
-use Rattle.mama_dq.specs.Strategy.{callbacks_of, after_all, fold, calls_after}
-use Rattle.mama_dq.proofs.StrategyLemmas.{calls_after-append}
+use Rattle.mama_dq.specs.Strategy.{callbacks_of, after, after_all, fold}
 use Rattle.mama_rules_queue.specs.Queue.{Deed, handled, called, messages_in, messages_of, is_muted, made, make_in, context_of, served, deeds}
+use Rattle.mama_dispatch.specs.Seating.{is_plain}
 use Rattle.mama_dispatch.proofs.CallBound.{calls_plain}
 use Rattle.mama_dispatch.proofs.DeedLemmas.{muted_handled, same_object-refl}
 use Rattle.mama_rules_legal.specs.Streams.{is_of, events_of}
 use Rattle.mama_laws_genuine.proofs.Handled.{none_made}
-use Rattle.mama_laws_callbacks.specs.Told.{told_in, tells, ticks_told, replies_told, IsTold, TellsAtOnce}
+use Rattle.mama_laws_callbacks.specs.Told.{told_in, told_from, tells, ticks_told, reply_told, replies_told, IsTold, TellsAtOnce}
+use Rattle.mama_laws_callbacks.specs.Word.{messages_read}
 use Rattle.mama_laws_callbacks.proofs.Cutting.{told_append, Live, live_open, live_muted, live_one, told_by_journal, told_at_once}
 
--- ---- what the strategy makes of one message more
+-- ---- what a context makes of one arrival more
 
-calls_flat : (c : ContextData) (xs : List MarketMsg) (m : MarketMsg)
-    → flat_map (λ (calls : List Callback). calls) (calls_after c (xs ++ m ∷ [])) ≡ flat_map (λ (calls : List Callback). calls) (calls_after c xs) ++ callbacks_of (after_all c xs) m
-calls_flat c xs m =
-    ap (flat_map (λ (calls : List Callback). calls)) (calls_after-append c xs (m ∷ []))
-    ∙ flat_map-append (λ (calls : List Callback). calls) (calls_after c xs) (callbacks_of (after_all c xs) m ∷ [])
-    ∙ ap (λ (cs : List Callback). flat_map (λ (calls : List Callback). calls) (calls_after c xs) ++ cs) (append-nil (callbacks_of (after_all c xs) m))
+told_more : (c : ContextData) (xs : List Arrival) (a : Arrival) → told_from c (xs ++ a ∷ []) ≡ told_from c xs ++ told_from (after_all c (messages_read xs)) (a ∷ [])
+told_more c [] a = refl
+told_more c (Ok m ∷ xs) a =
+    ap (λ (cs : List Callback). callbacks_of c m ++ cs) (told_more (after c m) xs a)
+    ∙ sym (append_assoc (callbacks_of c m) (told_from (after c m) xs) (told_from (after_all (after c m) (messages_read xs)) (a ∷ [])))
+told_more c (Err piece ∷ xs) a = ap (λ (cs : List Callback). on.Error (code_of piece.body) ∷ cs) (told_more c xs a)
 
-tells_more : (strategy : Strategy) (kind : SubKind) (size : ℕ) (xs : List MarketMsg) (m : MarketMsg) → tells strategy kind size (xs ++ m ∷ []) ≡ tells strategy kind size xs ++ callbacks_of (fold strategy kind size xs) m
-tells_more strategy kind size xs m = calls_flat (new_context strategy kind size) xs m
+tells_more : (strategy : Strategy) (kind : SubKind) (size : ℕ) (xs : List Arrival) (m : MarketMsg)
+    → tells strategy kind size (xs ++ Ok m ∷ []) ≡ tells strategy kind size xs ++ callbacks_of (fold strategy kind size (messages_read xs)) m
+tells_more strategy kind size xs m =
+    told_more (new_context strategy kind size) xs (Ok m)
+    ∙ ap (λ (cs : List Callback). tells strategy kind size xs ++ cs) (append-nil (callbacks_of (fold strategy kind size (messages_read xs)) m))
+
+-- the messages among them
+read_more : (xs : List Arrival) (a : Arrival) → messages_read (xs ++ a ∷ []) ≡ messages_read xs ++ messages_read (a ∷ [])
+read_more [] a = refl
+read_more (Ok m ∷ xs) a = ap (λ (ms : List MarketMsg). m ∷ ms) (read_more xs a)
+read_more (Err piece ∷ xs) a = read_more xs a
 
 -- ---- subscriptions
 
@@ -57,17 +68,19 @@ module _ (orders : ObjectId → ℕ → List Order) (s : SubId) where
             ∙ none_made orders s (Sub sub) (sofar ++ handled sub msg ∷ []) calls
       ]
   other_handled before sofar (q.Reply slot inbox body) other = none_made orders s (Inbox inbox) sofar (on.Reply body ∷ [])
+  other_handled before sofar (q.Bad slot sub kind sender seq bytes) other = none_made orders s (Sub sub) sofar (on.Error (code_of bytes) ∷ [])
+  other_handled before sofar (q.BadReply slot inbox bytes) other = none_made orders s (Inbox inbox) sofar (on.Error (code_of bytes) ∷ [])
   other_handled before sofar (q.Tick slot timer moment) other = none_made orders s (Timer timer) sofar (on.Tick moment ∷ [])
   other_handled before sofar (q.Gone slot object) other = none_made orders s object sofar (on.Destroy ∷ [])
   other_handled before sofar q.Fin other = refl
 
-  -- the messages that it has handled
-  abbrev HasHandled : List MarketMsg → List Deed → Type 0
-  HasHandled msgs ds = messages_of s ds ≡ msgs
+  -- the messages among what arrived are those that it has handled
+  abbrev HasHandled : List Arrival → List Deed → Type 0
+  HasHandled arrivals ds = messages_of s ds ≡ messages_read arrivals
 
-  keeps_handled : (msgs : List MarketMsg) (before : List (ℕ × QueueNote)) (sofar : List Deed) (note : QueueNote) → is_of (Sub s) note ≡ false
-      → HasHandled msgs sofar → HasHandled msgs (sofar ++ served orders before sofar note)
-  keeps_handled msgs before sofar note other known =
+  keeps_handled : (arrivals : List Arrival) (before : List (ℕ × QueueNote)) (sofar : List Deed) (note : QueueNote) → is_of (Sub s) note ≡ false
+      → HasHandled arrivals sofar → HasHandled arrivals (sofar ++ served orders before sofar note)
+  keeps_handled arrivals before sofar note other known =
       flat_map-append (messages_in s) sofar (served orders before sofar note)
       ∙ ap (λ (ms : List MarketMsg). messages_of s sofar ++ ms) (other_handled before sofar note other) ∙ append-nil (messages_of s sofar) ∙ known
 
@@ -75,10 +88,16 @@ module _ (orders : ObjectId → ℕ → List Order) (s : SubId) where
   starts_handled sofar os known = flat_map-append (messages_in s) sofar (called (Sub s) on.Create os ∷ []) ∙ ap (λ (ms : List MarketMsg). ms ++ []) known
 
   -- a message of its own
-  module _ (strategy : Strategy) (kind : SubKind) (size slot : ℕ) (msgs : List MarketMsg) (m : MarketMsg) (before : List (ℕ × QueueNote)) (sofar : List Deed)
+  module _ (strategy : Strategy) (kind : SubKind) (size slot : ℕ) (arrivals : List Arrival) (m : MarketMsg) (before : List (ℕ × QueueNote)) (sofar : List Deed)
       (said : first_said (λ (e : ℕ × QueueNote). make_in (Sub s) e.1) before ≡ Some (make.Sub kind size strategy)) where
+    abbrev more : List Arrival
+    more = arrivals ++ Ok m ∷ []
+
     abbrev step_calls : List Callback
-    step_calls = callbacks_of (fold strategy kind size msgs) m
+    step_calls = callbacks_of (fold strategy kind size (messages_read arrivals)) m
+
+    abbrev so_far : List Callback
+    so_far = tells strategy kind size arrivals
 
     abbrev taken : List Deed
     taken = sofar ++ handled s m ∷ []
@@ -88,7 +107,7 @@ module _ (orders : ObjectId → ℕ → List Order) (s : SubId) where
         let calls : List Callback = callbacks_of (context_of (first_said (λ (e : ℕ × QueueNote). make_in (Sub s) e.1) before) (messages_of s sofar)) m in
         ap (λ (b : Bool). if b then [] else (handled s m ∷ made orders (Sub s) (sofar ++ handled s m ∷ []) calls)) muted
 
-    own_open : is_muted (Sub s) sofar ≡ false → HasHandled msgs sofar → sofar ++ served orders before sofar (q.Deliver slot s m) ≡ taken ++ made orders (Sub s) taken step_calls
+    own_open : is_muted (Sub s) sofar ≡ false → HasHandled arrivals sofar → sofar ++ served orders before sofar (q.Deliver slot s m) ≡ taken ++ made orders (Sub s) taken step_calls
     own_open live known =
         let calls : List Callback = callbacks_of (context_of (first_said (λ (e : ℕ × QueueNote). make_in (Sub s) e.1) before) (messages_of s sofar)) m in
         ap (λ (b : Bool). sofar ++ (if b then [] else (handled s m ∷ made orders (Sub s) (sofar ++ handled s m ∷ []) calls))) live
@@ -96,40 +115,68 @@ module _ (orders : ObjectId → ℕ → List Order) (s : SubId) where
         ∙ ap (λ (ms : List MarketMsg). sofar ++ handled s m ∷ made orders (Sub s) taken (callbacks_of (fold strategy kind size ms) m)) known
         ∙ sym (append_assoc sofar (handled s m ∷ []) (made orders (Sub s) taken step_calls))
 
-    handled_more : HasHandled msgs sofar → HasHandled (msgs ++ m ∷ []) (taken ++ made orders (Sub s) taken step_calls)
+    handled_more : HasHandled arrivals sofar → HasHandled more (taken ++ made orders (Sub s) taken step_calls)
     handled_more known =
         flat_map-append (messages_in s) taken (made orders (Sub s) taken step_calls)
         ∙ ap (λ (ms : List MarketMsg). messages_of s taken ++ ms) (none_made orders s (Sub s) taken step_calls)
         ∙ append-nil (messages_of s taken)
         ∙ flat_map-append (messages_in s) sofar (handled s m ∷ [])
         ∙ ap (λ (ms : List MarketMsg). ms ++ messages_of s (handled s m ∷ [])) known
-        ∙ ap (λ (b : Bool). msgs ++ ((if b then m ∷ [] else []) ++ [])) (same_object-refl (Sub s))
+        ∙ ap (λ (b : Bool). messages_read arrivals ++ ((if b then m ∷ [] else []) ++ [])) (same_object-refl (Sub s))
+        ∙ sym (read_more arrivals (Ok m))
 
-    own_message : Live orders (Sub s) (HasHandled msgs) (tells strategy kind size msgs) sofar
-        → Live orders (Sub s) (HasHandled (msgs ++ m ∷ [])) (tells strategy kind size (msgs ++ m ∷ [])) (sofar ++ served orders before sofar (q.Deliver slot s m))
+    own_message : Live orders (Sub s) (HasHandled arrivals) so_far sofar
+        → Live orders (Sub s) (HasHandled more) (tells strategy kind size more) (sofar ++ served orders before sofar (q.Deliver slot s m))
     own_message live =
-        subst (λ (cs : List Callback). Live orders (Sub s) (HasHandled (msgs ++ m ∷ [])) cs (sofar ++ served orders before sofar (q.Deliver slot s m))) (sym (tells_more strategy kind size msgs m))
+        subst (λ (cs : List Callback). Live orders (Sub s) (HasHandled more) cs (sofar ++ served orders before sofar (q.Deliver slot s m))) (sym (tells_more strategy kind size arrivals m))
         (⊎_elim
-        (λ h. subst (Live orders (Sub s) (HasHandled (msgs ++ m ∷ [])) (tells strategy kind size msgs ++ step_calls)) (sym (own_open h.1.0 h.1.1))
-        (live_open orders (Sub s) (HasHandled msgs) (HasHandled (msgs ++ m ∷ [])) (tells strategy kind size msgs) step_calls sofar taken live h.0
+        (λ h. subst (Live orders (Sub s) (HasHandled more) (so_far ++ step_calls)) (sym (own_open h.1.0 h.1.1))
+        (live_open orders (Sub s) (HasHandled arrivals) (HasHandled more) so_far step_calls sofar taken live h.0
         (told_append orders (Sub s) sofar (handled s m ∷ []) ∙ append-nil (told_in (Sub s) sofar))
-        (muted_handled (Sub s) sofar s m ∙ h.1.0) (calls_plain (fold strategy kind size msgs) m) (handled_more h.1.1)))
-        (λ h. subst (λ (ds : List Deed). Live orders (Sub s) (HasHandled (msgs ++ m ∷ [])) (tells strategy kind size msgs ++ step_calls) (sofar ++ ds)) (sym (own_muted h.1))
-        (subst (Live orders (Sub s) (HasHandled (msgs ++ m ∷ [])) (tells strategy kind size msgs ++ step_calls)) (sym (append-nil sofar))
-        (live_muted orders (Sub s) (HasHandled msgs) (HasHandled (msgs ++ m ∷ [])) (tells strategy kind size msgs) step_calls sofar live h.0 h.1)))
+        (muted_handled (Sub s) sofar s m ∙ h.1.0) (calls_plain (fold strategy kind size (messages_read arrivals)) m) (handled_more h.1.1)))
+        (λ h. subst (λ (ds : List Deed). Live orders (Sub s) (HasHandled more) (so_far ++ step_calls) (sofar ++ ds)) (sym (own_muted h.1))
+        (subst (Live orders (Sub s) (HasHandled more) (so_far ++ step_calls)) (sym (append-nil sofar))
+        (live_muted orders (Sub s) (HasHandled arrivals) (HasHandled more) so_far step_calls sofar live h.0 h.1)))
         live.stands)
 
-  pub sub_told : (strategy : Strategy) (kind : SubKind) (size slot : ℕ) (tag : ObjectId) (msgs : List MarketMsg) (journal : List (ℕ × QueueNote))
-      → events_of (Sub s) journal ≡ q.Create slot (Sub s) (make.Sub kind size strategy) tag ∷ (map (λ (m : MarketMsg). q.Deliver slot s m) msgs ++ q.Gone slot (Sub s) ∷ [])
-      → IsTold (Sub s) (tells strategy kind size msgs) (deeds orders journal) (told_in (Sub s) (deeds orders journal))
-  sub_told strategy kind size slot tag msgs journal events =
-      told_by_journal orders (Sub s) (make.Sub kind size strategy) (λ (m : MarketMsg). q.Deliver slot s m) (tells strategy kind size) HasHandled refl
-      keeps_handled starts_handled (own_message strategy kind size slot) slot tag msgs journal refl events
+  -- bytes for it that spell no message
+  module _ (strategy : Strategy) (kind : SubKind) (size : ℕ) (arrivals : List Arrival) (piece : PieceMsg) (sofar : List Deed) where
+    abbrev error_calls : List Callback
+    error_calls = on.Error (code_of piece.body) ∷ []
 
-  pub sub_at_once : (strategy : Strategy) (kind : SubKind) (size : ℕ) (journal : List (ℕ × QueueNote)) → TellsAtOnce (Sub s) (make.Sub kind size strategy) (λ slot m. q.Deliver slot s m) (tells strategy kind size) orders journal
-  sub_at_once strategy kind size journal front back slot tag msgs cut events free =
-      told_at_once orders (Sub s) (make.Sub kind size strategy) (λ (m : MarketMsg). q.Deliver slot s m) (tells strategy kind size) HasHandled refl
-      keeps_handled starts_handled (own_message strategy kind size slot) slot tag msgs front refl events free
+    none_handled : HasHandled arrivals sofar → HasHandled (arrivals ++ Err piece ∷ []) (sofar ++ made orders (Sub s) sofar error_calls)
+    none_handled known =
+        flat_map-append (messages_in s) sofar (made orders (Sub s) sofar error_calls)
+        ∙ ap (λ (ms : List MarketMsg). messages_of s sofar ++ ms) (none_made orders s (Sub s) sofar error_calls)
+        ∙ append-nil (messages_of s sofar) ∙ known
+        ∙ sym (read_more arrivals (Err piece) ∙ append-nil (messages_read arrivals))
+
+    own_error : Live orders (Sub s) (HasHandled arrivals) (tells strategy kind size arrivals) sofar
+        → Live orders (Sub s) (HasHandled (arrivals ++ Err piece ∷ [])) (tells strategy kind size (arrivals ++ Err piece ∷ [])) (sofar ++ made orders (Sub s) sofar error_calls)
+    own_error live =
+        subst (λ (cs : List Callback). Live orders (Sub s) (HasHandled (arrivals ++ Err piece ∷ [])) cs (sofar ++ made orders (Sub s) sofar error_calls))
+        (sym (told_more (new_context strategy kind size) arrivals (Err piece)))
+        (live_one orders (Sub s) (HasHandled arrivals) (HasHandled (arrivals ++ Err piece ∷ [])) (tells strategy kind size arrivals) (on.Error (code_of piece.body)) sofar none_handled refl live)
+
+  own_arrival : (strategy : Strategy) (kind : SubKind) (size slot : ℕ) (arrivals : List Arrival) (a : Arrival) (before : List (ℕ × QueueNote)) (sofar : List Deed)
+      → first_said (λ (e : ℕ × QueueNote). make_in (Sub s) e.1) before ≡ Some (make.Sub kind size strategy)
+      → Live orders (Sub s) (HasHandled arrivals) (tells strategy kind size arrivals) sofar
+      → Live orders (Sub s) (HasHandled (arrivals ++ a ∷ [])) (tells strategy kind size (arrivals ++ a ∷ [])) (sofar ++ served orders before sofar (delivered_note slot s a))
+  own_arrival strategy kind size slot arrivals (Ok m) before sofar said live = own_message strategy kind size slot arrivals m before sofar said live
+  own_arrival strategy kind size slot arrivals (Err piece) before sofar said live = own_error strategy kind size arrivals piece sofar live
+
+  pub sub_told : (strategy : Strategy) (kind : SubKind) (size slot : ℕ) (tag : ObjectId) (arrivals : List Arrival) (journal : List (ℕ × QueueNote))
+      → events_of (Sub s) journal ≡ q.Create slot (Sub s) (make.Sub kind size strategy) tag ∷ (map (λ (a : Arrival). delivered_note slot s a) arrivals ++ q.Gone slot (Sub s) ∷ [])
+      → IsTold (Sub s) (tells strategy kind size arrivals) (deeds orders journal) (told_in (Sub s) (deeds orders journal))
+  sub_told strategy kind size slot tag arrivals journal events =
+      told_by_journal orders (Sub s) (make.Sub kind size strategy) (λ (a : Arrival). delivered_note slot s a) (tells strategy kind size) HasHandled refl
+      keeps_handled starts_handled (own_arrival strategy kind size slot) slot tag arrivals journal refl events
+
+  pub sub_at_once : (strategy : Strategy) (kind : SubKind) (size : ℕ) (journal : List (ℕ × QueueNote))
+      → TellsAtOnce (Sub s) (make.Sub kind size strategy) (λ slot a. delivered_note slot s a) (tells strategy kind size) orders journal
+  sub_at_once strategy kind size journal front back slot tag arrivals cut events free =
+      told_at_once orders (Sub s) (make.Sub kind size strategy) (λ (a : Arrival). delivered_note slot s a) (tells strategy kind size) HasHandled refl
+      keeps_handled starts_handled (own_arrival strategy kind size slot) slot tag arrivals front refl events free
 
 -- ---- timers and inboxes
 
@@ -140,23 +187,33 @@ own_tick : (orders : ObjectId → ℕ → List Order) (t : TimerId) (xs : List �
     → Live orders (Timer t) (Nothing (xs ++ x ∷ [])) (ticks_told (xs ++ x ∷ [])) (sofar ++ made orders (Timer t) sofar (on.Tick x ∷ []))
 own_tick orders t xs x sofar live =
     subst (λ (cs : List Callback). Live orders (Timer t) (Nothing xs) cs (sofar ++ made orders (Timer t) sofar (on.Tick x ∷ []))) (sym (map-append (λ (m : ℕ). on.Tick m) xs (x ∷ [])))
-    (live_one orders (Timer t) (Nothing xs) (ticks_told xs) (on.Tick x) sofar (λ ds. tt) refl live)
+    (live_one orders (Timer t) (Nothing xs) (Nothing (xs ++ x ∷ [])) (ticks_told xs) (on.Tick x) sofar (λ known. tt) refl live)
 
-own_reply : (orders : ObjectId → ℕ → List Order) (i : InboxId) (xs : List (List FieldData)) (x : List FieldData) (sofar : List Deed) → Live orders (Inbox i) (Nothing xs) (replies_told xs) sofar
-    → Live orders (Inbox i) (Nothing (xs ++ x ∷ [])) (replies_told (xs ++ x ∷ [])) (sofar ++ made orders (Inbox i) sofar (on.Reply x ∷ []))
-own_reply orders i xs x sofar live =
-    subst (λ (cs : List Callback). Live orders (Inbox i) (Nothing xs) cs (sofar ++ made orders (Inbox i) sofar (on.Reply x ∷ []))) (sym (map-append (λ (b : List FieldData). on.Reply b) xs (x ∷ [])))
-    (live_one orders (Inbox i) (Nothing xs) (replies_told xs) (on.Reply x) sofar (λ ds. tt) refl live)
+reply_plain : (x : ReplyArrival) → is_plain (reply_told x) ≡ true
+reply_plain (Ok body) = refl
+reply_plain (Err bytes) = refl
+
+one_reply : (orders : ObjectId → ℕ → List Order) (i : InboxId) (xs : List ReplyArrival) (x : ReplyArrival) (sofar : List Deed) → Live orders (Inbox i) (Nothing xs) (replies_told xs) sofar
+    → Live orders (Inbox i) (Nothing (xs ++ x ∷ [])) (replies_told (xs ++ x ∷ [])) (sofar ++ made orders (Inbox i) sofar (reply_told x ∷ []))
+one_reply orders i xs x sofar live =
+    subst (λ (cs : List Callback). Live orders (Inbox i) (Nothing xs) cs (sofar ++ made orders (Inbox i) sofar (reply_told x ∷ []))) (sym (map-append reply_told xs (x ∷ [])))
+    (live_one orders (Inbox i) (Nothing xs) (Nothing (xs ++ x ∷ [])) (replies_told xs) (reply_told x) sofar (λ known. tt) (reply_plain x) live)
+
+own_reply : (orders : ObjectId → ℕ → List Order) (i : InboxId) (slot : ℕ) (xs : List ReplyArrival) (x : ReplyArrival) (before : List (ℕ × QueueNote)) (sofar : List Deed)
+    → Live orders (Inbox i) (Nothing xs) (replies_told xs) sofar
+    → Live orders (Inbox i) (Nothing (xs ++ x ∷ [])) (replies_told (xs ++ x ∷ [])) (sofar ++ served orders before sofar (replied_note slot i x))
+own_reply orders i slot xs (Ok body) before sofar live = one_reply orders i xs (Ok body) sofar live
+own_reply orders i slot xs (Err bytes) before sofar live = one_reply orders i xs (Err bytes) sofar live
 
 pub timer_at_once : (orders : ObjectId → ℕ → List Order) (t : TimerId) (journal : List (ℕ × QueueNote)) → TellsAtOnce (Timer t) make.Timer (λ slot m. q.Tick slot t m) ticks_told orders journal
 timer_at_once orders t journal front back slot tag moments cut events free =
     told_at_once orders (Timer t) make.Timer (λ (m : ℕ). q.Tick slot t m) ticks_told (Nothing {X = ℕ}) refl
     (λ xs before sofar other is known. tt) (λ sofar os known. tt) (λ xs x before sofar said live. own_tick orders t xs x sofar live) slot tag moments front tt events free
 
-pub inbox_at_once : (orders : ObjectId → ℕ → List Order) (i : InboxId) (journal : List (ℕ × QueueNote)) → TellsAtOnce (Inbox i) make.Inbox (λ slot b. q.Reply slot i b) replies_told orders journal
-inbox_at_once orders i journal front back slot tag bodies cut events free =
-    told_at_once orders (Inbox i) make.Inbox (λ (b : List FieldData). q.Reply slot i b) replies_told (Nothing {X = List FieldData}) refl
-    (λ xs before sofar other is known. tt) (λ sofar os known. tt) (λ xs x before sofar said live. own_reply orders i xs x sofar live) slot tag bodies front tt events free
+pub inbox_at_once : (orders : ObjectId → ℕ → List Order) (i : InboxId) (journal : List (ℕ × QueueNote)) → TellsAtOnce (Inbox i) make.Inbox (λ slot a. replied_note slot i a) replies_told orders journal
+inbox_at_once orders i journal front back slot tag arrivals cut events free =
+    told_at_once orders (Inbox i) make.Inbox (λ (a : ReplyArrival). replied_note slot i a) replies_told (Nothing {X = ReplyArrival}) refl
+    (λ xs before sofar other is known. tt) (λ sofar os known. tt) (λ xs x before sofar said live. own_reply orders i slot xs x before sofar live) slot tag arrivals front tt events free
 
 pub timer_told : (orders : ObjectId → ℕ → List Order) (t : TimerId) (slot : ℕ) (tag : ObjectId) (moments : List ℕ) (journal : List (ℕ × QueueNote))
     → events_of (Timer t) journal ≡ q.Create slot (Timer t) make.Timer tag ∷ (map (λ (m : ℕ). q.Tick slot t m) moments ++ q.Gone slot (Timer t) ∷ [])
@@ -167,11 +224,11 @@ timer_told orders t slot tag moments journal events =
     (λ xs x before sofar said live. own_tick orders t xs x sofar live)
     slot tag moments journal tt events
 
-pub inbox_told : (orders : ObjectId → ℕ → List Order) (i : InboxId) (slot : ℕ) (tag : ObjectId) (bodies : List (List FieldData)) (journal : List (ℕ × QueueNote))
-    → events_of (Inbox i) journal ≡ q.Create slot (Inbox i) make.Inbox tag ∷ (map (λ (b : List FieldData). q.Reply slot i b) bodies ++ q.Gone slot (Inbox i) ∷ [])
-    → IsTold (Inbox i) (replies_told bodies) (deeds orders journal) (told_in (Inbox i) (deeds orders journal))
-inbox_told orders i slot tag bodies journal events =
-    told_by_journal orders (Inbox i) make.Inbox (λ (b : List FieldData). q.Reply slot i b) replies_told (Nothing {X = List FieldData}) refl
+pub inbox_told : (orders : ObjectId → ℕ → List Order) (i : InboxId) (slot : ℕ) (tag : ObjectId) (arrivals : List ReplyArrival) (journal : List (ℕ × QueueNote))
+    → events_of (Inbox i) journal ≡ q.Create slot (Inbox i) make.Inbox tag ∷ (map (λ (a : ReplyArrival). replied_note slot i a) arrivals ++ q.Gone slot (Inbox i) ∷ [])
+    → IsTold (Inbox i) (replies_told arrivals) (deeds orders journal) (told_in (Inbox i) (deeds orders journal))
+inbox_told orders i slot tag arrivals journal events =
+    told_by_journal orders (Inbox i) make.Inbox (λ (a : ReplyArrival). replied_note slot i a) replies_told (Nothing {X = ReplyArrival}) refl
     (λ xs before sofar other is known. tt) (λ sofar os known. tt)
-    (λ xs x before sofar said live. own_reply orders i xs x sofar live)
-    slot tag bodies journal tt events
+    (λ xs x before sofar said live. own_reply orders i slot xs x before sofar live)
+    slot tag arrivals journal tt events

@@ -1,8 +1,8 @@
 -- The last word of the strategy on quality is the quality of the image.
-use Rattle.std.specs.Prelude.{nat_le, if◌then◌else◌}
-use Rattle.std.specs.List.{flat_map}
+use Rattle.std.specs.Prelude.{nat_le, if◌then◌else◌, Ok, Err}
 use Rattle.std.proofs.Common.{◌≡◌, ◌⊎◌, ⊎_elim, ℕ, ◌==◌, Bool, true, false, List, [], ◌∷◌, ◌++◌, refl, sym, ◌∙◌, ap, subst}
 use Rattle.mama_msg.specs.Field.{FieldData}
+use Rattle.mama_event.specs.Wire.{Arrival}
 use Rattle.mama_event.specs.declared.market.MarketMsg.{MarketMsg}
 use Rattle.mama_event.specs.declared.market.SubKind.{SubKind}
 use Rattle.mama_event.specs.declared.shape.Strategy.{Strategy}
@@ -19,9 +19,10 @@ use Rattle.mama_dq.specs.declared.table.Relation.TheVariants.{Next, Same, Old, A
 use Rattle.mama_dq.specs.Table.{is_update, decided, relation_of}
 use Rattle.mama_dq.specs.Cache.{Reached, reached, above, put, emptied}
 use Rattle.mama_dq.specs.Context.{ContextData, new_context, quality_in}
-use Rattle.mama_dq.specs.Strategy.{Step, ok_with, settled, with_update, caught, if_ok, stale_calls, switch_calls, adopt_calls, updated, update_acted, acted, as_message, handled, cached_above, healed, reached_last, stopped_short, waiting_for, with_image_of, turned_to, snapshot_acted, step_by, after, after_all, callbacks_of, calls_after}
+use Rattle.mama_dq.specs.Strategy.{Step, ok_with, settled, with_update, caught, if_ok, stale_calls, switch_calls, adopt_calls, updated, update_acted, acted, as_message, handled, cached_above, healed, reached_last, stopped_short, waiting_for, with_image_of, turned_to, snapshot_acted, step_by, after, after_all, callbacks_of}
 use Rattle.mama_dq.proofs.SameKind.{after_kind}
-use Rattle.mama_laws_callbacks.specs.Word.{last_word, LastWordsAreTrue}
+use Rattle.mama_laws_callbacks.specs.Told.{told_from}
+use Rattle.mama_laws_callbacks.specs.Word.{last_word, messages_read, LastWordsAreTrue}
 
 word_append : (q : Quality) (xs ys : List Callback) → last_word q (xs ++ ys) ≡ last_word (last_word q xs) ys
 word_append q [] ys = refl
@@ -172,7 +173,7 @@ snapshot_true LiveOk update c m at = record { word = ap quality_in (sym at) }
 snapshot_true LiveStale update c m at = record { word = ap quality_in (sym at) }
 snapshot_true LiveKept update c m at = record { word = ap quality_in (sym at) }
 
--- ---- a list of messages
+-- ---- what arrives
 
 abbrev HasImages : SubKind → Type 0
 HasImages kind = (kind ≡ Market) ⊎ (kind ≡ Snapshot)
@@ -183,14 +184,15 @@ step_true kind has c m = ⊎_elim
     (λ snapshot. subst (λ (k : SubKind). IsTrue c.phase (step_by k c m)) (sym snapshot) (snapshot_true c.phase (is_update m.kind) c m refl))
     has
 
-all_true : (messages : List MarketMsg) (c : ContextData) → HasImages c.kind
-    → last_word (quality_in c.phase) (flat_map (λ (calls : List Callback). calls) (calls_after c messages)) ≡ quality_in (after_all c messages).phase
+all_true : (arrivals : List Arrival) (c : ContextData) → HasImages c.kind
+    → last_word (quality_in c.phase) (told_from c arrivals) ≡ quality_in (after_all c (messages_read arrivals)).phase
 all_true [] c has = refl
-all_true (m ∷ messages) c has =
-    let rest : List Callback = flat_map (λ (calls : List Callback). calls) (calls_after (after c m) messages) in
+all_true (Ok m ∷ arrivals) c has =
+    let rest : List Callback = told_from (after c m) arrivals in
     word_append (quality_in c.phase) (callbacks_of c m) rest
     ∙ ap (λ (q : Quality). last_word q rest) (step_true c.kind has c m).word
-    ∙ all_true messages (after c m) (subst HasImages (sym (after_kind c m)) has)
+    ∙ all_true arrivals (after c m) (subst HasImages (sym (after_kind c m)) has)
+all_true (Err piece ∷ arrivals) c has = all_true arrivals c has
 
 pub last_words_are_true : LastWordsAreTrue
-last_words_are_true strategy kind size messages has = all_true messages (new_context strategy kind size) has
+last_words_are_true strategy kind size arrivals has = all_true arrivals (new_context strategy kind size) has

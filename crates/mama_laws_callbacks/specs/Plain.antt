@@ -1,6 +1,7 @@
 -- believed: what a market subscription is told over a plain link: one without faults, from a topic that one publisher has.
 use Rattle.std.specs.Prelude.{◌≡◌, map, Some}
 use Rattle.mama_link.specs.Link.{through}
+use Rattle.mama_event.specs.Wire.{arriving, cut_arrival}
 use Rattle.mama_event.specs.declared.ids.SubId.{SubId}
 use Rattle.mama_event.specs.declared.market.SubKind.TheVariants.{Market}
 use Rattle.mama_dq.specs.Orderly.{as_ok, from_first_image}
@@ -17,7 +18,7 @@ use Rattle.mama_laws_callbacks.specs.Told.{tells}
 -- called back once and as ok.
 pub record IsToldPlainly (script : ScriptData) (run : RunData) (s : SubId) (link : HasPlainLink script s) : Type 0 where
   pub joined : terms_of script run s ≡ Some link.terms
-  pub whole : tells script.shape.strategy link.terms.kind link.terms.cache (through link.terms.faults (window script.shape s (heard script.shape run.bridge)))
+  pub whole : tells script.shape.strategy link.terms.kind link.terms.cache (through cut_arrival link.terms.faults (arriving (window script.shape s (heard script.shape run.bridge))))
       ≡ map as_ok (from_first_image (window script.shape s (heard script.shape run.bridge)))
 
 -- so it is with each market subscription that has a plain link

@@ -1,14 +1,12 @@
 -- believed: what a listener is told, from its create notice to its destroy notice.
-use Rattle.std.specs.Prelude.{◌≡◌, ◌⊎◌, ℕ, true, false, List, [], ◌∷◌, ◌++◌, map, slice_index_or, Some}
-use Rattle.std.specs.List.{flat_map, AllZip}
+use Rattle.std.specs.Prelude.{◌≡◌, ◌⊎◌, ℕ, true, false, List, [], ◌∷◌, ◌++◌, map, slice_index_or, Some, Ok, Err}
+use Rattle.std.specs.List.{AllZip}
 use Rattle.mama_link.specs.Link.{through}
-use Rattle.mama_msg.specs.Field.{FieldData}
 use Rattle.mama_event.specs.declared.ids.SubId.{SubId}
 use Rattle.mama_event.specs.declared.ids.TimerId.{TimerId}
 use Rattle.mama_event.specs.declared.ids.InboxId.{InboxId}
 use Rattle.mama_event.specs.declared.ids.ObjectId.{ObjectId}
 use Rattle.mama_event.specs.declared.ids.ObjectId.TheVariants.{Sub, Timer, Inbox}
-use Rattle.mama_event.specs.declared.market.MarketMsg.{MarketMsg}
 use Rattle.mama_event.specs.declared.market.SubKind.{SubKind}
 use Rattle.mama_event.specs.declared.shape.Strategy.{Strategy}
 use Rattle.mama_event.specs.declared.callback.Callback.{Callback}
@@ -21,7 +19,10 @@ use Rattle.mama_event.specs.declared.to_queue.QueueNote.{QueueNote}
 use Rattle.mama_event.specs.declared.to_queue.QueueNote.TheVariants as q
 use Rattle.mama_event.specs.declared.to_bridge.SubTerms.{SubTerms}
 use Rattle.mama_event.specs.declared.to_bridge.InboxTerms.{InboxTerms}
-use Rattle.mama_dq.specs.Strategy.{calls_of_fold}
+use Rattle.mama_event.specs.Wire.{Arrival, ReplyArrival, arriving, answering, cut_arrival, cut_reply, code_of}
+use Rattle.mama_event.specs.ToQueue.{delivered_note, replied_note}
+use Rattle.mama_dq.specs.Context.{ContextData, new_context}
+use Rattle.mama_dq.specs.Strategy.{callbacks_of, after}
 use Rattle.mama_rules_services.specs.Bridge.{heard, window, reply_window}
 use Rattle.mama_rules_services.specs.Timers as timing
 use Rattle.mama_rules_queue.specs.Queue.{Deed, called, calls_of, deeds, is_muted}
@@ -77,15 +78,26 @@ TellsAtOnce {X} o how note whole orders journal = (front back : List (ℕ × Que
     → events_of o front ≡ q.Create slot o how tag ∷ map (note slot) xs → is_muted o (deeds orders front) ≡ false
     → told_in o (deeds orders front) ≡ on.Create ∷ whole xs
 
--- what a strategy makes of some messages: the callbacks of each, in order
-abbrev pub tells : Strategy → SubKind → ℕ → List MarketMsg → List Callback
-tells strategy kind size messages = flat_map (λ (calls : List Callback). calls) (calls_of_fold strategy kind size messages)
+-- what a context makes of what arrives: the callbacks of each message, in order, and the code of bytes that spell none, which change nothing
+abbrev pub told_from : ContextData → List Arrival → List Callback
+told_from c [] = []
+told_from c (Ok m ∷ arrivals) = callbacks_of c m ++ told_from (after c m) arrivals
+told_from c (Err piece ∷ arrivals) = on.Error (code_of piece.body) ∷ told_from c arrivals
+
+-- and a strategy, from the first
+abbrev pub tells : Strategy → SubKind → ℕ → List Arrival → List Callback
+tells strategy kind size arrivals = told_from (new_context strategy kind size) arrivals
 
 abbrev pub ticks_told : List ℕ → List Callback
 ticks_told moments = map (λ m. on.Tick m) moments
 
-abbrev pub replies_told : List (List FieldData) → List Callback
-replies_told bodies = map (λ b. on.Reply b) bodies
+-- a reply that arrives, or the code of bytes that spell none
+abbrev pub reply_told : ReplyArrival → Callback
+reply_told (Ok body) = on.Reply body
+reply_told (Err bytes) = on.Error (code_of bytes)
+
+abbrev pub replies_told : List ReplyArrival → List Callback
+replies_told arrivals = map reply_told arrivals
 
 -- THE CALLBACKS OF A RECORD
 
@@ -97,14 +109,14 @@ abbrev pub deeds_on : ScriptData → RunData → ℕ → List Deed
 deeds_on script run queue = deeds (orders_by (setting_of script)) (slice_index_or run.queues queue [])
 
 -- With these callbacks a subscription is told what its strategy makes of exactly the messages that its link lets
--- through of what was sent while it was joined.
+-- through of what was sent while it was joined, and of each that a cut left broken its code.
 pub record IsToldLink (script : ScriptData) (run : RunData) (queue : ℕ) (s : SubId) (calls : List CallNote) : Type 0 where
   pub terms : SubTerms
   pub joined : terms_of script run s ≡ Some terms
   pub there : terms.queue ≡ queue
-  pub told : IsTold (Sub s) (tells script.shape.strategy terms.kind terms.cache (through terms.faults (window script.shape s (heard script.shape run.bridge))))
+  pub told : IsTold (Sub s) (tells script.shape.strategy terms.kind terms.cache (through cut_arrival terms.faults (arriving (window script.shape s (heard script.shape run.bridge)))))
       (deeds_on script run queue) (map call_of calls)
-  pub at_once : TellsAtOnce (Sub s) (make.Sub terms.kind terms.cache script.shape.strategy) (λ slot m. q.Deliver slot s m) (tells script.shape.strategy terms.kind terms.cache)
+  pub at_once : TellsAtOnce (Sub s) (make.Sub terms.kind terms.cache script.shape.strategy) (λ slot a. delivered_note slot s a) (tells script.shape.strategy terms.kind terms.cache)
       (orders_by (setting_of script)) (slice_index_or run.queues queue [])
 
 -- With these a timer is told its ticks.
@@ -115,14 +127,15 @@ pub record IsToldTicks (script : ScriptData) (run : RunData) (queue : ℕ) (t : 
   pub told : IsTold (Timer t) (ticks_told (ticks script.shape t (timing.heard script.shape run.timers))) (deeds_on script run queue) (map call_of calls)
   pub at_once : TellsAtOnce (Timer t) make.Timer (λ slot m. q.Tick slot t m) ticks_told (orders_by (setting_of script)) (slice_index_or run.queues queue [])
 
--- With these an inbox is told exactly the replies that its link lets through of those that were put while it was open.
+-- With these an inbox is told exactly the replies that its link lets through of those that were put while it was open, and of each that a cut
+-- left broken its code.
 pub record IsToldReplies (script : ScriptData) (run : RunData) (queue : ℕ) (i : InboxId) (calls : List CallNote) : Type 0 where
   pub terms : InboxTerms
   pub opened : inbox_terms_of script run i ≡ Some terms
   pub there : terms.queue ≡ queue
-  pub told : IsTold (Inbox i) (replies_told (through terms.faults (reply_window script.shape i (heard script.shape run.bridge))))
+  pub told : IsTold (Inbox i) (replies_told (through cut_reply terms.faults (answering (reply_window script.shape i (heard script.shape run.bridge)))))
       (deeds_on script run queue) (map call_of calls)
-  pub at_once : TellsAtOnce (Inbox i) make.Inbox (λ slot b. q.Reply slot i b) replies_told (orders_by (setting_of script)) (slice_index_or run.queues queue [])
+  pub at_once : TellsAtOnce (Inbox i) make.Inbox (λ slot a. replied_note slot i a) replies_told (orders_by (setting_of script)) (slice_index_or run.queues queue [])
 
 -- what is said of each kind of object
 abbrev pub Of : (SubId → Type 0) → (TimerId → Type 0) → (InboxId → Type 0) → ObjectId → Type 0

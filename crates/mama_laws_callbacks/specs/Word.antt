@@ -1,5 +1,6 @@
 -- believed: the last word that a listener has on the quality of its image.
-use Rattle.std.specs.Prelude.{◌≡◌, ◌⊎◌, ℕ, List, [], ◌∷◌}
+use Rattle.std.specs.Prelude.{◌≡◌, ◌⊎◌, ℕ, List, [], ◌∷◌, Ok, Err}
+use Rattle.mama_event.specs.Wire.{Arrival}
 use Rattle.mama_event.specs.declared.market.MarketMsg.{MarketMsg}
 use Rattle.mama_event.specs.declared.market.SubKind.{SubKind}
 use Rattle.mama_event.specs.declared.shape.Strategy.{Strategy}
@@ -26,8 +27,14 @@ last_word before (on.Destroy ∷ calls) = last_word before calls
 last_word before (on.Tick moment ∷ calls) = last_word before calls
 last_word before (on.Reply body ∷ calls) = last_word before calls
 
--- Whatever messages a market or a snapshot subscription handled, in whatever order, the last word that its strategy has on
+-- the messages of what arrives
+abbrev pub messages_read : List Arrival → List MarketMsg
+messages_read [] = []
+messages_read (Ok m ∷ arrivals) = m ∷ messages_read arrivals
+messages_read (Err piece ∷ arrivals) = messages_read arrivals
+
+-- Whatever arrives for a market or a snapshot subscription, in whatever order, the last word that its strategy has on
 -- quality is the quality of the image that it then has. Without an image that is stale.
 abbrev pub LastWordsAreTrue : Type 0
-LastWordsAreTrue = (strategy : Strategy) (kind : SubKind) (size : ℕ) (messages : List MarketMsg) → (kind ≡ Market) ⊎ (kind ≡ Snapshot)
-    → last_word Stale (tells strategy kind size messages) ≡ quality_in (fold strategy kind size messages).phase
+LastWordsAreTrue = (strategy : Strategy) (kind : SubKind) (size : ℕ) (arrivals : List Arrival) → (kind ≡ Market) ⊎ (kind ≡ Snapshot)
+    → last_word Stale (tells strategy kind size arrivals) ≡ quality_in (fold strategy kind size (messages_read arrivals)).phase

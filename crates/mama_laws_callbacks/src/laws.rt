@@ -4,9 +4,10 @@ ghost use Rattle.mama_laws_callbacks.specs.Word.{LastWordsAreTrue};
 
 /// A law: in a legal record of a script each subscription of the script is told what its strategy makes of exactly the
 /// messages that its link lets through of what was sent while it was joined, between its create and its destroy notice,
-/// in order and each once; each timer its ticks, and each inbox exactly the replies that its link lets through. If the
-/// object was muted, it is told so up to the order that muted it, and then its notice alone. At each place of its
-/// queue's journal at which it is not muted, it was told all that was taken for it so far.
+/// in order and each once; each timer its ticks, and each inbox exactly the replies that its link lets through; and of each
+/// message or reply that a cut left broken the code of its fault. If the object was muted, it is told so up to the order
+/// that muted it, and then its notice alone. At each place of its queue's journal at which it is not muted, it was told all
+/// that was taken for it so far.
 pub fn legal_records_tell_all()
     ensures { LegalRecordsTellAll }
 {}

@@ -1,7 +1,7 @@
 -- What the ending of the bridge and of the timer service tells of what each port gave.
 use Rattle.std.specs.List.{list_any}
-use Rattle.std.proofs.Common.{◌≡◌, ℕ, ◌+◌, ◌<◌, ◌==◌, Bool, true, false, cond, List, [], ◌∷◌, map, refl, ◌∙◌, ap, ⊎_elim}
-use Rattle.std.proofs.lemmas.Bool.{and_parts, or_left, or_right, or_cases, both_ways, eqb-true, eq-eqb}
+use Rattle.std.proofs.Common.{◌≡◌, ℕ, ◌+◌, ◌<◌, ◌==◌, true, false, List, refl, ap}
+use Rattle.std.proofs.lemmas.Bool.{and_parts, both_ways, eqb-true}
 use Rattle.mama_journal.specs.Journal.{all_below}
 use Rattle.mama_journal.specs.Lane.{by_port}
 use Rattle.mama_event.specs.declared.shape.Shape.{Shape}

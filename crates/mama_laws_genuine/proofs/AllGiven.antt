@@ -6,6 +6,8 @@ use Rattle.std.proofs.lemmas.List.Elements.{filter-append}
 use Rattle.mama_link.specs.Link.{through}
 use Rattle.mama_link.specs.declared.faults.FaultRow.{FaultRow}
 use Rattle.mama_link.proofs.LawLemmas.{passes_all}
+use Rattle.mama_event.specs.Wire.{Arrival, arriving, cut_arrival}
+use Rattle.mama_event.specs.ToQueue.{delivered_note}
 use Rattle.mama_event.specs.declared.ids.SubId.{SubId}
 use Rattle.mama_event.specs.declared.ids.ObjectId.{ObjectId}
 use Rattle.mama_event.specs.declared.ids.ObjectId.TheVariants.{Sub, Timer, Inbox}
@@ -74,10 +76,10 @@ module _ (s : SubId) where
       by_case true own ih = ap (λ (ms : List MarketMsg). delivers s e.1 ++ ms) ih
       by_case false other ih = ap (λ (ms : List MarketMsg). ms ++ flat_map (λ (f : ℕ × QueueNote). delivers s f.1) journal) (not_of s 0 e.1 other) ∙ ih
 
-  stream_delivers : (slot : ℕ) (messages : List MarketMsg) → flat_map (delivers s) (map (λ (m : MarketMsg). q.Deliver slot s m) messages ++ q.Gone slot (Sub s) ∷ []) ≡ messages
+  stream_delivers : (slot : ℕ) (messages : List MarketMsg) → flat_map (delivers s) (map (λ (a : Arrival). delivered_note slot s a) (arriving messages) ++ q.Gone slot (Sub s) ∷ []) ≡ messages
   stream_delivers slot [] = refl
   stream_delivers slot (m ∷ messages) =
-      ap (λ (b : Bool). (if b then m ∷ [] else []) ++ flat_map (delivers s) (map (λ (x : MarketMsg). q.Deliver slot s x) messages ++ q.Gone slot (Sub s) ∷ [])) (same_sub-itself s)
+      ap (λ (b : Bool). (if b then m ∷ [] else []) ++ flat_map (delivers s) (map (λ (a : Arrival). delivered_note slot s a) (arriving messages) ++ q.Gone slot (Sub s) ∷ [])) (same_sub-itself s)
       ∙ ap (λ (ms : List MarketMsg). m ∷ ms) (stream_delivers slot messages)
 
 given_noted : (calls : List (Callback × List Order)) → given (map noted calls) ≡ flat_map (λ (c : Callback × List Order). given_in c.0) calls
@@ -109,16 +111,19 @@ module _ (script : ScriptData) (run : RunData) (orderly : IsOrderly script) (is 
         let on : IsSubJournal script.shape.strategy s terms (taken s) journal = (have_streams script run orderly is).subs.each s terms it.client it.said in
         let ordered = windows_are_in_order script run is.shaped is.edges s terms it.place it.came.joined it.publisher it.fed in
         let all : Part orders s [] done journal = part orders s [] [] journal in
-        let passed : List MarketMsg = through terms.faults (taken s) in
-        let tail : List QueueNote = map (λ (m : MarketMsg). q.Deliver on.slot s m) passed ++ q.Gone on.slot (Sub s) ∷ [] in
+        let tail : List QueueNote = map (λ (a : Arrival). delivered_note on.slot s a) (arriving (taken s)) ++ q.Gone on.slot (Sub s) ∷ [] in
+        let all_pass : through cut_arrival terms.faults (arriving (taken s)) ≡ arriving (taken s) =
+        ap (λ (rows : List FaultRow). through cut_arrival rows (arriving (taken s))) link.faultless ∙ passes_all cut_arrival (arriving (taken s)) in
+        let events : events_of (Sub s) journal ≡ q.Create on.slot (Sub s) (make.Sub terms.kind terms.cache script.shape.strategy) on.tag ∷ tail =
+        on.whole ∙ ap (λ (arrivals : List Arrival). q.Create on.slot (Sub s) (make.Sub terms.kind terms.cache script.shape.strategy) on.tag
+        ∷ (map (λ (a : Arrival). delivered_note on.slot s a) arrivals ++ q.Gone on.slot (Sub s) ∷ [])) all_pass in
         let brought : flat_map (λ (e : ℕ × QueueNote). delivers s e.1) journal ≡ taken s =
-        delivered_events s journal ∙ ap (λ (notes : List QueueNote). flat_map (delivers s) notes) on.whole ∙ stream_delivers s on.slot passed
-        ∙ ap (λ (rows : List FaultRow). through rows (taken s)) link.faultless ∙ passes_all (taken s) in
+        delivered_events s journal ∙ ap (λ (notes : List QueueNote). flat_map (delivers s) notes) events ∙ stream_delivers s on.slot (taken s) in
         let cut : taken s ≡ messages_of s done ++ all.left = sym brought ∙ all.whole ∙ ap (λ (ms : List MarketMsg). ms ++ all.left) (sym all.handled) in
         let order : AreInOrder (it.place + 1) ordered.0 (messages_of s done) =
         order_first (it.place + 1) ordered.0 (messages_of s done) all.left (subst (AreInOrder (it.place + 1) ordered.0) cut ordered.1) in
         let created : events_of (Sub s) journal ≡ q.Create on.slot (Sub s) (make.Sub Market terms.cache script.shape.strategy) on.tag ∷ tail =
-        on.whole ∙ ap (λ (kind : SubKind). q.Create on.slot (Sub s) (make.Sub kind terms.cache script.shape.strategy) on.tag ∷ tail) market in
+        events ∙ ap (λ (kind : SubKind). q.Create on.slot (Sub s) (make.Sub kind terms.cache script.shape.strategy) on.tag ∷ tail) market in
         let told : given (calls_on script run orderly is (Sub s) terms.queue) ≡ from_first_image (messages_of s done) =
         given_noted (calls_of (Sub s) done) ∙ calls_give orders s done
         ∙ all_deeds_give orders s script.shape.strategy terms.cache (it.place + 1) ordered.0 on.slot on.tag tail journal created order in

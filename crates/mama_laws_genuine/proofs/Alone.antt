@@ -238,6 +238,8 @@ module _ (shape : Shape) (s : SubId) (wanted : ℕ) (FromPublisher : ℕ → Bri
   brings_none (q.Create slot object make tag) h = tt
   brings_none (q.Deliver slot sub msg) h = absurd h
   brings_none (q.Reply slot inbox body) h = tt
+  brings_none (q.Bad slot sub kind sender seq bytes) h = tt
+  brings_none (q.BadReply slot inbox bytes) h = tt
   brings_none (q.Tick slot timer moment) h = tt
   brings_none (q.Gone slot object) h = tt
   brings_none q.Fin h = tt

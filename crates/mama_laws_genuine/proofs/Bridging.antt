@@ -1,17 +1,18 @@
 -- What the bridge puts carries only messages that came, and asks for images as such.
-use Rattle.std.specs.Prelude.{◌-◌, ◌&&◌, not, position, slice_index, if◌then◌else◌}
-use Rattle.std.specs.List.{AllByRecursion, list_any, flat_map}
-use Rattle.std.proofs.Common.{ℕ, ◌==◌, Bool, true, false, List, [], ◌∷◌, ◌++◌, map, Option, None, Some}
+use Rattle.std.specs.Prelude.{◌-◌, ◌&&◌, not, position, slice_index, if◌then◌else◌, Ok, Err}
+use Rattle.std.specs.List.{AllByRecursion, list_any}
+use Rattle.std.proofs.Common.{ℕ, ◌==◌, Bool, true, false, List, [], ◌∷◌, Option, None, Some}
 use Rattle.mama_msg.specs.Field.{FieldData}
-use Rattle.mama_journal.specs.Journal.{turns, first_said, numbers_below}
+use Rattle.mama_journal.specs.Journal.{first_said}
 use Rattle.mama_link.specs.Link.{rest}
-use Rattle.mama_event.specs.Ports.{publishers_of, queues_of}
 use Rattle.mama_event.specs.Object.{same_sub, same_inbox}
 use Rattle.mama_event.specs.declared.ids.SubId.{SubId}
 use Rattle.mama_event.specs.declared.ids.InboxId.{InboxId}
 use Rattle.mama_event.specs.declared.ids.ObjectId.{ObjectId}
 use Rattle.mama_event.specs.declared.ids.ObjectId.TheVariants.{Sub, Inbox}
 use Rattle.mama_event.specs.declared.shape.Shape.{Shape}
+use Rattle.mama_event.specs.Wire.{Arrival, ReplyArrival, arriving, answering, cut_arrival, cut_reply}
+use Rattle.mama_event.specs.ToQueue.{delivered_note, replied_note}
 use Rattle.mama_event.specs.declared.market.MarketMsg.{MarketMsg}
 use Rattle.mama_event.specs.declared.market.MsgKind.TheVariants.{Initial, Recap}
 use Rattle.mama_event.specs.declared.market.SubKind.{SubKind}
@@ -24,14 +25,14 @@ use Rattle.mama_event.specs.declared.to_queue.QueueNote.TheVariants as q
 use Rattle.mama_event.specs.declared.to_publisher.PublisherNote.{PublisherNote}
 use Rattle.mama_event.specs.declared.to_publisher.PublisherNote.TheVariants as p
 use Rattle.mama_event.specs.declared.to_queue.Make.TheVariants as make
-use Rattle.mama_event.specs.declared.to_timers.TimersNote.TheVariants as t
 use Rattle.mama_rules_services.specs.Ports.{Putter, ByClient, ByPublisher, ByQueue, ByBridge, ByTimers, ByNobody, bridge_putter}
-use Rattle.mama_rules_services.specs.Bridge.{BridgeEvent, joins, leaves, opens, closes, asks, publishes, images, replies, wishes, no_event, from_client, from_publisher, from_queue, put_by, heard, terms_in, is_live, live_subs, open_inboxes, sent_to, sent_with, window, faults_of, inbox_faults_of, inbox_terms_in, reply_window, replied_to, joins_sub, opens_inbox, is_open, is_settling, has_ending, free_slot, may_wish, BridgePut, to_publisher, to_queue, to_timers, place_of, to_place, to_found, to_first, wants_image, delivered, replied, gone, passed_on, passed, ended, ended_inbox, answer, settle_begins, ending_comes, bridge_reaction, bridge_puts}
+use Rattle.mama_rules_services.specs.Bridge.{BridgeEvent, joins, leaves, opens, closes, asks, publishes, images, replies, wishes, no_event, from_client, from_publisher, from_queue, put_by, heard, terms_in, is_live, live_subs, open_inboxes, sent_to, sent_with, window, faults_of, inbox_faults_of, inbox_terms_in, reply_window, replied_to, joins_sub, opens_inbox, is_open, is_settling, free_slot, may_wish, BridgePut, to_publisher, to_queue, place_of, to_place, to_found, to_first, wants_image, delivered, replied, gone, passed_on, passed, passed_reply, ended, ended_inbox, answer, bridge_reaction, bridge_puts}
 use Rattle.mama_laws_genuine.specs.Sent.{Delivers}
-use Rattle.mama_laws_genuine.proofs.Elements.{all_append, all_if, all_flat_map, all_flat, all_map, all_mapped, all_puts_after, all_puts_so_far}
+use Rattle.mama_laws_genuine.proofs.Elements.{all_append, all_if, all_flat_map, all_flat, all_map, all_puts_after, all_puts_so_far}
 use Rattle.mama_laws_genuine.proofs.Reactions as reactions
 use Rattle.mama_laws_genuine.proofs.Carried.{InBridgeNote, InEvent, InBridgePut, AsksImage}
 use Rattle.mama_laws_genuine.proofs.Linked.{all_passed_on, all_rest}
+use Rattle.mama_laws_genuine.proofs.Arrived.{Comes, comes_cut, all_coming, Answers, answers_cut, all_answering}
 
 module _ (G : MarketMsg → Type 0) (R : List FieldData → Type 0) where
   -- ---- what the bridge hears
@@ -101,15 +102,23 @@ module _ (G : MarketMsg → Type 0) (R : List FieldData → Type 0) where
   placed None event h = tt
   placed (Some place) event h = (h place.1, tt)
 
-  all_delivered : (s : SubId) (sofar : List BridgePut) (msgs : List MarketMsg) → AllByRecursion G msgs → AllByRecursion (InBridgePut G R) (delivered s sofar msgs)
-  all_delivered s sofar msgs all =
-      all_flat_map G (InBridgePut G R) (λ (m : MarketMsg). to_place (place_of (Sub s) sofar) (λ slot. q.Deliver slot s m))
-      (λ m h. placed (place_of (Sub s) sofar) (λ slot. q.Deliver slot s m) (λ slot. h)) msgs all
+  one_delivered : (s : SubId) (sofar : List BridgePut) (arrival : Arrival) → Comes G arrival
+      → AllByRecursion (InBridgePut G R) (to_place (place_of (Sub s) sofar) (λ slot. delivered_note slot s arrival))
+  one_delivered s sofar (Ok m) h = placed (place_of (Sub s) sofar) (λ slot. q.Deliver slot s m) (λ slot. h)
+  one_delivered s sofar (Err piece) h = placed (place_of (Sub s) sofar) (λ slot. q.Bad slot s piece.kind piece.sender piece.seq piece.body) (λ slot. tt)
 
-  all_replied : (i : InboxId) (sofar : List BridgePut) (bodies : List (List FieldData)) → AllByRecursion R bodies → AllByRecursion (InBridgePut G R) (replied i sofar bodies)
-  all_replied i sofar bodies all =
-      all_flat_map R (InBridgePut G R) (λ (body : List FieldData). to_place (place_of (Inbox i) sofar) (λ slot. q.Reply slot i body))
-      (λ body h. placed (place_of (Inbox i) sofar) (λ slot. q.Reply slot i body) (λ slot. h)) bodies all
+  all_delivered : (s : SubId) (sofar : List BridgePut) (arrivals : List Arrival) → AllByRecursion (Comes G) arrivals → AllByRecursion (InBridgePut G R) (delivered s sofar arrivals)
+  all_delivered s sofar arrivals all =
+      all_flat_map (Comes G) (InBridgePut G R) (λ (a : Arrival). to_place (place_of (Sub s) sofar) (λ slot. delivered_note slot s a)) (one_delivered s sofar) arrivals all
+
+  one_replied : (i : InboxId) (sofar : List BridgePut) (arrival : ReplyArrival) → Answers R arrival
+      → AllByRecursion (InBridgePut G R) (to_place (place_of (Inbox i) sofar) (λ slot. replied_note slot i arrival))
+  one_replied i sofar (Ok body) h = placed (place_of (Inbox i) sofar) (λ slot. q.Reply slot i body) (λ slot. h)
+  one_replied i sofar (Err bytes) h = placed (place_of (Inbox i) sofar) (λ slot. q.BadReply slot i bytes) (λ slot. tt)
+
+  all_replied : (i : InboxId) (sofar : List BridgePut) (arrivals : List ReplyArrival) → AllByRecursion (Answers R) arrivals → AllByRecursion (InBridgePut G R) (replied i sofar arrivals)
+  all_replied i sofar arrivals all =
+      all_flat_map (Answers R) (InBridgePut G R) (λ (a : ReplyArrival). to_place (place_of (Inbox i) sofar) (λ slot. replied_note slot i a)) (one_replied i sofar) arrivals all
 
   all_gone : (o : ObjectId) (sofar : List BridgePut) → AllByRecursion (InBridgePut G R) (gone o sofar)
   all_gone o sofar = placed (place_of o sofar) (λ slot. q.Gone slot o) (λ slot. tt)
@@ -127,24 +136,40 @@ module _ (G : MarketMsg → Type 0) (R : List FieldData → Type 0) where
   all_wanted shape s Snapshot topic = all_first shape topic (p.Want s Initial) tt
 
   module _ (shape : Shape) (before : List BridgeEvent) (sofar : List BridgePut) (all : AllByRecursion (InEvent G R) before) where
+    arriving_window : (s : SubId) → AllByRecursion (Comes G) (arriving (window shape s before))
+    arriving_window s = all_coming G (window shape s before) (all_window shape s before all)
+
+    answering_window : (i : InboxId) → AllByRecursion (Answers R) (answering (reply_window shape i before))
+    answering_window i = all_answering R (reply_window shape i before) (all_reply_window shape i before all)
+
     all_passed : (e : BridgeEvent) (s : SubId) → InEvent G R e → AllByRecursion (InBridgePut G R) (passed shape before sofar e s)
     all_passed e s h =
         let terms : Option SubTerms = first_said (terms_in s) before in
-        all_delivered s sofar (passed_on (faults_of terms) (window shape s before) (sent_with shape s terms e))
-        (all_passed_on G (faults_of terms) (window shape s before) (sent_with shape s terms e) (all_window shape s before all) (all_sent shape s terms e h))
+        all_delivered s sofar (passed_on cut_arrival (faults_of terms) (arriving (window shape s before)) (arriving (sent_with shape s terms e)))
+        (all_passed_on (Comes G) cut_arrival (comes_cut G) (faults_of terms) (arriving (window shape s before)) (arriving (sent_with shape s terms e))
+        (arriving_window s) (all_coming G (sent_with shape s terms e) (all_sent shape s terms e h)))
+
+    all_passed_reply : (e : BridgeEvent) (i : InboxId) → InEvent G R e → AllByRecursion (InBridgePut G R) (passed_reply shape before sofar e i)
+    all_passed_reply e i h =
+        let faults = inbox_faults_of (first_said (inbox_terms_in i) before) in
+        all_replied i sofar (passed_on cut_reply faults (answering (reply_window shape i before)) (answering (replied_to i e)))
+        (all_passed_on (Answers R) cut_reply (answers_cut R) faults (answering (reply_window shape i before)) (answering (replied_to i e))
+        (answering_window i) (all_answering R (replied_to i e) (all_replied_to i e h)))
 
     all_ended : (s : SubId) → AllByRecursion (InBridgePut G R) (ended shape before sofar s)
     all_ended s =
         let faults = faults_of (first_said (terms_in s) before) in
-        all_append (InBridgePut G R) (delivered s sofar (rest faults (window shape s before))) (gone (Sub s) sofar)
-        (all_delivered s sofar (rest faults (window shape s before)) (all_rest G faults (window shape s before) (all_window shape s before all)))
+        all_append (InBridgePut G R) (delivered s sofar (rest faults (arriving (window shape s before)))) (gone (Sub s) sofar)
+        (all_delivered s sofar (rest faults (arriving (window shape s before)))
+        (all_rest (Comes G) cut_arrival (comes_cut G) faults (arriving (window shape s before)) (arriving_window s)))
         (all_gone (Sub s) sofar)
 
     all_ended_inbox : (i : InboxId) → AllByRecursion (InBridgePut G R) (ended_inbox shape before sofar i)
     all_ended_inbox i =
-        let bodies : List (List FieldData) = rest (inbox_faults_of (first_said (inbox_terms_in i) before)) (reply_window shape i before) in
-        all_append (InBridgePut G R) (replied i sofar bodies) (gone (Inbox i) sofar)
-        (all_replied i sofar bodies (all_rest R (inbox_faults_of (first_said (inbox_terms_in i) before)) (reply_window shape i before) (all_reply_window shape i before all)))
+        let faults = inbox_faults_of (first_said (inbox_terms_in i) before) in
+        all_append (InBridgePut G R) (replied i sofar (rest faults (answering (reply_window shape i before)))) (gone (Inbox i) sofar)
+        (all_replied i sofar (rest faults (answering (reply_window shape i before)))
+        (all_rest (Answers R) cut_reply (answers_cut R) faults (answering (reply_window shape i before)) (answering_window i)))
         (all_gone (Inbox i) sofar)
 
     all_answered : (e : BridgeEvent) → InEvent G R e → AllByRecursion (InBridgePut G R) (answer shape before sofar e)
@@ -163,11 +188,7 @@ module _ (G : MarketMsg → Type 0) (R : List FieldData → Type 0) where
     all_answered (publishes r msg) h = all_flat (InBridgePut G R) (passed shape before sofar (publishes r msg)) (λ s. all_passed (publishes r msg) s h) (live_subs shape before)
     all_answered (images s msg) h = all_if (InBridgePut G R) (is_live shape s before) (passed shape before sofar (images s msg) s) [] (all_passed (images s msg) s h) tt
     all_answered (replies i body) h =
-        let bodies : List (List FieldData) = passed_on (inbox_faults_of (first_said (inbox_terms_in i) before)) (reply_window shape i before) (replied_to i (replies i body)) in
-        all_if (InBridgePut G R) (is_open shape i before) (replied i sofar bodies) []
-        (all_replied i sofar bodies
-        (all_passed_on R (inbox_faults_of (first_said (inbox_terms_in i) before)) (reply_window shape i before) (replied_to i (replies i body))
-        (all_reply_window shape i before all) (all_replied_to i (replies i body) h))) tt
+        all_if (InBridgePut G R) (is_open shape i before) (passed_reply shape before sofar (replies i body) i) [] (all_passed_reply (replies i body) i h) tt
     all_answered (wishes s sender) h =
         all_if (InBridgePut G R) (is_live shape s before && may_wish shape before sofar s sender (first_said (terms_in s) before)) (to_publisher (sender - 1) (p.Want s Recap) ∷ []) []
         (tt, tt) tt

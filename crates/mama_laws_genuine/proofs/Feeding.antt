@@ -1,22 +1,22 @@
 -- What the bridge puts for a subscription on a topic: whatever holds of the messages that are sent to it holds of those
 -- that are passed on, and what holds of each sender of which a recap is wished, and of the first publisher of the topic,
 -- holds of each publisher that is asked for an image. No update is ever asked for.
-use Rattle.std.specs.Prelude.{◌-◌, ◌&&◌, not, position, slice_index, if◌then◌else◌, Option, None, Some}
-use Rattle.std.specs.List.{AllByRecursion, list_any, flat_map}
+use Rattle.std.specs.Prelude.{◌-◌, ◌&&◌, not, position, slice_index, if◌then◌else◌, Option, None, Some, Ok, Err}
+use Rattle.std.specs.List.{AllByRecursion, list_any}
 use Rattle.std.specs.Option.{option_or}
-use Rattle.std.proofs.Common.{◌≡◌, ℕ, ◌==◌, true, false, List, [], ◌∷◌, ◌++◌, map, refl, sym, subst}
+use Rattle.std.proofs.Common.{◌≡◌, ℕ, ◌==◌, true, false, List, [], ◌∷◌, refl, sym, subst}
 use Rattle.std.proofs.lemmas.Bool.Decides.{Decides-eqb}
-use Rattle.mama_msg.specs.Field.{FieldData}
-use Rattle.mama_journal.specs.Journal.{all_puts, turns, first_said, numbers_below}
+use Rattle.mama_journal.specs.Journal.{all_puts, first_said}
 use Rattle.mama_link.specs.Link.{rest}
 use Rattle.mama_link.specs.declared.faults.FaultRow.{FaultRow}
-use Rattle.mama_event.specs.Ports.{publishers_of, queues_of}
 use Rattle.mama_event.specs.Object.{same_sub}
 use Rattle.mama_event.specs.declared.ids.SubId.{SubId}
 use Rattle.mama_event.specs.declared.ids.InboxId.{InboxId}
 use Rattle.mama_event.specs.declared.ids.ObjectId.{ObjectId}
 use Rattle.mama_event.specs.declared.ids.ObjectId.TheVariants.{Sub, Inbox}
 use Rattle.mama_event.specs.declared.shape.Shape.{Shape}
+use Rattle.mama_event.specs.Wire.{Arrival, ReplyArrival, arriving, answering, cut_arrival, cut_reply}
+use Rattle.mama_event.specs.ToQueue.{delivered_note, replied_note}
 use Rattle.mama_event.specs.declared.market.MarketMsg.{MarketMsg}
 use Rattle.mama_event.specs.declared.market.MsgKind.TheVariants.{Initial, Recap}
 use Rattle.mama_event.specs.declared.market.SubKind.{SubKind}
@@ -27,13 +27,13 @@ use Rattle.mama_event.specs.declared.to_queue.QueueNote.TheVariants as q
 use Rattle.mama_event.specs.declared.to_publisher.PublisherNote.{PublisherNote}
 use Rattle.mama_event.specs.declared.to_publisher.PublisherNote.TheVariants as p
 use Rattle.mama_event.specs.declared.to_queue.Make.TheVariants as make
-use Rattle.mama_event.specs.declared.to_timers.TimersNote.TheVariants as t
 use Rattle.mama_dq.specs.Table.{is_update}
-use Rattle.mama_rules_services.specs.Bridge.{BridgeEvent, joins, leaves, opens, closes, asks, publishes, images, replies, wishes, client_done, sends_done, settled, bye, no_event, terms_in, is_live, live_subs, open_inboxes, sent_to, sent_with, window, faults_of, inbox_faults_of, inbox_terms_in, reply_window, replied_to, joins_sub, opens_inbox, is_open, is_settling, has_ending, free_slot, may_wish, BridgePut, to_publisher, to_queue, to_timers, place_of, to_place, to_found, to_first, wants_image, delivered, replied, gone, passed_on, passed, passed_reply, ended, ended_inbox, answer, settle_begins, ending_comes, bridge_reaction}
+use Rattle.mama_rules_services.specs.Bridge.{BridgeEvent, joins, leaves, opens, closes, asks, publishes, images, replies, wishes, client_done, sends_done, settled, bye, no_event, terms_in, is_live, live_subs, open_inboxes, sent_to, sent_with, window, faults_of, inbox_faults_of, inbox_terms_in, reply_window, replied_to, joins_sub, opens_inbox, is_open, is_settling, free_slot, may_wish, BridgePut, to_publisher, to_queue, to_timers, place_of, to_place, to_found, to_first, wants_image, delivered, replied, gone, passed_on, passed, passed_reply, ended, ended_inbox, answer, bridge_reaction}
 use Rattle.mama_laws_legal.proofs.Lives.{same_sub-is}
-use Rattle.mama_laws_genuine.proofs.Elements.{all_append, all_if, all_flat_map, all_flat, all_mapped, all_puts_known, all_puts_so_far, all_each}
+use Rattle.mama_laws_genuine.proofs.Elements.{all_append, all_if, all_flat_map, all_flat, all_puts_known, all_puts_so_far, all_each}
 use Rattle.mama_laws_genuine.proofs.Reactions as reactions
 use Rattle.mama_laws_genuine.proofs.Linked.{all_passed_on, all_rest}
+use Rattle.mama_laws_genuine.proofs.Arrived.{Comes, comes_cut, all_coming}
 use Rattle.mama_laws_genuine.proofs.Wishing.{Brings}
 
 -- a publisher that is asked for an image of the subscription is such, and no publisher is asked for an update
@@ -121,15 +121,24 @@ module _ (shape : Shape) (s : SubId) (wanted : ℕ) (Mine : MarketMsg → Type 0
   placed None event h = tt
   placed (Some place) event h = (h place.1, tt)
 
-  all_delivered : (sub : SubId) (sofar : List BridgePut) (msgs : List MarketMsg) → (same_sub sub s ≡ true → AllByRecursion Mine msgs) → AllByRecursion InPut (delivered sub sofar msgs)
-  all_delivered sub sofar msgs all =
-      all_flat_map (λ (m : MarketMsg). same_sub sub s ≡ true → Mine m) InPut (λ (m : MarketMsg). to_place (place_of (Sub sub) sofar) (λ slot. q.Deliver slot sub m))
-      (λ m h. placed (place_of (Sub sub) sofar) (λ slot. q.Deliver slot sub m) (λ slot. h)) msgs (all_each (same_sub sub s ≡ true) (λ same. Mine) msgs all)
+  one_delivered : (sub : SubId) (sofar : List BridgePut) (arrival : Arrival) → (same_sub sub s ≡ true → Comes Mine arrival)
+      → AllByRecursion InPut (to_place (place_of (Sub sub) sofar) (λ slot. delivered_note slot sub arrival))
+  one_delivered sub sofar (Ok m) h = placed (place_of (Sub sub) sofar) (λ slot. q.Deliver slot sub m) (λ slot. h)
+  one_delivered sub sofar (Err piece) h = placed (place_of (Sub sub) sofar) (λ slot. q.Bad slot sub piece.kind piece.sender piece.seq piece.body) (λ slot. tt)
 
-  all_replied : (i : InboxId) (sofar : List BridgePut) (bodies : List (List FieldData)) → AllByRecursion InPut (replied i sofar bodies)
-  all_replied i sofar bodies =
-      all_flat InPut (λ (body : List FieldData). to_place (place_of (Inbox i) sofar) (λ slot. q.Reply slot i body))
-      (λ body. placed (place_of (Inbox i) sofar) (λ slot. q.Reply slot i body) (λ slot. tt)) bodies
+  all_delivered : (sub : SubId) (sofar : List BridgePut) (arrivals : List Arrival) → (same_sub sub s ≡ true → AllByRecursion (Comes Mine) arrivals)
+      → AllByRecursion InPut (delivered sub sofar arrivals)
+  all_delivered sub sofar arrivals all =
+      all_flat_map (λ (a : Arrival). same_sub sub s ≡ true → Comes Mine a) InPut (λ (a : Arrival). to_place (place_of (Sub sub) sofar) (λ slot. delivered_note slot sub a))
+      (one_delivered sub sofar) arrivals (all_each (same_sub sub s ≡ true) (λ same. Comes Mine) arrivals all)
+
+  one_replied : (i : InboxId) (sofar : List BridgePut) (arrival : ReplyArrival) → AllByRecursion InPut (to_place (place_of (Inbox i) sofar) (λ slot. replied_note slot i arrival))
+  one_replied i sofar (Ok body) = placed (place_of (Inbox i) sofar) (λ slot. q.Reply slot i body) (λ slot. tt)
+  one_replied i sofar (Err bytes) = placed (place_of (Inbox i) sofar) (λ slot. q.BadReply slot i bytes) (λ slot. tt)
+
+  all_replied : (i : InboxId) (sofar : List BridgePut) (arrivals : List ReplyArrival) → AllByRecursion InPut (replied i sofar arrivals)
+  all_replied i sofar arrivals =
+      all_flat InPut (λ (a : ReplyArrival). to_place (place_of (Inbox i) sofar) (λ slot. replied_note slot i a)) (one_replied i sofar) arrivals
 
   all_gone : (o : ObjectId) (sofar : List BridgePut) → AllByRecursion InPut (gone o sofar)
   all_gone o sofar = placed (place_of o sofar) (λ slot. q.Gone slot o) (λ slot. tt)
@@ -153,24 +162,29 @@ module _ (shape : Shape) (s : SubId) (wanted : ℕ) (Mine : MarketMsg → Type 0
     abbrev faults : SubId → List FaultRow
     faults sub = faults_of (first_said (terms_in sub) before)
 
+    coming_window : AllByRecursion (Comes Mine) (arriving (window shape s before))
+    coming_window = all_coming Mine (window shape s before) (all_window before all)
+
     all_passed : (e : BridgeEvent) (sub : SubId) → Feeds e → AllByRecursion InPut (passed shape before sofar e sub)
     all_passed e sub h =
-        all_delivered sub sofar (passed_on (faults sub) (window shape sub before) (sent_with shape sub (first_said (terms_in sub) before) e))
-        (λ same. subst (λ (x : SubId). AllByRecursion Mine (passed_on (faults x) (window shape x before) (sent_with shape x (first_said (terms_in x) before) e))) (sym (same_sub-is sub s same))
-        (all_passed_on Mine (faults s) (window shape s before) (sent_with shape s (first_said (terms_in s) before) e) (all_window before all) (all_sent before e all h)))
+        all_delivered sub sofar (passed_on cut_arrival (faults sub) (arriving (window shape sub before)) (arriving (sent_with shape sub (first_said (terms_in sub) before) e)))
+        (λ same. subst (λ (x : SubId). AllByRecursion (Comes Mine) (passed_on cut_arrival (faults x) (arriving (window shape x before)) (arriving (sent_with shape x (first_said (terms_in x) before) e))))
+        (sym (same_sub-is sub s same))
+        (all_passed_on (Comes Mine) cut_arrival (comes_cut Mine) (faults s) (arriving (window shape s before)) (arriving (sent_with shape s (first_said (terms_in s) before) e))
+        coming_window (all_coming Mine (sent_with shape s (first_said (terms_in s) before) e) (all_sent before e all h))))
 
     all_ended : (sub : SubId) → AllByRecursion InPut (ended shape before sofar sub)
     all_ended sub =
-        all_append InPut (delivered sub sofar (rest (faults sub) (window shape sub before))) (gone (Sub sub) sofar)
-        (all_delivered sub sofar (rest (faults sub) (window shape sub before))
-        (λ same. subst (λ (x : SubId). AllByRecursion Mine (rest (faults x) (window shape x before))) (sym (same_sub-is sub s same))
-        (all_rest Mine (faults s) (window shape s before) (all_window before all))))
+        all_append InPut (delivered sub sofar (rest (faults sub) (arriving (window shape sub before)))) (gone (Sub sub) sofar)
+        (all_delivered sub sofar (rest (faults sub) (arriving (window shape sub before)))
+        (λ same. subst (λ (x : SubId). AllByRecursion (Comes Mine) (rest (faults x) (arriving (window shape x before)))) (sym (same_sub-is sub s same))
+        (all_rest (Comes Mine) cut_arrival (comes_cut Mine) (faults s) (arriving (window shape s before)) coming_window)))
         (all_gone (Sub sub) sofar)
 
     all_ended_inbox : (i : InboxId) → AllByRecursion InPut (ended_inbox shape before sofar i)
     all_ended_inbox i =
-        let bodies : List (List FieldData) = rest (inbox_faults_of (first_said (inbox_terms_in i) before)) (reply_window shape i before) in
-        all_append InPut (replied i sofar bodies) (gone (Inbox i) sofar) (all_replied i sofar bodies) (all_gone (Inbox i) sofar)
+        let arrivals : List ReplyArrival = rest (inbox_faults_of (first_said (inbox_terms_in i) before)) (answering (reply_window shape i before)) in
+        all_append InPut (replied i sofar arrivals) (gone (Inbox i) sofar) (all_replied i sofar arrivals) (all_gone (Inbox i) sofar)
 
     all_answered : (e : BridgeEvent) → Feeds e → AllByRecursion InPut (answer shape before sofar e)
     all_answered (joins sub terms tag) h =
@@ -189,7 +203,7 @@ module _ (shape : Shape) (s : SubId) (wanted : ℕ) (Mine : MarketMsg → Type 0
     all_answered (images sub msg) h = all_if InPut (is_live shape sub before) (passed shape before sofar (images sub msg) sub) [] (all_passed (images sub msg) sub h) tt
     all_answered (replies i body) h =
         all_if InPut (is_open shape i before) (passed_reply shape before sofar (replies i body) i) []
-        (all_replied i sofar (passed_on (inbox_faults_of (first_said (inbox_terms_in i) before)) (reply_window shape i before) (replied_to i (replies i body)))) tt
+        (all_replied i sofar (passed_on cut_reply (inbox_faults_of (first_said (inbox_terms_in i) before)) (answering (reply_window shape i before)) (answering (replied_to i (replies i body))))) tt
     all_answered (wishes sub sender) h =
         all_if InPut (is_live shape sub before && may_wish shape before sofar sub sender (first_said (terms_in sub) before)) (to_publisher (sender - 1) (p.Want sub Recap) ∷ []) []
         ((refl, λ same. asked sender (h same)), tt) tt

@@ -6,6 +6,7 @@ use Rattle.std.proofs.Common.{◌≡◌, ℕ, ◌+◌, Bool, true, false, List, 
 use Rattle.std.proofs.lemmas.List.{append_cancel_left, map-append}
 use Rattle.std.proofs.lemmas.List.Concat.{flat_map-append}
 use Rattle.mama_journal.specs.Journal.{first_said}
+use Rattle.mama_event.specs.Wire.{code_of}
 use Rattle.mama_event.specs.Object.{same_sub, same_object}
 use Rattle.mama_event.specs.declared.ids.SubId.{SubId}
 use Rattle.mama_event.specs.declared.ids.ObjectId.{ObjectId}
@@ -248,6 +249,10 @@ module _ (orders : ObjectId → ℕ → List Order) (s : SubId) where
           by_case false live order = delivered sub msg (same_sub sub s) refl created live order
       one_served (q.Reply slot inbox body) created order =
           same_given sofar (made orders (Inbox inbox) sofar (on.Reply body ∷ [])) (none_made orders s (Inbox inbox) sofar (on.Reply body ∷ [])) (none_given (Inbox inbox) sofar (on.Reply body ∷ []) (refl, tt)) so
+      one_served (q.Bad slot sub kind sender seq bytes) created order =
+          same_given sofar (made orders (Sub sub) sofar (on.Error (code_of bytes) ∷ [])) (none_made orders s (Sub sub) sofar (on.Error (code_of bytes) ∷ [])) (none_given (Sub sub) sofar (on.Error (code_of bytes) ∷ []) (refl, tt)) so
+      one_served (q.BadReply slot inbox bytes) created order =
+          same_given sofar (made orders (Inbox inbox) sofar (on.Error (code_of bytes) ∷ [])) (none_made orders s (Inbox inbox) sofar (on.Error (code_of bytes) ∷ [])) (none_given (Inbox inbox) sofar (on.Error (code_of bytes) ∷ []) (refl, tt)) so
       one_served (q.Tick slot timer moment) created order =
           same_given sofar (made orders (Timer timer) sofar (on.Tick moment ∷ [])) (none_made orders s (Timer timer) sofar (on.Tick moment ∷ [])) (none_given (Timer timer) sofar (on.Tick moment ∷ []) (refl, tt)) so
       one_served (q.Gone slot object) created order =
@@ -264,6 +269,8 @@ module _ (orders : ObjectId → ℕ → List Order) (s : SubId) where
       not_made (q.Create slot object made tag) other = ap (λ (b : Bool). if b then Some made else None) other
       not_made (q.Deliver slot sub msg) other = refl
       not_made (q.Reply slot inbox body) other = refl
+      not_made (q.Bad slot sub kind sender seq bytes) other = refl
+      not_made (q.BadReply slot inbox bytes) other = refl
       not_made (q.Tick slot timer moment) other = refl
       not_made (q.Gone slot object) other = refl
       not_made q.Fin other = refl
@@ -290,6 +297,8 @@ module _ (orders : ObjectId → ℕ → List Order) (s : SubId) where
       is_created before port (q.Deliver k sub msg) es is sofar so = λ same. created_first before (port, q.Deliver k sub msg) es same (λ wrong. absurd cc) is
       is_created before port (q.Create k object made tag) es is sofar so = tt
       is_created before port (q.Reply k inbox body) es is sofar so = tt
+      is_created before port (q.Bad k sub kind sender seq bytes) es is sofar so = tt
+      is_created before port (q.BadReply k inbox bytes) es is sofar so = tt
       is_created before port (q.Tick k timer moment) es is sofar so = tt
       is_created before port (q.Gone k object) es is sofar so = tt
       is_created before port q.Fin es is sofar so = tt

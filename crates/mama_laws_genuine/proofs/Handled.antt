@@ -5,6 +5,7 @@ use Rattle.std.proofs.Common.{◌≡◌, ℕ, ◌+◌, Bool, true, false, List, 
 use Rattle.std.proofs.lemmas.Bool.{both_ways}
 use Rattle.std.proofs.lemmas.List.Concat.{flat_map-append}
 use Rattle.mama_journal.specs.Journal.{puts_so_far, first_said}
+use Rattle.mama_event.specs.Wire.{code_of}
 use Rattle.mama_event.specs.Object.{same_sub}
 use Rattle.mama_event.specs.EqualityLaws.{same_sub-Decides}
 use Rattle.mama_event.specs.declared.ids.SubId.{SubId}
@@ -24,6 +25,8 @@ abbrev pub delivers : SubId → QueueNote → List MarketMsg
 delivers s (q.Create slot object make tag) = []
 delivers s (q.Deliver slot sub msg) = if same_sub sub s then msg ∷ [] else []
 delivers s (q.Reply slot inbox body) = []
+delivers s (q.Bad slot sub kind sender seq bytes) = []
+delivers s (q.BadReply slot inbox bytes) = []
 delivers s (q.Tick slot timer moment) = []
 delivers s (q.Gone slot object) = []
 delivers s q.Fin = []
@@ -80,6 +83,8 @@ module _ (orders : ObjectId → ℕ → List Order) (s : SubId) where
             nothing true = refl
             nothing false = refl
     muted_served (q.Reply slot inbox body) muted = none_made (Inbox inbox) sofar (on.Reply body ∷ [])
+    muted_served (q.Bad slot sub kind sender seq bytes) muted = none_made (Sub sub) sofar (on.Error (code_of bytes) ∷ [])
+    muted_served (q.BadReply slot inbox bytes) muted = none_made (Inbox inbox) sofar (on.Error (code_of bytes) ∷ [])
     muted_served (q.Tick slot timer moment) muted = none_made (Timer timer) sofar (on.Tick moment ∷ [])
     muted_served (q.Gone slot object) muted = none_made object sofar (on.Destroy ∷ [])
     muted_served q.Fin muted = refl
@@ -99,6 +104,8 @@ module _ (orders : ObjectId → ℕ → List Order) (s : SubId) where
             nothing true = refl
             nothing false = refl
     live_served (q.Reply slot inbox body) live = none_made (Inbox inbox) sofar (on.Reply body ∷ [])
+    live_served (q.Bad slot sub kind sender seq bytes) live = none_made (Sub sub) sofar (on.Error (code_of bytes) ∷ [])
+    live_served (q.BadReply slot inbox bytes) live = none_made (Inbox inbox) sofar (on.Error (code_of bytes) ∷ [])
     live_served (q.Tick slot timer moment) live = none_made (Timer timer) sofar (on.Tick moment ∷ [])
     live_served (q.Gone slot object) live = none_made object sofar (on.Destroy ∷ [])
     live_served q.Fin live = refl

@@ -2,6 +2,7 @@ pub mod Elements
 pub mod Reactions
 pub mod Carried
 pub mod Linked
+pub mod Arrived
 pub mod Bridging
 pub mod Timing
 pub mod Serving

@@ -5,6 +5,7 @@ use Rattle.std.proofs.Common.{ℕ, ◌+◌, List, [], ◌∷◌, ◌++◌, lengt
 use Rattle.mama_journal.specs.Journal.{first_said}
 use Rattle.std.specs.Prelude.{Option, Some, None}
 use Rattle.mama_msg.specs.Field.{FieldData}
+use Rattle.mama_event.specs.Wire.{code_of}
 use Rattle.mama_event.specs.Object.{same_sub, same_object}
 use Rattle.mama_event.specs.declared.market.SubKind.TheVariants.{Basic}
 use Rattle.mama_event.specs.declared.to_queue.Make.{Make}
@@ -57,6 +58,8 @@ module _ (G : MarketMsg → Type 0) (R : List FieldData → Type 0) (orders : Ob
       all_if (InDeed G R) (is_muted (Sub sub) sofar) [] (handled sub msg ∷ made orders (Sub sub) (sofar ++ handled sub msg ∷ []) calls)
       tt (h, all_made (Sub sub) (sofar ++ handled sub msg ∷ []) calls (given how (messages_of sub sofar) msg (all_handled sub sofar so) h))
   all_served before sofar (q.Reply slot inbox body) so h = all_made (Inbox inbox) sofar (on.Reply body ∷ []) (h, tt)
+  all_served before sofar (q.Bad slot sub kind sender seq bytes) so h = all_made (Sub sub) sofar (on.Error (code_of bytes) ∷ []) (tt, tt)
+  all_served before sofar (q.BadReply slot inbox bytes) so h = all_made (Inbox inbox) sofar (on.Error (code_of bytes) ∷ []) (tt, tt)
   all_served before sofar (q.Tick slot timer moment) so h = all_made (Timer timer) sofar (on.Tick moment ∷ []) (tt, tt)
   all_served before sofar (q.Gone slot object) so h = all_made object sofar (on.Destroy ∷ []) (tt, tt)
   all_served before sofar q.Fin so h = tt

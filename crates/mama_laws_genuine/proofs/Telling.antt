@@ -3,9 +3,11 @@ use Rattle.std.specs.Prelude.{◌&&◌, not, if◌then◌else◌, ◌⊎◌, Opt
 use Rattle.std.specs.List.{AllByRecursion, Contains}
 use Rattle.std.specs.Option.{option_or}
 use Rattle.std.proofs.Common.{◌≡◌, ℕ, ◌+◌, Bool, true, false, List, [], ◌∷◌, ◌++◌, length, refl, sym, ◌∙◌, ap, subst, inl, inr, ⊎_elim, append_assoc}
+use Rattle.std.proofs.lemmas.Bool.{both_ways}
 use Rattle.std.proofs.lemmas.List.Concat.{flat_map-append}
 use Rattle.std.proofs.lemmas.List.Elements.{recursion_from_All, All-from_recursion, All-contains, All-contains_itself}
 use Rattle.mama_journal.specs.Journal.{puts_so_far, first_said}
+use Rattle.mama_event.specs.Wire.{code_of}
 use Rattle.mama_event.specs.Object.{same_sub, same_object}
 use Rattle.mama_event.specs.EqualityLaws.{same_sub-Decides}
 use Rattle.mama_event.specs.declared.ids.SubId.{SubId}
@@ -22,7 +24,6 @@ use Rattle.mama_event.specs.declared.to_queue.Make.{Make}
 use Rattle.mama_event.specs.declared.to_queue.Make.TheVariants as make
 use Rattle.mama_event.specs.declared.to_queue.QueueNote.{QueueNote}
 use Rattle.mama_event.specs.declared.to_queue.QueueNote.TheVariants as q
-use Rattle.mama_event.specs.declared.shape.Strategy.{Strategy}
 use Rattle.mama_event.specs.declared.shape.Strategy.TheVariants.{One}
 use Rattle.mama_dq.specs.Context.{ContextData, new_context}
 use Rattle.mama_dq.specs.Gap.{IsTrueGap, TellsTrueGap, stretch_of}
@@ -32,7 +33,7 @@ use Rattle.mama_dq.proofs.StaleLaw.{stale_law}
 use Rattle.mama_dq.proofs.SameKind.{after_all_kind}
 use Rattle.mama_rules_queue.specs.Queue.{Deed, handled, called, calls_in, calls_of, messages_in, messages_of, is_muted, is_destroy, made, make_in, context_of, served, deeds}
 use Rattle.mama_laws_genuine.specs.Told.{IsMadeBy, TellsOf, strategy_of, kind_of, size_of}
-use Rattle.mama_laws_genuine.proofs.Elements.{all_append, all_if, all_flat_map, all_weaker, all_both}
+use Rattle.mama_laws_genuine.proofs.Elements.{all_append, all_if, all_flat_map, all_weaker, all_both, all_any}
 
 -- what is said first among the first entries is nothing, or what is said first among all
 pub said_first : {E A : Type 0} (say : E → Option A) (before es : List E) → (first_said say before ≡ None) ⊎ (first_said say before ≡ first_said say (before ++ es))
@@ -43,14 +44,37 @@ said_first say (e ∷ before) es =
       | Some a ↦ inr refl
     ]
 
--- a message of a basic subscription tells nothing but itself
-basic_calls : (strategy : Strategy) (kind : SubKind) (size : ℕ) (messages : List MarketMsg) (c : ContextData) (m : MarketMsg) → c.kind ≡ Basic
-    → AllByRecursion (TellsOf strategy kind size messages) (callbacks_of c m)
-basic_calls strategy kind size messages c m basic = subst (λ (k : SubKind). AllByRecursion (TellsOf strategy kind size messages) (step_by k c m).calls) (sym basic) (tt, tt)
+-- where the note tells that bytes for the subscription were broken, that is so
+abbrev pub Breaks : SubId → Type 0 → QueueNote → Type 0
+Breaks s Broken (q.Create slot object make tag) = Unit {0}
+Breaks s Broken (q.Deliver slot sub msg) = Unit {0}
+Breaks s Broken (q.Reply slot inbox body) = Unit {0}
+Breaks s Broken (q.Bad slot sub kind sender seq bytes) = same_sub sub s ≡ true → Broken
+Breaks s Broken (q.BadReply slot inbox bytes) = Unit {0}
+Breaks s Broken (q.Tick slot timer moment) = Unit {0}
+Breaks s Broken (q.Gone slot object) = Unit {0}
+Breaks s Broken q.Fin = Unit {0}
 
-module _ (orders : ObjectId → ℕ → List Order) (s : SubId) (how : Option Make) where
+-- and an error is made by a message, or is told of such bytes
+abbrev pub TellsOr : Type 0 → Option Make → List MarketMsg → Callback → Type 0
+TellsOr Broken how messages (on.Gap first to) = TellsOf (strategy_of how) (kind_of how) (size_of how) messages (on.Gap first to)
+TellsOr Broken how messages (on.Quality q n) = TellsOf (strategy_of how) (kind_of how) (size_of how) messages (on.Quality q n)
+TellsOr Broken how messages (on.RecapRequest sender) = TellsOf (strategy_of how) (kind_of how) (size_of how) messages (on.RecapRequest sender)
+TellsOr Broken how messages on.Create = Unit {0}
+TellsOr Broken how messages (on.Msg m q) = Unit {0}
+TellsOr Broken how messages (on.Late a n) = TellsOf (strategy_of how) (kind_of how) (size_of how) messages (on.Late a n)
+TellsOr Broken how messages (on.Error e) = IsMadeBy (strategy_of how) (kind_of how) (size_of how) messages (on.Error e) ⊎ Broken
+TellsOr Broken how messages on.Destroy = Unit {0}
+TellsOr Broken how messages (on.Tick t) = Unit {0}
+TellsOr Broken how messages (on.Reply b) = Unit {0}
+
+module _ (orders : ObjectId → ℕ → List Order) (s : SubId) (how : Option Make) (Broken : Type 0) where
   abbrev Tells : List MarketMsg → Callback → Type 0
-  Tells messages call = TellsOf (strategy_of how) (kind_of how) (size_of how) messages call
+  Tells messages call = TellsOr Broken how messages call
+
+  -- a message of a basic subscription tells nothing but itself
+  basic_calls : (messages : List MarketMsg) (c : ContextData) (m : MarketMsg) → c.kind ≡ Basic → AllByRecursion (Tells messages) (callbacks_of c m)
+  basic_calls messages c m basic = subst (λ (k : SubKind). AllByRecursion (Tells messages) (step_by k c m).calls) (sym basic) (tt, tt)
 
   abbrev DeedTells : List MarketMsg → Deed → Type 0
   DeedTells messages (handled sub msg) = Unit {0}
@@ -87,7 +111,7 @@ module _ (orders : ObjectId → ℕ → List Order) (s : SubId) (how : Option Ma
   later_tells messages more on.Create told = tt
   later_tells messages more (on.Msg m q) told = tt
   later_tells messages more (on.Late a n) told = later_made messages more (on.Late a n) told
-  later_tells messages more (on.Error e) told = tt
+  later_tells messages more (on.Error e) told = ⊎_elim (λ by. inl (later_made messages more (on.Error e) by)) (λ broken. inr broken) told
   later_tells messages more on.Destroy told = tt
   later_tells messages more (on.Tick t) told = tt
   later_tells messages more (on.Reply b) told = tt
@@ -125,7 +149,7 @@ module _ (orders : ObjectId → ℕ → List Order) (s : SubId) (how : Option Ma
     true_call on.Create both = tt
     true_call (on.Msg given q) both = tt
     true_call (on.Late a n) (gap, made) = by_it (on.Late a n) made
-    true_call (on.Error e) both = tt
+    true_call (on.Error e) (gap, made) = inl (by_it (on.Error e) made)
     true_call on.Destroy both = tt
     true_call (on.Tick t) both = tt
     true_call (on.Reply b) both = tt
@@ -146,7 +170,7 @@ module _ (orders : ObjectId → ℕ → List Order) (s : SubId) (how : Option Ma
       → messages ≡ before ++ m ∷ later → AllByRecursion (Tells messages) (callbacks_of (context_of so_far before) m)
   message_tells so_far (inl none) before m later messages cut =
       subst (λ (o : Option Make). AllByRecursion (Tells messages) (callbacks_of (context_of o before) m)) (sym none)
-      (basic_calls (strategy_of how) (kind_of how) (size_of how) messages (fold One Basic 0 before) m (after_all_kind before (new_context One Basic 0)))
+      (basic_calls messages (fold One Basic 0 before) m (after_all_kind before (new_context One Basic 0)))
   message_tells so_far (inr same) before m later messages cut =
       subst (λ (c : ContextData). AllByRecursion (Tells messages) (callbacks_of c m)) (sym (ap (λ (o : Option Make). context_of o before) same ∙ context_is how before))
       (own_true before m later messages cut)
@@ -166,41 +190,46 @@ module _ (orders : ObjectId → ℕ → List Order) (s : SubId) (how : Option Ma
         subst (λ (r : SubId). AllByRecursion (Tells (messages_of s (sofar ++ handled sub msg ∷ rest))) (callbacks_of (context_of (said before r) (messages_of r sofar)) msg)) (sym is)
         (message_tells (said before s) known (messages_of s sofar) msg (messages_of s rest) (messages_of s (sofar ++ handled sub msg ∷ rest)) cut)
 
-    served_tells : (note : QueueNote) → AllByRecursion (DeedTells (messages_of s (sofar ++ served orders before sofar note))) (served orders before sofar note)
-    served_tells (q.Create slot object make tag) = all_made (messages_of s (sofar ++ made orders object sofar (on.Create ∷ []))) object sofar (on.Create ∷ []) (λ same. (tt, tt))
-    served_tells (q.Deliver slot sub msg) =
+    served_tells : (note : QueueNote) → Breaks s Broken note → AllByRecursion (DeedTells (messages_of s (sofar ++ served orders before sofar note))) (served orders before sofar note)
+    served_tells (q.Create slot object make tag) h = all_made (messages_of s (sofar ++ made orders object sofar (on.Create ∷ []))) object sofar (on.Create ∷ []) (λ same. (tt, tt))
+    served_tells (q.Deliver slot sub msg) h =
         let calls : List Callback = callbacks_of (context_of (said before sub) (messages_of sub sofar)) msg in
         let rest : List Deed = made orders (Sub sub) (sofar ++ handled sub msg ∷ []) calls in
         elim (is_muted (Sub sub) sofar) as (λ b. AllByRecursion (DeedTells (messages_of s (sofar ++ (if b then [] else handled sub msg ∷ rest)))) (if b then [] else handled sub msg ∷ rest)) [
           | true ↦ tt
           | false ↦ (tt, all_made (messages_of s (sofar ++ handled sub msg ∷ rest)) (Sub sub) (sofar ++ handled sub msg ∷ []) calls (delivered sub msg rest))
         ]
-    served_tells (q.Reply slot inbox body) =
+    served_tells (q.Reply slot inbox body) h =
         all_made (messages_of s (sofar ++ made orders (Inbox inbox) sofar (on.Reply body ∷ []))) (Inbox inbox) sofar (on.Reply body ∷ []) (λ same. (tt, tt))
-    served_tells (q.Tick slot timer moment) =
+    served_tells (q.Bad slot sub kind sender seq bytes) h =
+        all_made (messages_of s (sofar ++ made orders (Sub sub) sofar (on.Error (code_of bytes) ∷ []))) (Sub sub) sofar (on.Error (code_of bytes) ∷ []) (λ same. (inr (h same), tt))
+    served_tells (q.BadReply slot inbox bytes) h =
+        all_made (messages_of s (sofar ++ made orders (Inbox inbox) sofar (on.Error (code_of bytes) ∷ []))) (Inbox inbox) sofar (on.Error (code_of bytes) ∷ []) (λ same. absurd (both_ways false refl same))
+    served_tells (q.Tick slot timer moment) h =
         all_made (messages_of s (sofar ++ made orders (Timer timer) sofar (on.Tick moment ∷ []))) (Timer timer) sofar (on.Tick moment ∷ []) (λ same. (tt, tt))
-    served_tells (q.Gone slot object) = all_made (messages_of s (sofar ++ made orders object sofar (on.Destroy ∷ []))) object sofar (on.Destroy ∷ []) (λ same. (tt, tt))
-    served_tells q.Fin = tt
+    served_tells (q.Gone slot object) h = all_made (messages_of s (sofar ++ made orders object sofar (on.Destroy ∷ []))) object sofar (on.Destroy ∷ []) (λ same. (tt, tt))
+    served_tells q.Fin h = tt
 
-    one_more : (note : QueueNote) → AllByRecursion (DeedTells (messages_of s sofar)) sofar
+    one_more : (note : QueueNote) → Breaks s Broken note → AllByRecursion (DeedTells (messages_of s sofar)) sofar
         → AllByRecursion (DeedTells (messages_of s (sofar ++ served orders before sofar note))) (sofar ++ served orders before sofar note)
-    one_more note all =
+    one_more note h all =
         let new : List Deed = served orders before sofar note in
         all_append (DeedTells (messages_of s (sofar ++ new))) sofar new
         (subst (λ (messages : List MarketMsg). AllByRecursion (DeedTells messages) sofar) (sym (flat_map-append (messages_in s) sofar new))
         (all_weaker (DeedTells (messages_of s sofar)) (DeedTells (messages_of s sofar ++ messages_of s new)) (later_deed (messages_of s sofar) (messages_of s new)) sofar all))
-        (served_tells note)
+        (served_tells note h)
 
   all_tell : (before : List (ℕ × QueueNote)) (sofar : List Deed) (es : List (ℕ × QueueNote)) → said (before ++ es) s ≡ how
+      → AllByRecursion (λ (e : ℕ × QueueNote). Breaks s Broken e.1) es
       → AllByRecursion (DeedTells (messages_of s sofar)) sofar
       → AllByRecursion (DeedTells (messages_of s (puts_so_far (λ b d (e : ℕ × QueueNote). served orders b d e.1) before sofar es))) (puts_so_far (λ b d (e : ℕ × QueueNote). served orders b d e.1) before sofar es)
-  all_tell before sofar [] is all = all
-  all_tell before sofar (e ∷ es) is all =
+  all_tell before sofar [] is breaks all = all
+  all_tell before sofar (e ∷ es) is breaks all =
       let known : (said before s ≡ None) ⊎ (said before s ≡ how) =
       ⊎_elim (λ none. inl none) (λ same. inr (same ∙ is)) (said_first (λ (f : ℕ × QueueNote). make_in (Sub s) f.1) before (e ∷ es)) in
       all_tell (before ++ e ∷ []) (sofar ++ served orders before sofar e.1) es
-      (ap (λ (journal : List (ℕ × QueueNote)). said journal s) (append_assoc before (e ∷ []) es) ∙ is)
-      (one_more before sofar known e.1 all)
+      (ap (λ (journal : List (ℕ × QueueNote)). said journal s) (append_assoc before (e ∷ []) es) ∙ is) breaks.1
+      (one_more before sofar known e.1 breaks.0 all)
 
   call_tells : (messages : List MarketMsg) (d : Deed) → DeedTells messages d → AllByRecursion (λ (c : Callback × List Order). Tells messages c.0) (calls_in (Sub s) d)
   call_tells messages (handled sub msg) told = tt
@@ -210,12 +239,46 @@ module _ (orders : ObjectId → ℕ → List Order) (s : SubId) (how : Option Ma
         | false ↦ λ other. tt
       ]) refl
 
--- each gap that the callbacks of a subscription tell
-pub calls_tell : (orders : ObjectId → ℕ → List Order) (s : SubId) (journal : List (ℕ × QueueNote))
-    → AllByRecursion (λ (c : Callback × List Order). TellsOf (strategy_of (first_said (λ (e : ℕ × QueueNote). make_in (Sub s) e.1) journal)) (kind_of (first_said (λ (e : ℕ × QueueNote). make_in (Sub s) e.1) journal)) (size_of (first_said (λ (e : ℕ × QueueNote). make_in (Sub s) e.1) journal)) (messages_of s (deeds orders journal)) c.0)
-    (calls_of (Sub s) (deeds orders journal))
-calls_tell orders s journal =
-    let how : Option Make = first_said (λ (e : ℕ × QueueNote). make_in (Sub s) e.1) journal in
-    let messages : List MarketMsg = messages_of s (deeds orders journal) in
-    all_flat_map (DeedTells orders s how messages) (λ (c : Callback × List Order). Tells orders s how messages c.0) (calls_in (Sub s)) (call_tells orders s how messages)
-    (deeds orders journal) (all_tell orders s how [] [] journal refl tt)
+-- what the callbacks of a subscription tell, where it is known when bytes for it are broken
+module _ (orders : ObjectId → ℕ → List Order) (s : SubId) (journal : List (ℕ × QueueNote)) where
+  abbrev made_as : Option Make
+  made_as = first_said (λ (e : ℕ × QueueNote). make_in (Sub s) e.1) journal
+
+  pub calls_tell_or : (Broken : Type 0) → AllByRecursion (λ (e : ℕ × QueueNote). Breaks s Broken e.1) journal
+      → AllByRecursion (λ (c : Callback × List Order). TellsOr Broken made_as (messages_of s (deeds orders journal)) c.0) (calls_of (Sub s) (deeds orders journal))
+  calls_tell_or Broken breaks =
+      let messages : List MarketMsg = messages_of s (deeds orders journal) in
+      all_flat_map (DeedTells orders s made_as Broken messages) (λ (c : Callback × List Order). TellsOr Broken made_as messages c.0) (calls_in (Sub s)) (call_tells orders s made_as Broken messages)
+      (deeds orders journal) (all_tell orders s made_as Broken [] [] journal refl breaks tt)
+
+  any_breaks : (note : QueueNote) → Breaks s (Unit {0}) note
+  any_breaks (q.Bad slot sub kind sender seq bytes) = λ same. tt
+  any_breaks (q.Create slot object make tag) = tt
+  any_breaks (q.Deliver slot sub msg) = tt
+  any_breaks (q.Reply slot inbox body) = tt
+  any_breaks (q.BadReply slot inbox bytes) = tt
+  any_breaks (q.Tick slot timer moment) = tt
+  any_breaks (q.Gone slot object) = tt
+  any_breaks q.Fin = tt
+
+  tells_of : (messages : List MarketMsg) (call : Callback) → TellsOr (Unit {0}) made_as messages call → TellsOf (strategy_of made_as) (kind_of made_as) (size_of made_as) messages call
+  tells_of messages (on.Gap first to) told = told
+  tells_of messages (on.Quality q n) told = told
+  tells_of messages (on.RecapRequest sender) told = told
+  tells_of messages on.Create told = tt
+  tells_of messages (on.Msg m q) told = tt
+  tells_of messages (on.Late a n) told = told
+  tells_of messages (on.Error e) told = tt
+  tells_of messages on.Destroy told = tt
+  tells_of messages (on.Tick t) told = tt
+  tells_of messages (on.Reply b) told = tt
+
+  -- each gap that the callbacks tell
+  pub calls_tell : AllByRecursion (λ (c : Callback × List Order). TellsOf (strategy_of made_as) (kind_of made_as) (size_of made_as) (messages_of s (deeds orders journal)) c.0)
+      (calls_of (Sub s) (deeds orders journal))
+  calls_tell =
+      let messages : List MarketMsg = messages_of s (deeds orders journal) in
+      all_weaker (λ (c : Callback × List Order). TellsOr (Unit {0}) made_as messages c.0)
+      (λ (c : Callback × List Order). TellsOf (strategy_of made_as) (kind_of made_as) (size_of made_as) messages c.0)
+      (λ c told. tells_of messages c.0 told) (calls_of (Sub s) (deeds orders journal))
+      (calls_tell_or (Unit {0}) (all_any (λ (e : ℕ × QueueNote). Breaks s (Unit {0}) e.1) (λ e. any_breaks e.1) journal))

@@ -3,6 +3,7 @@ use Rattle.std.specs.Prelude.{◌&&◌, not, if◌then◌else◌, Option, Some, 
 use Rattle.std.specs.List.{AllByRecursion, flat_map}
 use Rattle.std.proofs.Common.{◌≡◌, ℕ, ◌+◌, ◌==◌, true, false, List, [], ◌∷◌, ◌++◌, map, length, refl, sym, subst}
 use Rattle.mama_journal.specs.Journal.{count_of, first_said, puts}
+use Rattle.mama_event.specs.Wire.{code_of}
 use Rattle.mama_event.specs.Object.{same_sub, same_object}
 use Rattle.mama_event.specs.declared.ids.SubId.{SubId}
 use Rattle.mama_event.specs.declared.ids.ObjectId.{ObjectId}
@@ -32,6 +33,8 @@ abbrev pub Brings : SubId → (MarketMsg → Type 0) → QueueNote → Type 0
 Brings s Such (q.Create slot object make tag) = Unit {0}
 Brings s Such (q.Deliver slot sub msg) = same_sub sub s ≡ true → Such msg
 Brings s Such (q.Reply slot inbox body) = Unit {0}
+Brings s Such (q.Bad slot sub kind sender seq bytes) = Unit {0}
+Brings s Such (q.BadReply slot inbox bytes) = Unit {0}
 Brings s Such (q.Tick slot timer moment) = Unit {0}
 Brings s Such (q.Gone slot object) = Unit {0}
 Brings s Such q.Fin = Unit {0}
@@ -95,6 +98,8 @@ module _ (s : SubId) (own : ℕ) where
           all_if InDeed (is_muted (Sub sub) sofar) [] (handled sub msg ∷ made orders (Sub sub) (sofar ++ handled sub msg ∷ []) (calls_for sub msg))
           tt (h, all_made (Sub sub) (sofar ++ handled sub msg ∷ []) (calls_for sub msg) (delivered sub msg h))
       all_served (q.Reply slot inbox body) h = all_made (Inbox inbox) sofar (on.Reply body ∷ []) (λ same. (tt, tt))
+      all_served (q.Bad slot sub kind sender seq bytes) h = all_made (Sub sub) sofar (on.Error (code_of bytes) ∷ []) (λ same. (tt, tt))
+      all_served (q.BadReply slot inbox bytes) h = all_made (Inbox inbox) sofar (on.Error (code_of bytes) ∷ []) (λ same. (tt, tt))
       all_served (q.Tick slot timer moment) h = all_made (Timer timer) sofar (on.Tick moment ∷ []) (λ same. (tt, tt))
       all_served (q.Gone slot object) h = all_made object sofar (on.Destroy ∷ []) (λ same. (tt, tt))
       all_served q.Fin h = tt

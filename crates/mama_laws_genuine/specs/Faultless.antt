@@ -19,7 +19,7 @@ use Rattle.mama_rules_legal.specs.Edges.{AreEdges}
 use Rattle.mama_rules_legal.specs.Streams.{WasAlive}
 use Rattle.mama_laws_genuine.specs.Order.{IsFedBy}
 
--- the callback tells no gap, no change of quality and no late update, and asks for no recap
+-- the callback tells no gap, no change of quality, no late update and no error, and asks for no recap
 abbrev pub IsCalm : Callback → Type 0
 IsCalm (on.Gap first to) = ⊥
 IsCalm (on.Quality q n) = ⊥
@@ -27,13 +27,13 @@ IsCalm (on.RecapRequest s) = ⊥
 IsCalm on.Create = Unit {0}
 IsCalm (on.Msg m q) = Unit {0}
 IsCalm (on.Late s n) = ⊥
-IsCalm (on.Error e) = Unit {0}
+IsCalm (on.Error e) = ⊥
 IsCalm on.Destroy = Unit {0}
 IsCalm (on.Tick t) = Unit {0}
 IsCalm (on.Reply b) = Unit {0}
 
 -- Where every edge of a record is whole, a subscription without fault rows that one publisher alone feeds, and that came
--- and went, is told no gap, no change of quality and no late update, and asks for no recap.
+-- and went, is told no gap, no change of quality, no late update and no error, and asks for no recap.
 abbrev pub FaultlessLinksAreCalm : Type 0
 FaultlessLinksAreCalm = (script : ScriptData) (run : RunData) → IsShapedFor script run → AreEdges script run
     → (s : SubId) (terms : SubTerms) (p : ℕ) → first_said (terms_in s) (heard script.shape run.bridge) ≡ Some terms → terms.faults ≡ []

@@ -40,6 +40,8 @@ abbrev pub Delivers : (MarketMsg → Type 0) → (List FieldData → Type 0) →
 Delivers G R (q.Create slot object make tag) = Unit {0}
 Delivers G R (q.Deliver slot sub msg) = G msg
 Delivers G R (q.Reply slot inbox body) = R body
+Delivers G R (q.Bad slot sub kind sender seq bytes) = Unit {0}
+Delivers G R (q.BadReply slot inbox bytes) = Unit {0}
 Delivers G R (q.Tick slot timer moment) = Unit {0}
 Delivers G R (q.Gone slot object) = Unit {0}
 Delivers G R q.Fin = Unit {0}

@@ -42,13 +42,13 @@ pub fn windows_are_in_order()
 {}
 
 /// A law: in a record of a script whose edges are whole, a subscription without fault rows that one publisher alone feeds,
-/// and that came and went, is told no gap, no change of quality and no late update, and asks for no recap.
+/// and that came and went, is told no gap, no change of quality, no late update and no error, and asks for no recap.
 pub fn faultless_links_are_calm()
     ensures { FaultlessLinksAreCalm }
 {}
 
 /// A law: in a legal record a subscription whose line has no fault rows, on a topic that exactly one publisher of the
-/// script has, is told no gap, no change of quality and no late update, and asks for no recap.
+/// script has, is told no gap, no change of quality, no late update and no error, and asks for no recap.
 pub fn links_of_legal_records_are_calm()
     ensures { LegalLinksAreCalm }
 {}

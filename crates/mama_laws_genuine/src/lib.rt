@@ -1,4 +1,4 @@
-//! What a record of a script promises of the market's data, whatever the links lose, repeat and hold back.
+//! What a record of a script promises of the market's data, whatever the links lose, repeat, hold back and cut.
 //!
 //! Laws of the definitions, with no code. Where every edge of the record is whole, as it is whichever thread ran what
 //! when: each message that a queue took, and each that a listener was given, is a publisher's own
@@ -11,7 +11,7 @@
 //! no change of quality ([`faultless_links_are_calm`], `specs/Faultless.antt`).
 //!
 //! In a legal record one publisher alone feeds a subscription if exactly one publisher of the script has its topic. So
-//! where its line has no fault rows it is told no gap and no change of quality ([`links_of_legal_records_are_calm`],
+//! where its line has no fault rows it is told no gap, no change of quality and no error ([`links_of_legal_records_are_calm`],
 //! `specs/CalmLinks.antt`), and a market subscription is given all updates ([`updates_of_legal_records_are_given`],
 //! `specs/GivenAll.antt`). The reason is in the rules alone, and not in the order in which things happen: a recap is
 //! wished only of a sender whose updates came, and no publisher is asked for an update.

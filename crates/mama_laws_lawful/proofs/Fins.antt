@@ -131,6 +131,8 @@ module _ (shape : Shape) where
       quiet (to_queue j (q.Create slot object make tag)) h = if_last queue.is_last (j == k) (q.Create slot object make tag) refl
       quiet (to_queue j (q.Deliver slot sub msg)) h = if_last queue.is_last (j == k) (q.Deliver slot sub msg) refl
       quiet (to_queue j (q.Reply slot inbox body)) h = if_last queue.is_last (j == k) (q.Reply slot inbox body) refl
+      quiet (to_queue j (q.Bad slot sub kind sender seq bytes)) h = if_last queue.is_last (j == k) (q.Bad slot sub kind sender seq bytes) refl
+      quiet (to_queue j (q.BadReply slot inbox bytes)) h = if_last queue.is_last (j == k) (q.BadReply slot inbox bytes) refl
       quiet (to_queue j (q.Tick slot timer moment)) h = if_last queue.is_last (j == k) (q.Tick slot timer moment) refl
       quiet (to_queue j (q.Gone slot object)) h = if_last queue.is_last (j == k) (q.Gone slot object) refl
       quiet (to_queue j q.Fin) h = cc

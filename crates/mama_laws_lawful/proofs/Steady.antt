@@ -1,15 +1,18 @@
 -- What the bridge puts before the ending ends no stream, and nothing of it goes to the timers.
+use Rattle.std.specs.Prelude.{Ok, Err}
 use Rattle.std.specs.List.{list_any, flat_map}
-use Rattle.std.proofs.Common.{◌≡◌, ◌+◌, Bool, true, false, not, ◌&&◌, cond, List, [], ◌∷◌, ◌++◌, length, filter, refl, sym, subst, append-nil}
+use Rattle.std.proofs.Common.{◌≡◌, Bool, true, false, not, ◌&&◌, cond, List, [], ◌∷◌, ◌++◌, filter, refl, sym, subst, append-nil}
 use Rattle.mama_msg.specs.Field.{FieldData}
-use Rattle.mama_link.specs.Link.{emit, rest}
+use Rattle.mama_link.specs.Link.{rest}
+use Rattle.mama_event.specs.Wire.{Arrival, ReplyArrival, arriving, answering, cut_arrival, cut_reply}
+use Rattle.mama_event.specs.ToQueue.{delivered_note, replied_note}
 use Rattle.mama_event.specs.declared.ids.ObjectId.TheVariants.{Sub, Inbox}
 use Rattle.mama_event.specs.declared.market.MarketMsg.{MarketMsg}
 use Rattle.mama_event.specs.declared.shape.Shape.{Shape}
 use Rattle.mama_event.specs.declared.to_publisher.PublisherNote.TheVariants as p
 use Rattle.mama_event.specs.declared.to_queue.Make.TheVariants as make
 use Rattle.mama_event.specs.declared.to_queue.QueueNote.TheVariants as q
-use Rattle.mama_rules_services.specs.Bridge.{BridgeEvent, joins, leaves, opens, closes, asks, publishes, images, replies, wishes, client_done, sends_done, settled, bye, no_event, BridgePut, to_publisher, to_queue, to_timers, to_first, wants_image}
+use Rattle.mama_rules_services.specs.Bridge.{BridgeEvent, joins, leaves, opens, closes, asks, publishes, images, replies, wishes, client_done, sends_done, settled, bye, no_event, BridgePut, to_publisher, to_queue, to_timers, to_first, wants_image, passed_on}
 use Rattle.mama_laws_bridge.specs.Table.{SubRow, InboxRow, Table, of_sub, of_inbox, has_joined, has_opened, settling_now, begins_settling, begins_ending, slot_for, is_on_topic_of, sub_delivered, inbox_replied, sub_emits, inbox_emits, sub_ends, inbox_ends, settles_all, ends_all, closing, table_puts}
 use Rattle.mama_laws_bridge.proofs.Lists.{Each, each_all, each_append, each_map, each_flat_map, each_weaker}
 use Rattle.mama_laws_lawful.proofs.Silence.{is_silent, Silent, silent_first, silent_image, silent_if, silent_wishes, silent_settles}
@@ -23,6 +26,8 @@ is_steady (to_publisher r p.Fin) = false
 is_steady (to_queue k (q.Create slot object make tag)) = true
 is_steady (to_queue k (q.Deliver slot sub msg)) = true
 is_steady (to_queue k (q.Reply slot inbox body)) = true
+is_steady (to_queue k (q.Bad slot sub kind sender seq bytes)) = true
+is_steady (to_queue k (q.BadReply slot inbox bytes)) = true
 is_steady (to_queue k (q.Tick slot timer moment)) = true
 is_steady (to_queue k (q.Gone slot object)) = true
 is_steady (to_queue k q.Fin) = false
@@ -42,35 +47,45 @@ steady_one (to_timers note) h = h
 pub steady_silent : (puts : List BridgePut) → Silent puts → Steady puts
 steady_silent puts h = each_weaker (λ (x : BridgePut). is_silent x ≡ true) (λ (x : BridgePut). is_steady x ≡ true) puts steady_one h
 
-steady_delivered : (row : SubRow) (ms : List MarketMsg) → Steady (sub_delivered row ms)
-steady_delivered row ms =
-    let to : MarketMsg → BridgePut = λ m. to_queue row.terms.queue (q.Deliver row.slot row.sub m) in
-    each_map (λ (x : BridgePut). is_steady x ≡ true) to ms (each_all (λ (m : MarketMsg). is_steady (to m) ≡ true) ms (λ m. refl))
+steady_arrival : (row : SubRow) (arrival : Arrival) → is_steady (to_queue row.terms.queue (delivered_note row.slot row.sub arrival)) ≡ true
+steady_arrival row (Ok m) = refl
+steady_arrival row (Err piece) = refl
 
-steady_replied : (row : InboxRow) (bodies : List (List FieldData)) → Steady (inbox_replied row bodies)
-steady_replied row bodies =
-    let to : List FieldData → BridgePut = λ body. to_queue row.terms.queue (q.Reply row.slot row.inbox body) in
-    each_map (λ (x : BridgePut). is_steady x ≡ true) to bodies (each_all (λ (body : List FieldData). is_steady (to body) ≡ true) bodies (λ body. refl))
+steady_delivered : (row : SubRow) (arrivals : List Arrival) → Steady (sub_delivered row arrivals)
+steady_delivered row arrivals =
+    let to : Arrival → BridgePut = λ a. to_queue row.terms.queue (delivered_note row.slot row.sub a) in
+    each_map (λ (x : BridgePut). is_steady x ≡ true) to arrivals (each_all (λ (a : Arrival). is_steady (to a) ≡ true) arrivals (steady_arrival row))
+
+steady_answer : (row : InboxRow) (arrival : ReplyArrival) → is_steady (to_queue row.terms.queue (replied_note row.slot row.inbox arrival)) ≡ true
+steady_answer row (Ok body) = refl
+steady_answer row (Err bytes) = refl
+
+steady_replied : (row : InboxRow) (arrivals : List ReplyArrival) → Steady (inbox_replied row arrivals)
+steady_replied row arrivals =
+    let to : ReplyArrival → BridgePut = λ a. to_queue row.terms.queue (replied_note row.slot row.inbox a) in
+    each_map (λ (x : BridgePut). is_steady x ≡ true) to arrivals (each_all (λ (a : ReplyArrival). is_steady (to a) ≡ true) arrivals (steady_answer row))
 
 pub steady_sub_ends : (rows : List SubRow) → Steady (flat_map sub_ends rows)
 steady_sub_ends rows =
     each_flat_map (λ (x : BridgePut). is_steady x ≡ true) sub_ends rows
-    (λ row. each_append (λ (x : BridgePut). is_steady x ≡ true) (sub_delivered row (rest row.terms.faults row.sent)) (to_queue row.terms.queue (q.Gone row.slot (Sub row.sub)) ∷ [])
-    (steady_delivered row (rest row.terms.faults row.sent)) (refl, tt))
+    (λ row. each_append (λ (x : BridgePut). is_steady x ≡ true) (sub_delivered row (rest row.terms.faults (arriving row.sent))) (to_queue row.terms.queue (q.Gone row.slot (Sub row.sub)) ∷ [])
+    (steady_delivered row (rest row.terms.faults (arriving row.sent))) (refl, tt))
 
 pub steady_inbox_ends : (rows : List InboxRow) → Steady (flat_map inbox_ends rows)
 steady_inbox_ends rows =
     each_flat_map (λ (x : BridgePut). is_steady x ≡ true) inbox_ends rows
-    (λ row. each_append (λ (x : BridgePut). is_steady x ≡ true) (inbox_replied row (rest row.terms.faults row.sent)) (to_queue row.terms.queue (q.Gone row.slot (Inbox row.inbox)) ∷ [])
-    (steady_replied row (rest row.terms.faults row.sent)) (refl, tt))
+    (λ row. each_append (λ (x : BridgePut). is_steady x ≡ true) (inbox_replied row (rest row.terms.faults (answering row.sent))) (to_queue row.terms.queue (q.Gone row.slot (Inbox row.inbox)) ∷ [])
+    (steady_replied row (rest row.terms.faults (answering row.sent))) (refl, tt))
 
 steady_sub_emits : (m : MarketMsg) (rows : List SubRow) → Steady (flat_map (sub_emits m) rows)
 steady_sub_emits m rows =
-    each_flat_map (λ (x : BridgePut). is_steady x ≡ true) (sub_emits m) rows (λ row. steady_delivered row (emit row.terms.faults (row.sent ++ m ∷ []) (length row.sent + 1)))
+    each_flat_map (λ (x : BridgePut). is_steady x ≡ true) (sub_emits m) rows
+    (λ row. steady_delivered row (passed_on cut_arrival row.terms.faults (arriving row.sent) (arriving (m ∷ []))))
 
 steady_inbox_emits : (body : List FieldData) (rows : List InboxRow) → Steady (flat_map (inbox_emits body) rows)
 steady_inbox_emits body rows =
-    each_flat_map (λ (x : BridgePut). is_steady x ≡ true) (inbox_emits body) rows (λ row. steady_replied row (emit row.terms.faults (row.sent ++ body ∷ []) (length row.sent + 1)))
+    each_flat_map (λ (x : BridgePut). is_steady x ≡ true) (inbox_emits body) rows
+    (λ row. steady_replied row (passed_on cut_reply row.terms.faults (answering row.sent) (answering (body ∷ []))))
 
 steady_unless : (b : Bool) (puts : List BridgePut) → Steady puts → Steady (cond b [] puts)
 steady_unless true puts h = tt

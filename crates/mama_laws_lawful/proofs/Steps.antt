@@ -1,13 +1,15 @@
 -- What an event before the ending puts to one queue goes on with the stream there, and the ending ends it.
+use Rattle.std.specs.Prelude.{Ok, Err}
 use Rattle.std.specs.List.{list_any, flat_map}
-use Rattle.std.proofs.Common.{◌≡◌, ℕ, zero, suc, ◌+◌, ◌≤◌, ◌==◌, Bool, true, false, not, ◌&&◌, ◌||◌, cond, List, [], ◌∷◌, ◌++◌, length, map, filter, refl, sym, ◌∙◌, ap, subst, arith, append-nil, append_assoc, eq-eqb, ne_eqb, inl, inr, ⊎_elim, ◌⊎◌}
+use Rattle.std.proofs.Common.{◌≡◌, ℕ, zero, suc, ◌≤◌, ◌==◌, Bool, true, false, not, ◌&&◌, ◌||◌, cond, List, [], ◌∷◌, ◌++◌, map, filter, refl, sym, ◌∙◌, ap, subst, arith, append-nil, append_assoc, eq-eqb, ne_eqb, inl, inr, ⊎_elim, ◌⊎◌}
 use Rattle.std.proofs.lemmas.Bool.{or_left, or_right, cases_Bool, eqb-true, cases_eq}
 use Rattle.std.proofs.lemmas.List.{map-append}
 use Rattle.std.proofs.lemmas.List.Concat.{flat_map-append}
 use Rattle.std.proofs.lemmas.List.Folds.{list_any-append}
 use Rattle.mama_msg.specs.Field.{FieldData}
 use Rattle.mama_journal.specs.Journal.{numbers_below, least_free}
-use Rattle.mama_link.specs.Link.{emit, rest}
+use Rattle.mama_link.specs.Link.{rest}
+use Rattle.mama_event.specs.Wire.{Arrival, ReplyArrival, arriving, answering, cut_arrival, cut_reply}
 use Rattle.mama_event.specs.declared.ids.SubId.{SubId}
 use Rattle.mama_event.specs.declared.ids.InboxId.{InboxId}
 use Rattle.mama_event.specs.declared.ids.ObjectId.{ObjectId}
@@ -26,8 +28,8 @@ use Rattle.mama_event.specs.Lawful.{each_fits, IsLawful}
 use Rattle.mama_event.specs.Ports.{publishers_of, queues_of}
 use Rattle.mama_event.specs.Object.{same_sub, same_inbox, same_object}
 use Rattle.mama_event.specs.EqualityLaws.{same_sub-Decides, same_inbox-Decides}
-use Rattle.mama_event.specs.ToQueue.{Block, is_last, fits, open_blocks, is_for_port, is_made_as}
-use Rattle.mama_rules_services.specs.Bridge.{BridgeEvent, joins, leaves, opens, closes, asks, publishes, images, replies, wishes, client_done, sends_done, settled, bye, no_event, BridgePut, to_publisher, to_queue, to_timers, to_first, wants_image}
+use Rattle.mama_event.specs.ToQueue.{delivered_note, replied_note, Block, is_last, fits, open_blocks, is_for_port, is_made_as}
+use Rattle.mama_rules_services.specs.Bridge.{BridgeEvent, joins, leaves, opens, closes, asks, publishes, images, replies, wishes, client_done, sends_done, settled, bye, no_event, BridgePut, to_publisher, to_queue, to_timers, to_first, wants_image, passed_on}
 use Rattle.mama_laws_bridge.specs.Laws.{Alone}
 use Rattle.mama_laws_bridge.specs.Table.{SubRow, InboxRow, Table, table_next, of_sub, of_inbox, has_joined, has_opened, settling_now, ended_now, begins_settling, begins_ending, sub_slots, inbox_slots, slot_for, sub_passed, inbox_passed, is_on_topic_of, may_ask, sub_wished, sub_emits, inbox_emits, sub_ends, inbox_ends, settles_all, ends_all, closing, table_puts, kept, new_sub, new_inbox}
 use Rattle.mama_laws_bridge.proofs.Lists.{each_filter, list_any-map}
@@ -47,11 +49,12 @@ sub_place row = row.terms.queue
 abbrev pub sub_block : SubRow → Block
 sub_block row = record { slot = row.slot; object = Sub row.sub }
 
-abbrev pub sub_says : SubRow → MarketMsg → QueueNote
-sub_says row m = q.Deliver row.slot row.sub m
+abbrev pub sub_says : SubRow → Arrival → QueueNote
+sub_says row arrival = delivered_note row.slot row.sub arrival
 
-pub sub_belongs : (row : SubRow) (m : MarketMsg) → Belongs (sub_block row) (sub_says row m)
-sub_belongs row m = record { fit = λ before. refl; least = λ before. refl; last = refl; still = λ blocks. refl; makes = λ o. refl }
+pub sub_belongs : (row : SubRow) (arrival : Arrival) → Belongs (sub_block row) (sub_says row arrival)
+sub_belongs row (Ok m) = record { fit = λ before. refl; least = λ before. refl; last = refl; still = λ blocks. refl; makes = λ o. refl }
+sub_belongs row (Err piece) = record { fit = λ before. refl; least = λ before. refl; last = refl; still = λ blocks. refl; makes = λ o. refl }
 
 abbrev pub inbox_place : InboxRow → ℕ
 inbox_place row = row.terms.queue
@@ -59,11 +62,12 @@ inbox_place row = row.terms.queue
 abbrev pub inbox_block : InboxRow → Block
 inbox_block row = record { slot = row.slot; object = Inbox row.inbox }
 
-abbrev pub inbox_says : InboxRow → List FieldData → QueueNote
-inbox_says row body = q.Reply row.slot row.inbox body
+abbrev pub inbox_says : InboxRow → ReplyArrival → QueueNote
+inbox_says row arrival = replied_note row.slot row.inbox arrival
 
-pub inbox_belongs : (row : InboxRow) (body : List FieldData) → Belongs (inbox_block row) (inbox_says row body)
-inbox_belongs row body = record { fit = λ before. refl; least = λ before. refl; last = refl; still = λ blocks. refl; makes = λ o. refl }
+pub inbox_belongs : (row : InboxRow) (arrival : ReplyArrival) → Belongs (inbox_block row) (inbox_says row arrival)
+inbox_belongs row (Ok body) = record { fit = λ before. refl; least = λ before. refl; last = refl; still = λ blocks. refl; makes = λ o. refl }
+inbox_belongs row (Err bytes) = record { fit = λ before. refl; least = λ before. refl; last = refl; still = λ blocks. refl; makes = λ o. refl }
 
 -- the objects that ever were
 abbrev pub known : List SubId → List InboxId → ObjectId → Bool
@@ -205,7 +209,7 @@ module _ (queue : ℕ) (shape : Shape) where
     subs_told m test =
         let all : List Block = sub_blocks table.subs ++ inbox_blocks table.inboxes in
         going_all_told queue sub_place sub_block sub_says sub_belongs all (known table.joined table.opened) notes
-        (λ (row : SubRow). emit row.terms.faults (row.sent ++ m ∷ []) (length row.sent + 1)) (filter test table.subs)
+        (λ (row : SubRow). passed_on cut_arrival row.terms.faults (arriving row.sent) (arriving (m ∷ []))) (filter test table.subs)
         (each_filter (Held queue sub_place sub_block sub_says sub_belongs all) test table.subs
         (all_held queue sub_place sub_block sub_says sub_belongs all table.subs
         (λ p h. list_any-append p (sub_blocks table.subs) (inbox_blocks table.inboxes) ∙ or_left (list_any p (sub_blocks table.subs)) (list_any p (inbox_blocks table.inboxes)) h))) g
@@ -214,7 +218,7 @@ module _ (queue : ℕ) (shape : Shape) where
     inboxes_told body test =
         let all : List Block = sub_blocks table.subs ++ inbox_blocks table.inboxes in
         going_all_told queue inbox_place inbox_block inbox_says inbox_belongs all (known table.joined table.opened) notes
-        (λ (row : InboxRow). emit row.terms.faults (row.sent ++ body ∷ []) (length row.sent + 1)) (filter test table.inboxes)
+        (λ (row : InboxRow). passed_on cut_reply row.terms.faults (answering row.sent) (answering (body ∷ []))) (filter test table.inboxes)
         (each_filter (Held queue inbox_place inbox_block inbox_says inbox_belongs all) test table.inboxes
         (all_held queue inbox_place inbox_block inbox_says inbox_belongs all table.inboxes
         (λ p h. list_any-append p (sub_blocks table.subs) (inbox_blocks table.inboxes) ∙ or_right (list_any p (sub_blocks table.subs)) (list_any p (inbox_blocks table.inboxes)) h))) g
@@ -247,7 +251,7 @@ module _ (queue : ℕ) (shape : Shape) where
         → Going (sub_blocks (filter (λ row. not (of_sub s row)) table.subs) ++ inbox_blocks table.inboxes) (known table.joined table.opened) (notes ++ part (flat_map sub_ends (filter (of_sub s) table.subs)))
     subs_left s alone =
         going_left queue sub_place sub_block sub_says sub_belongs [] (inbox_blocks table.inboxes) (known table.joined table.opened) notes
-        (λ (row : SubRow). rest row.terms.faults row.sent) (of_sub s) table.subs
+        (λ (row : SubRow). rest row.terms.faults (arriving row.sent)) (of_sub s) table.subs
         (⊎_elim (λ h. inl (split_of same_sub (λ a b. (same_sub-Decides a b).0) (λ (row : SubRow). row.sub) s table.subs alone h)) (λ h. inr h) (cases_Bool (list_any (of_sub s) table.subs))) g
 
     inboxes_left : (i : InboxId) → Alone same_inbox (λ (row : InboxRow). row.inbox) table.inboxes
@@ -256,7 +260,7 @@ module _ (queue : ℕ) (shape : Shape) where
         let puts : List QueueNote = part (flat_map inbox_ends (filter (of_inbox i) table.inboxes)) in
         subst (λ (bs : List Block). Going (sub_blocks table.subs ++ bs) (known table.joined table.opened) (notes ++ puts)) (append-nil (inbox_blocks (filter (λ row. not (of_inbox i row)) table.inboxes)))
         (going_left queue inbox_place inbox_block inbox_says inbox_belongs (sub_blocks table.subs) [] (known table.joined table.opened) notes
-        (λ (row : InboxRow). rest row.terms.faults row.sent) (of_inbox i) table.inboxes
+        (λ (row : InboxRow). rest row.terms.faults (answering row.sent)) (of_inbox i) table.inboxes
         (⊎_elim (λ h. inl (split_of same_inbox (λ a b. (same_inbox-Decides a b).0) (λ (row : InboxRow). row.inbox) i table.inboxes alone h)) (λ h. inr h) (cases_Bool (list_any (of_inbox i) table.inboxes)))
         (subst (λ (bs : List Block). Going (sub_blocks table.subs ++ bs) (known table.joined table.opened) notes) (sym (append-nil (inbox_blocks table.inboxes))) g))
 
@@ -310,9 +314,9 @@ module _ (queue : ℕ) (shape : Shape) where
         let inboxes : List QueueNote = part (flat_map inbox_ends table.inboxes) in
         let fins : List QueueNote = part (map (λ (k : ℕ). to_queue k q.Fin) (numbers_below (queues_of shape))) in
         let without_subs : Going (inbox_blocks table.inboxes) mine (notes ++ subs) =
-        going_all_ended queue sub_place sub_block sub_says sub_belongs (inbox_blocks table.inboxes) mine notes (λ (row : SubRow). rest row.terms.faults row.sent) table.subs g in
+        going_all_ended queue sub_place sub_block sub_says sub_belongs (inbox_blocks table.inboxes) mine notes (λ (row : SubRow). rest row.terms.faults (arriving row.sent)) table.subs g in
         let without_all : Going [] mine ((notes ++ subs) ++ inboxes) =
-        going_all_ended queue inbox_place inbox_block inbox_says inbox_belongs [] mine (notes ++ subs) (λ (row : InboxRow). rest row.terms.faults row.sent) table.inboxes
+        going_all_ended queue inbox_place inbox_block inbox_says inbox_belongs [] mine (notes ++ subs) (λ (row : InboxRow). rest row.terms.faults (answering row.sent)) table.inboxes
         (subst (λ (bs : List Block). Going bs mine (notes ++ subs)) (sym (append-nil (inbox_blocks table.inboxes))) without_subs) in
         let finished : Ended ((notes ++ subs) ++ inboxes) = record {
           lawful = without_all.lawful;

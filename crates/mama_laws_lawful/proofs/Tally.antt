@@ -137,6 +137,8 @@ tally_next port o notes (q.Create slot object make tag) fit t =
     begun o notes slot object make tag (not-true (is_taken slot notes) three.0) (not-true (list_any (creates object) notes) three.1) t
 tally_next port o notes (q.Deliver slot sub msg) fit t = idle o notes (q.Deliver slot sub msg) (open-push notes (q.Deliver slot sub msg)) refl refl t
 tally_next port o notes (q.Reply slot inbox body) fit t = idle o notes (q.Reply slot inbox body) (open-push notes (q.Reply slot inbox body)) refl refl t
+tally_next port o notes (q.Bad slot sub kind sender seq bytes) fit t = idle o notes (q.Bad slot sub kind sender seq bytes) (open-push notes (q.Bad slot sub kind sender seq bytes)) refl refl t
+tally_next port o notes (q.BadReply slot inbox bytes) fit t = idle o notes (q.BadReply slot inbox bytes) (open-push notes (q.BadReply slot inbox bytes)) refl refl t
 tally_next port o notes (q.Tick slot timer moment) fit t = idle o notes (q.Tick slot timer moment) (open-push notes (q.Tick slot timer moment)) refl refl t
 tally_next port o notes (q.Gone slot object) fit t = finished o notes slot object fit t
 tally_next port o notes q.Fin fit t = idle o notes q.Fin (open-push notes q.Fin) refl refl t

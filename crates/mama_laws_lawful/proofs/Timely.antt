@@ -1,7 +1,7 @@
 -- Where each client put what it may, nothing is joined or opened after the ending.
 use Rattle.std.specs.List.{list_any}
 use Rattle.std.proofs.Common.{◌≡◌, ℕ, zero, suc, ◌<◌, ◌-◌, ◌==◌, Bool, true, false, not, cond, List, [], ◌∷◌, ◌++◌, map, refl, sym, ◌∙◌, ap, subst, arith, eq-eqb, eqb-true, ⊎_elim}
-use Rattle.std.proofs.lemmas.Bool.{and_parts, or_left, or_right, or_cases, cases_Bool, cases_lt, both_ways, ltb-true, false_from_ne_true}
+use Rattle.std.proofs.lemmas.Bool.{and_parts, cases_Bool, cases_lt, both_ways, ltb-true, false_from_ne_true}
 use Rattle.mama_journal.specs.Journal.{all_below}
 use Rattle.mama_journal.specs.Lane.{by_port}
 use Rattle.mama_event.specs.Lawful.{IsLawful}

@@ -1,12 +1,17 @@
 -- What of the bridge's puts is for one object, and with which events its ending comes.
-use Rattle.std.specs.Prelude.{Option, None, Some}
+use Rattle.std.specs.Prelude.{Option, None, Some, Ok, Err}
 use Rattle.std.specs.List.{flat_map, list_any}
 use Rattle.std.specs.Option.{option_or}
 use Rattle.std.proofs.Common.{◌≡◌, ℕ, Bool, true, false, cond, List, [], ◌∷◌, ◌++◌, map, refl, sym, ◌∙◌, ap, append-nil}
 use Rattle.std.proofs.lemmas.Bool.{both_ways}
 use Rattle.std.proofs.lemmas.List.Concat.{flat_map-append}
 use Rattle.mama_journal.specs.Journal.{turns, first_said, numbers_below}
+use Rattle.mama_event.specs.Wire.{Arrival, ReplyArrival}
+use Rattle.mama_event.specs.ToQueue.{delivered_note, replied_note}
+use Rattle.mama_event.specs.declared.ids.SubId.{SubId}
+use Rattle.mama_event.specs.declared.ids.InboxId.{InboxId}
 use Rattle.mama_event.specs.declared.ids.ObjectId.{ObjectId}
+use Rattle.mama_event.specs.declared.ids.ObjectId.TheVariants.{Sub, Inbox}
 use Rattle.mama_event.specs.declared.shape.Shape.{Shape}
 use Rattle.mama_event.specs.declared.to_queue.Make.{Make}
 use Rattle.mama_event.specs.declared.to_queue.QueueNote.{QueueNote}
@@ -68,6 +73,15 @@ none_unless o false xs none = none
 pub place_other : (o : ObjectId) (place : Option (ℕ × ℕ)) (event : ℕ → QueueNote) → ((slot : ℕ) → is_of o (event slot) ≡ false) → stream_of o (to_place place event) ≡ []
 place_other o None event other = refl
 place_other o (Some place) event other = ap (λ (b : Bool). cond b ((place.0, event place.1) ∷ []) [] ++ []) (other place.1)
+
+-- what arrives for an object is its own
+pub delivered_of : (o : ObjectId) (slot : ℕ) (s : SubId) (a : Arrival) → is_of o (delivered_note slot s a) ≡ same_object (Sub s) o
+delivered_of o slot s (Ok msg) = refl
+delivered_of o slot s (Err piece) = refl
+
+pub replied_of : (o : ObjectId) (slot : ℕ) (i : InboxId) (a : ReplyArrival) → is_of o (replied_note slot i a) ≡ same_object (Inbox i) o
+replied_of o slot i (Ok body) = refl
+replied_of o slot i (Err bytes) = refl
 
 pub items_other : {M : Type 0} (o : ObjectId) (place : Option (ℕ × ℕ)) (item : ℕ → M → QueueNote) (ms : List M) → ((slot : ℕ) (m : M) → is_of o (item slot m) ≡ false)
     → stream_of o (flat_map (λ m. to_place place (λ slot. item slot m)) ms) ≡ []

@@ -4,8 +4,9 @@ use Rattle.std.specs.List.{flat_map, list_any}
 use Rattle.std.proofs.Common.{◌≡◌, ℕ, ◌==◌, Bool, true, false, ◌&&◌, cond, List, [], ◌∷◌, ◌++◌, refl, sym, ◌∙◌, ap, append-nil}
 use Rattle.std.proofs.lemmas.Bool.{both_ways}
 use Rattle.mama_journal.specs.Journal.{turns, first_said}
-use Rattle.mama_msg.specs.Field.{FieldData}
 use Rattle.mama_link.specs.Link.{rest}
+use Rattle.mama_event.specs.Wire.{Arrival, ReplyArrival, arriving, answering, cut_arrival, cut_reply}
+use Rattle.mama_event.specs.ToQueue.{delivered_note, replied_note}
 use Rattle.mama_event.specs.declared.ids.SubId.{SubId}
 use Rattle.mama_event.specs.declared.ids.InboxId.{InboxId}
 use Rattle.mama_event.specs.declared.ids.ObjectId.{ObjectId}
@@ -26,7 +27,7 @@ use Rattle.mama_rules_services.specs.Bridge.{BridgeEvent, joins, leaves, opens, 
 use Rattle.mama_rules_legal.specs.Streams.{stream_of}
 use Rattle.mama_laws_legal.proofs.Lives.{same_sub-is, same_sub-itself}
 use Rattle.mama_laws_legal.proofs.Among.{AreIds, is_made, begun_by, among_alive, own_among}
-use Rattle.mama_laws_legal.proofs.BridgeStreams.{is_word, stream-append, stream_flat, stream_cond, none_cond, items_other, gone_other, reaction_of}
+use Rattle.mama_laws_legal.proofs.BridgeStreams.{is_word, stream-append, stream_flat, stream_cond, none_cond, delivered_of, replied_of, items_other, gone_other, reaction_of}
 
 abbrev pub stream : SubId → List BridgePut → List (ℕ × QueueNote)
 stream s outs = stream_of (Sub s) outs
@@ -60,28 +61,28 @@ over_live shape s f es others =
 
 -- ---- what is for others
 
-delivered_other : (s r : SubId) (sofar : List BridgePut) (msgs : List MarketMsg) → same_sub r s ≡ false → stream s (delivered r sofar msgs) ≡ []
-delivered_other s r sofar msgs other = items_other (Sub s) (place_of (Sub r) sofar) (λ slot m. q.Deliver slot r m) msgs (λ slot m. other)
+delivered_other : (s r : SubId) (sofar : List BridgePut) (arrivals : List Arrival) → same_sub r s ≡ false → stream s (delivered r sofar arrivals) ≡ []
+delivered_other s r sofar arrivals other = items_other (Sub s) (place_of (Sub r) sofar) (λ slot a. delivered_note slot r a) arrivals (λ slot a. delivered_of (Sub s) slot r a ∙ other)
 
-replied_other : (s : SubId) (i : InboxId) (sofar : List BridgePut) (bodies : List (List FieldData)) → stream s (replied i sofar bodies) ≡ []
-replied_other s i sofar bodies = items_other (Sub s) (place_of (Inbox i) sofar) (λ slot body. q.Reply slot i body) bodies (λ slot body. refl)
+replied_other : (s : SubId) (i : InboxId) (sofar : List BridgePut) (arrivals : List ReplyArrival) → stream s (replied i sofar arrivals) ≡ []
+replied_other s i sofar arrivals = items_other (Sub s) (place_of (Inbox i) sofar) (λ slot a. replied_note slot i a) arrivals (λ slot a. replied_of (Sub s) slot i a)
 
 ended_other : (s r : SubId) (shape : Shape) (es : List BridgeEvent) (sofar : List BridgePut) → same_sub r s ≡ false → stream s (ended shape es sofar r) ≡ []
 ended_other s r shape es sofar other =
-    let held : List MarketMsg = rest (faults_of (first_said (terms_in r) es)) (window shape r es) in
+    let held : List Arrival = rest (faults_of (first_said (terms_in r) es)) (arriving (window shape r es)) in
     stream-append (Sub s) (delivered r sofar held) (gone (Sub r) sofar)
     ∙ ap (λ (ws : List (ℕ × QueueNote)). ws ++ stream s (gone (Sub r) sofar)) (delivered_other s r sofar held other) ∙ gone_other (Sub s) (Sub r) sofar other
 
 ended_inbox_other : (s : SubId) (i : InboxId) (shape : Shape) (es : List BridgeEvent) (sofar : List BridgePut) → stream s (ended_inbox shape es sofar i) ≡ []
 ended_inbox_other s i shape es sofar =
-    let held : List (List FieldData) = rest (inbox_faults_of (first_said (inbox_terms_in i) es)) (reply_window shape i es) in
+    let held : List ReplyArrival = rest (inbox_faults_of (first_said (inbox_terms_in i) es)) (answering (reply_window shape i es)) in
     stream-append (Sub s) (replied i sofar held) (gone (Inbox i) sofar)
     ∙ ap (λ (ws : List (ℕ × QueueNote)). ws ++ stream s (gone (Inbox i) sofar)) (replied_other s i sofar held) ∙ gone_other (Sub s) (Inbox i) sofar refl
 
 passed_other : (s r : SubId) (shape : Shape) (es : List BridgeEvent) (sofar : List BridgePut) (e : BridgeEvent) → same_sub r s ≡ false → stream s (passed shape es sofar e r) ≡ []
 passed_other s r shape es sofar e other =
     let terms = first_said (terms_in r) es in
-    delivered_other s r sofar (passed_on (faults_of terms) (window shape r es) (sent_with shape r terms e)) other
+    delivered_other s r sofar (passed_on cut_arrival (faults_of terms) (arriving (window shape r es)) (arriving (sent_with shape r terms e))) other
 
 stream_first : (s : SubId) (shape : Shape) (topic : ℕ) (note : PublisherNote) → stream s (to_first shape topic note) ≡ []
 stream_first s shape topic note = found (position (λ t. t == topic) shape.publisher_topics)
@@ -108,7 +109,7 @@ quiet shape s (Some terms) _ word = absurd (both_ways false refl word)
 passed_none : (s : SubId) (shape : Shape) (es : List BridgeEvent) (sofar : List BridgePut) (e : BridgeEvent) → sent_with shape s (first_said (terms_in s) es) e ≡ [] → stream s (passed shape es sofar e s) ≡ []
 passed_none s shape es sofar e none =
     let terms = first_said (terms_in s) es in
-    ap (λ (ms : List MarketMsg). stream s (delivered s sofar (passed_on (faults_of terms) (window shape s es) ms))) none
+    ap (λ (ms : List MarketMsg). stream s (delivered s sofar (passed_on cut_arrival (faults_of terms) (arriving (window shape s es)) (arriving ms)))) none
 
 pub no_messages : (shape : Shape) (s : SubId) (e : BridgeEvent) → ((topic : ℕ) → sent_to shape s topic e ≡ []) → (terms : Option SubTerms) → sent_with shape s terms e ≡ []
 no_messages shape s e none None = refl
@@ -174,7 +175,7 @@ answer_stream shape s es sofar (images r msg) again = by_case (same_sub r s) ref
         ∙ live_none (is_live shape s es) (stream s (passed shape es sofar (images r msg) s)) (passed_none s shape es sofar (images r msg) (sent (first_said (terms_in s) es) same))
 answer_stream shape s es sofar (replies i body) again =
     let terms = first_said (inbox_terms_in i) es in
-    none_cond (Sub s) (is_open shape i es) (passed_reply shape es sofar (replies i body) i) (replied_other s i sofar (passed_on (inbox_faults_of terms) (reply_window shape i es) (replied_to i (replies i body))))
+    none_cond (Sub s) (is_open shape i es) (passed_reply shape es sofar (replies i body) i) (replied_other s i sofar (passed_on cut_reply (inbox_faults_of terms) (answering (reply_window shape i es)) (answering (replied_to i (replies i body)))))
     ∙ live_none (is_live shape s es) (stream s (passed shape es sofar (replies i body) s)) (passed_none s shape es sofar (replies i body) (no_messages shape s (replies i body) (λ topic. refl) (first_said (terms_in s) es)))
 answer_stream shape s es sofar (wishes r sender) again = none_cond (Sub s) (is_live shape r es && may_wish shape es sofar r sender (first_said (terms_in r) es)) (to_publisher (sender - 1) (p.Want r Recap) ∷ []) refl
     ∙ live_none (is_live shape s es) (stream s (passed shape es sofar (wishes r sender) s)) (passed_none s shape es sofar (wishes r sender) (no_messages shape s (wishes r sender) (λ topic. refl) (first_said (terms_in s) es)))

@@ -8,10 +8,11 @@ use Rattle.std.proofs.lemmas.List.Concat.{flat_map-append}
 use Rattle.std.proofs.lemmas.List.Folds.{list_any-append}
 use Rattle.mama_journal.specs.Journal.{all_puts, turns, all_below, numbers_below, count_of, first_said}
 use Rattle.mama_link.specs.Link.{rest}
+use Rattle.mama_event.specs.Wire.{Arrival, ReplyArrival, arriving, answering, cut_arrival, cut_reply}
+use Rattle.mama_event.specs.ToQueue.{delivered_note, replied_note}
 use Rattle.mama_event.specs.declared.ids.SubId.{SubId}
 use Rattle.mama_event.specs.declared.ids.InboxId.{InboxId}
 use Rattle.mama_event.specs.declared.ids.ObjectId.TheVariants.{Sub, Inbox}
-use Rattle.mama_event.specs.declared.market.MarketMsg.{MarketMsg}
 use Rattle.mama_event.specs.declared.market.MsgKind.TheVariants.{Initial, Recap}
 use Rattle.mama_event.specs.declared.market.SubKind.{SubKind}
 use Rattle.mama_event.specs.declared.market.SubKind.TheVariants.{Market, Snapshot, Basic}
@@ -24,7 +25,6 @@ use Rattle.mama_event.specs.declared.to_queue.QueueNote.TheVariants as q
 use Rattle.mama_event.specs.declared.to_queue.Make.TheVariants as make
 use Rattle.mama_event.specs.declared.to_bridge.SubTerms.{SubTerms}
 use Rattle.mama_event.specs.Ports.{clients_of, publishers_of, queues_of}
-use Rattle.mama_msg.specs.Field.{FieldData}
 use Rattle.mama_rules_services.specs.Bridge.{BridgeEvent, joins, leaves, opens, closes, asks, publishes, images, replies, wishes, client_done, sends_done, settled, bye, no_event, BridgePut, to_publisher, to_queue, to_timers, ends_client, ends_sends, settles, is_settling, has_ending, is_live, is_open, joins_sub, opens_inbox, terms_in, inbox_terms_in, faults_of, inbox_faults_of, window, reply_window, passed_on, sent_with, replied_to, free_slot, is_recap_want, live_subs, open_inboxes, may_wish, to_place, to_found, to_first, wants_image, delivered, replied, gone, passed, passed_reply, ended, ended_inbox, answer, settle_begins, ending_comes, bridge_reaction}
 use Rattle.mama_rules_rounds.specs.World.{publisher_part}
 use Rattle.mama_journal.specs.EntryLaws.{all_puts-push}
@@ -69,20 +69,20 @@ part_cond : (n : ℕ) (b : Bool) (xs : List BridgePut) → part n xs ≡ [] → 
 part_cond n true xs none = none
 part_cond n false xs none = refl
 
-part_delivered : (n : ℕ) (s : SubId) (sofar : List BridgePut) (msgs : List MarketMsg) → part n (delivered s sofar msgs) ≡ []
-part_delivered n s sofar msgs = part_flat_map n _ msgs (λ m. part_place n _ (λ slot. q.Deliver slot s m))
+part_delivered : (n : ℕ) (s : SubId) (sofar : List BridgePut) (arrivals : List Arrival) → part n (delivered s sofar arrivals) ≡ []
+part_delivered n s sofar arrivals = part_flat_map n _ arrivals (λ a. part_place n _ (λ slot. delivered_note slot s a))
 
-part_replied : (n : ℕ) (i : InboxId) (sofar : List BridgePut) (bodies : List (List FieldData)) → part n (replied i sofar bodies) ≡ []
-part_replied n i sofar bodies = part_flat_map n _ bodies (λ body. part_place n _ (λ slot. q.Reply slot i body))
+part_replied : (n : ℕ) (i : InboxId) (sofar : List BridgePut) (arrivals : List ReplyArrival) → part n (replied i sofar arrivals) ≡ []
+part_replied n i sofar arrivals = part_flat_map n _ arrivals (λ a. part_place n _ (λ slot. replied_note slot i a))
 
 part_ended : (n : ℕ) (shape : Shape) (before : List BridgeEvent) (sofar : List BridgePut) (s : SubId) → part n (ended shape before sofar s) ≡ []
 part_ended n shape before sofar s =
-    let held : List MarketMsg = rest (faults_of (first_said (terms_in s) before)) (window shape s before) in
+    let held : List Arrival = rest (faults_of (first_said (terms_in s) before)) (arriving (window shape s before)) in
     part_append n (delivered s sofar held) (gone (Sub s) sofar) (part_delivered n s sofar held) ∙ part_place n _ (λ slot. q.Gone slot (Sub s))
 
 part_ended_inbox : (n : ℕ) (shape : Shape) (before : List BridgeEvent) (sofar : List BridgePut) (i : InboxId) → part n (ended_inbox shape before sofar i) ≡ []
 part_ended_inbox n shape before sofar i =
-    let held : List (List FieldData) = rest (inbox_faults_of (first_said (inbox_terms_in i) before)) (reply_window shape i before) in
+    let held : List ReplyArrival = rest (inbox_faults_of (first_said (inbox_terms_in i) before)) (answering (reply_window shape i before)) in
     part_append n (replied i sofar held) (gone (Inbox i) sofar) (part_replied n i sofar held) ∙ part_place n _ (λ slot. q.Gone slot (Inbox i))
 
 part_queues : (n : ℕ) (ks : List ℕ) → part n (map (λ k. to_queue k q.Fin) ks) ≡ []
@@ -147,12 +147,12 @@ part_ending n shape before sofar e small = by_case (turns (has_ending shape) bef
 part_passed : (n : ℕ) (shape : Shape) (before : List BridgeEvent) (sofar : List BridgePut) (e : BridgeEvent) (s : SubId) → part n (passed shape before sofar e s) ≡ []
 part_passed n shape before sofar e s =
     let terms = first_said (terms_in s) before in
-    part_delivered n s sofar (passed_on (faults_of terms) (window shape s before) (sent_with shape s terms e))
+    part_delivered n s sofar (passed_on cut_arrival (faults_of terms) (arriving (window shape s before)) (arriving (sent_with shape s terms e)))
 
 part_passed_reply : (n : ℕ) (shape : Shape) (before : List BridgeEvent) (sofar : List BridgePut) (e : BridgeEvent) (i : InboxId) → part n (passed_reply shape before sofar e i) ≡ []
 part_passed_reply n shape before sofar e i =
     let terms = first_said (inbox_terms_in i) before in
-    part_replied n i sofar (passed_on (inbox_faults_of terms) (reply_window shape i before) (replied_to i e))
+    part_replied n i sofar (passed_on cut_reply (inbox_faults_of terms) (answering (reply_window shape i before)) (answering (replied_to i e)))
 
 stops : List PublisherNote → Bool
 stops notes = list_any is_ending notes

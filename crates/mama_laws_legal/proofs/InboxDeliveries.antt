@@ -6,11 +6,12 @@ use Rattle.std.proofs.lemmas.Bool.{both_ways}
 use Rattle.mama_journal.specs.Journal.{turns, first_said}
 use Rattle.mama_msg.specs.Field.{FieldData}
 use Rattle.mama_link.specs.Link.{rest}
+use Rattle.mama_event.specs.Wire.{Arrival, ReplyArrival, arriving, answering, cut_arrival, cut_reply}
+use Rattle.mama_event.specs.ToQueue.{delivered_note, replied_note}
 use Rattle.mama_event.specs.declared.ids.SubId.{SubId}
 use Rattle.mama_event.specs.declared.ids.InboxId.{InboxId}
 use Rattle.mama_event.specs.declared.ids.ObjectId.{ObjectId}
 use Rattle.mama_event.specs.declared.ids.ObjectId.TheVariants.{Sub, Inbox}
-use Rattle.mama_event.specs.declared.market.MarketMsg.{MarketMsg}
 use Rattle.mama_event.specs.declared.market.MsgKind.TheVariants.{Initial, Recap}
 use Rattle.mama_event.specs.declared.market.SubKind.{SubKind}
 use Rattle.mama_event.specs.declared.market.SubKind.TheVariants.{Market, Snapshot, Basic}
@@ -26,7 +27,7 @@ use Rattle.mama_rules_services.specs.Bridge.{BridgeEvent, joins, leaves, opens, 
 use Rattle.mama_rules_legal.specs.Streams.{stream_of}
 use Rattle.mama_laws_legal.proofs.Lives.{same_inbox-is, same_inbox-itself}
 use Rattle.mama_laws_legal.proofs.Among.{AreIds, is_made, begun_by, among_alive, own_among}
-use Rattle.mama_laws_legal.proofs.BridgeStreams.{is_word, stream-append, stream_flat, stream_cond, none_cond, items_other, gone_other, reaction_of}
+use Rattle.mama_laws_legal.proofs.BridgeStreams.{is_word, stream-append, stream_flat, stream_cond, none_cond, delivered_of, replied_of, items_other, gone_other, reaction_of}
 
 abbrev pub stream : InboxId → List BridgePut → List (ℕ × QueueNote)
 stream s outs = stream_of (Inbox s) outs
@@ -60,33 +61,33 @@ over_open shape s f es others =
 
 -- ---- what is for others
 
-replied_other : (s r : InboxId) (sofar : List BridgePut) (bodies : List (List FieldData)) → same_inbox r s ≡ false → stream s (replied r sofar bodies) ≡ []
-replied_other s r sofar bodies other = items_other (Inbox s) (place_of (Inbox r) sofar) (λ slot body. q.Reply slot r body) bodies (λ slot body. other)
+replied_other : (s r : InboxId) (sofar : List BridgePut) (arrivals : List ReplyArrival) → same_inbox r s ≡ false → stream s (replied r sofar arrivals) ≡ []
+replied_other s r sofar arrivals other = items_other (Inbox s) (place_of (Inbox r) sofar) (λ slot a. replied_note slot r a) arrivals (λ slot a. replied_of (Inbox s) slot r a ∙ other)
 
-delivered_away : (s : InboxId) (r : SubId) (sofar : List BridgePut) (msgs : List MarketMsg) → stream s (delivered r sofar msgs) ≡ []
-delivered_away s r sofar msgs = items_other (Inbox s) (place_of (Sub r) sofar) (λ slot m. q.Deliver slot r m) msgs (λ slot m. refl)
+delivered_away : (s : InboxId) (r : SubId) (sofar : List BridgePut) (arrivals : List Arrival) → stream s (delivered r sofar arrivals) ≡ []
+delivered_away s r sofar arrivals = items_other (Inbox s) (place_of (Sub r) sofar) (λ slot a. delivered_note slot r a) arrivals (λ slot a. delivered_of (Inbox s) slot r a)
 
 sub_away : (s : InboxId) (r : SubId) (shape : Shape) (es : List BridgeEvent) (sofar : List BridgePut) → stream s (ended shape es sofar r) ≡ []
 sub_away s r shape es sofar =
-    let held : List MarketMsg = rest (faults_of (first_said (terms_in r) es)) (window shape r es) in
+    let held : List Arrival = rest (faults_of (first_said (terms_in r) es)) (arriving (window shape r es)) in
     stream-append (Inbox s) (delivered r sofar held) (gone (Sub r) sofar)
     ∙ ap (λ (ws : List (ℕ × QueueNote)). ws ++ stream s (gone (Sub r) sofar)) (delivered_away s r sofar held) ∙ gone_other (Inbox s) (Sub r) sofar refl
 
 ended_other : (s i : InboxId) (shape : Shape) (es : List BridgeEvent) (sofar : List BridgePut) → same_inbox i s ≡ false → stream s (ended_inbox shape es sofar i) ≡ []
 ended_other s i shape es sofar other =
-    let held : List (List FieldData) = rest (inbox_faults_of (first_said (inbox_terms_in i) es)) (reply_window shape i es) in
+    let held : List ReplyArrival = rest (inbox_faults_of (first_said (inbox_terms_in i) es)) (answering (reply_window shape i es)) in
     stream-append (Inbox s) (replied i sofar held) (gone (Inbox i) sofar)
     ∙ ap (λ (ws : List (ℕ × QueueNote)). ws ++ stream s (gone (Inbox i) sofar)) (replied_other s i sofar held other) ∙ gone_other (Inbox s) (Inbox i) sofar other
 
 passed_away : (s : InboxId) (r : SubId) (shape : Shape) (es : List BridgeEvent) (sofar : List BridgePut) (e : BridgeEvent) → stream s (passed shape es sofar e r) ≡ []
 passed_away s r shape es sofar e =
     let terms = first_said (terms_in r) es in
-    delivered_away s r sofar (passed_on (faults_of terms) (window shape r es) (sent_with shape r terms e))
+    delivered_away s r sofar (passed_on cut_arrival (faults_of terms) (arriving (window shape r es)) (arriving (sent_with shape r terms e)))
 
 passed_other : (s i : InboxId) (shape : Shape) (es : List BridgeEvent) (sofar : List BridgePut) (e : BridgeEvent) → same_inbox i s ≡ false → stream s (passed_reply shape es sofar e i) ≡ []
 passed_other s i shape es sofar e other =
     let terms = first_said (inbox_terms_in i) es in
-    replied_other s i sofar (passed_on (inbox_faults_of terms) (reply_window shape i es) (replied_to i e)) other
+    replied_other s i sofar (passed_on cut_reply (inbox_faults_of terms) (answering (reply_window shape i es)) (answering (replied_to i e))) other
 
 stream_first : (s : InboxId) (shape : Shape) (topic : ℕ) (note : PublisherNote) → stream s (to_first shape topic note) ≡ []
 stream_first s shape topic note = found (position (λ t. t == topic) shape.publisher_topics)
@@ -110,7 +111,7 @@ quiet s _ word = absurd (both_ways false refl word)
 
 passed_none : (s : InboxId) (shape : Shape) (es : List BridgeEvent) (sofar : List BridgePut) (e : BridgeEvent) → replied_to s e ≡ [] → stream s (passed_reply shape es sofar e s) ≡ []
 passed_none s shape es sofar e none =
-    ap (λ (ms : List (List FieldData)). stream s (replied s sofar (passed_on (inbox_faults_of (first_said (inbox_terms_in s) es)) (reply_window shape s es) ms))) none
+    ap (λ (ms : List (List FieldData)). stream s (replied s sofar (passed_on cut_reply (inbox_faults_of (first_said (inbox_terms_in s) es)) (answering (reply_window shape s es)) (answering ms)))) none
 
 live_none : (live : Bool) (ws : List (ℕ × QueueNote)) → ws ≡ [] → [] ≡ cond live ws []
 live_none true ws none = sym none

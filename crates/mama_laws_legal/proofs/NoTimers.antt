@@ -3,14 +3,14 @@ use Rattle.std.specs.Prelude.{not, position, Option, None, Some, ◌-◌}
 use Rattle.std.specs.List.{flat_map, list_any}
 use Rattle.std.proofs.Common.{◌≡◌, ℕ, ◌==◌, Bool, true, false, ◌&&◌, cond, List, [], ◌∷◌, ◌++◌, refl, ◌∙◌, ap}
 use Rattle.mama_journal.specs.Journal.{all_puts, turns, first_said}
-use Rattle.mama_msg.specs.Field.{FieldData}
 use Rattle.mama_link.specs.Link.{rest}
+use Rattle.mama_event.specs.Wire.{Arrival, ReplyArrival, arriving, answering, cut_arrival, cut_reply}
+use Rattle.mama_event.specs.ToQueue.{delivered_note, replied_note}
 use Rattle.mama_event.specs.declared.ids.SubId.{SubId}
 use Rattle.mama_event.specs.declared.ids.InboxId.{InboxId}
 use Rattle.mama_event.specs.declared.ids.TimerId.{TimerId}
 use Rattle.mama_event.specs.declared.ids.ObjectId.{ObjectId}
 use Rattle.mama_event.specs.declared.ids.ObjectId.TheVariants.{Sub, Timer, Inbox}
-use Rattle.mama_event.specs.declared.market.MarketMsg.{MarketMsg}
 use Rattle.mama_event.specs.declared.market.MsgKind.TheVariants.{Initial, Recap}
 use Rattle.mama_event.specs.declared.market.SubKind.{SubKind}
 use Rattle.mama_event.specs.declared.market.SubKind.TheVariants.{Market, Snapshot, Basic}
@@ -22,33 +22,33 @@ use Rattle.mama_event.specs.declared.to_queue.QueueNote.{QueueNote}
 use Rattle.mama_event.specs.declared.to_queue.QueueNote.TheVariants as q
 use Rattle.mama_rules_services.specs.Bridge.{BridgeEvent, joins, leaves, opens, closes, asks, publishes, images, replies, wishes, client_done, sends_done, settled, bye, no_event, BridgePut, to_publisher, to_queue, is_settling, has_ending, is_live, is_open, terms_in, inbox_terms_in, joins_sub, opens_inbox, live_subs, open_inboxes, sent_with, window, reply_window, replied_to, faults_of, inbox_faults_of, place_of, free_slot, to_found, to_first, wants_image, delivered, replied, gone, passed_on, passed, passed_reply, ended, ended_inbox, may_wish, answer, bridge_reaction}
 use Rattle.mama_rules_legal.specs.Streams.{stream_of}
-use Rattle.mama_laws_legal.proofs.BridgeStreams.{stream_flat, none_cond, none_unless, none_append, items_other, gone_other, reaction_of}
+use Rattle.mama_laws_legal.proofs.BridgeStreams.{stream_flat, none_cond, none_unless, none_append, delivered_of, replied_of, items_other, gone_other, reaction_of}
 use Rattle.mama_journal.specs.EntryLaws.{by_entries, all_puts-push}
 
 module _ (timer : TimerId) where
   abbrev o : ObjectId
   o = Timer timer
 
-  delivered_none : (s : SubId) (sofar : List BridgePut) (msgs : List MarketMsg) → stream_of (Timer timer) (delivered s sofar msgs) ≡ []
-  delivered_none s sofar msgs = items_other o (place_of (Sub s) sofar) (λ slot m. q.Deliver slot s m) msgs (λ slot m. refl)
+  delivered_none : (s : SubId) (sofar : List BridgePut) (arrivals : List Arrival) → stream_of (Timer timer) (delivered s sofar arrivals) ≡ []
+  delivered_none s sofar arrivals = items_other o (place_of (Sub s) sofar) (λ slot a. delivered_note slot s a) arrivals (λ slot a. delivered_of o slot s a)
 
-  replied_none : (i : InboxId) (sofar : List BridgePut) (bodies : List (List FieldData)) → stream_of (Timer timer) (replied i sofar bodies) ≡ []
-  replied_none i sofar bodies = items_other o (place_of (Inbox i) sofar) (λ slot body. q.Reply slot i body) bodies (λ slot body. refl)
+  replied_none : (i : InboxId) (sofar : List BridgePut) (arrivals : List ReplyArrival) → stream_of (Timer timer) (replied i sofar arrivals) ≡ []
+  replied_none i sofar arrivals = items_other o (place_of (Inbox i) sofar) (λ slot a. replied_note slot i a) arrivals (λ slot a. replied_of o slot i a)
 
   ended_none : (shape : Shape) (es : List BridgeEvent) (sofar : List BridgePut) (s : SubId) → stream_of (Timer timer) (ended shape es sofar s) ≡ []
   ended_none shape es sofar s =
-      let held : List MarketMsg = rest (faults_of (first_said (terms_in s) es)) (window shape s es) in
+      let held : List Arrival = rest (faults_of (first_said (terms_in s) es)) (arriving (window shape s es)) in
       none_append o (delivered s sofar held) (gone (Sub s) sofar) (delivered_none s sofar held) (gone_other o (Sub s) sofar refl)
 
   ended_inbox_none : (shape : Shape) (es : List BridgeEvent) (sofar : List BridgePut) (i : InboxId) → stream_of (Timer timer) (ended_inbox shape es sofar i) ≡ []
   ended_inbox_none shape es sofar i =
-      let held : List (List FieldData) = rest (inbox_faults_of (first_said (inbox_terms_in i) es)) (reply_window shape i es) in
+      let held : List ReplyArrival = rest (inbox_faults_of (first_said (inbox_terms_in i) es)) (answering (reply_window shape i es)) in
       none_append o (replied i sofar held) (gone (Inbox i) sofar) (replied_none i sofar held) (gone_other o (Inbox i) sofar refl)
 
   passed_none : (shape : Shape) (es : List BridgeEvent) (sofar : List BridgePut) (e : BridgeEvent) (s : SubId) → stream_of (Timer timer) (passed shape es sofar e s) ≡ []
   passed_none shape es sofar e s =
       let terms = first_said (terms_in s) es in
-      delivered_none s sofar (passed_on (faults_of terms) (window shape s es) (sent_with shape s terms e))
+      delivered_none s sofar (passed_on cut_arrival (faults_of terms) (arriving (window shape s es)) (arriving (sent_with shape s terms e)))
 
   first_none : (shape : Shape) (topic : ℕ) (note : PublisherNote) → stream_of (Timer timer) (to_first shape topic note) ≡ []
   first_none shape topic note = found (position (λ t. t == topic) shape.publisher_topics)
@@ -74,7 +74,7 @@ module _ (timer : TimerId) where
   answer_none shape es sofar (images s msg) = none_cond o (is_live shape s es) (passed shape es sofar (images s msg) s) (passed_none shape es sofar (images s msg) s)
   answer_none shape es sofar (replies i body) =
       let terms = first_said (inbox_terms_in i) es in
-      none_cond o (is_open shape i es) (passed_reply shape es sofar (replies i body) i) (replied_none i sofar (passed_on (inbox_faults_of terms) (reply_window shape i es) (replied_to i (replies i body))))
+      none_cond o (is_open shape i es) (passed_reply shape es sofar (replies i body) i) (replied_none i sofar (passed_on cut_reply (inbox_faults_of terms) (answering (reply_window shape i es)) (answering (replied_to i (replies i body)))))
   answer_none shape es sofar (wishes s sender) = none_cond o (is_live shape s es && may_wish shape es sofar s sender (first_said (terms_in s) es)) (to_publisher (sender - 1) (p.Want s Recap) ∷ []) refl
   answer_none shape es sofar (client_done c) = refl
   answer_none shape es sofar (sends_done r) = refl

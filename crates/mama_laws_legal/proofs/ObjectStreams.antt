@@ -16,8 +16,8 @@ use Rattle.mama_journal.specs.EntryLaws.{by_entries, puts-push, all_puts-push}
 use Rattle.mama_laws_legal.proofs.Lives.{any_last, lives-push, lives_came, first_said-append, said_came, none_said, some_is}
 
 -- One object of some kind at its service: E are the events that the service heard, P what it puts, T the terms of the
--- object, and M what goes through its link.
-pub record Kind (E P T M : Type 0) : Type 0 where
+-- object, M what goes into its link, and A what arrives of it.
+pub record Kind (E P T M A : Type 0) : Type 0 where
   pub object : ObjectId
   -- its life: with which terms an event begins it, which ends it, when all ends, and the words with which that comes
   pub said : E → Option T
@@ -26,13 +26,13 @@ pub record Kind (E P T M : Type 0) : Type 0 where
   pub is_word : E → Bool
   -- its link: what an event sends into it; what has come out of it, what comes out where more goes in, and at its end
   pub sent : List E → E → List M
-  pub out : T → List M → List M
-  pub goes : T → List M → List M → List M
-  pub left : T → List M → List M
+  pub out : T → List M → List A
+  pub goes : T → List M → List M → List A
+  pub left : T → List M → List A
   -- its events
   pub queue : T → ℕ
   pub make : T → Make
-  pub item : ℕ → M → QueueNote
+  pub item : ℕ → A → QueueNote
   -- the service: its answer to an event, all that it puts, what of that is for the object, and where that stands; what is
   -- put for the object at its end, and at an event while it lives
   pub answer : List E → List P → E → List P
@@ -42,33 +42,33 @@ pub record Kind (E P T M : Type 0) : Type 0 where
   pub closes : List E → List P → List (ℕ × QueueNote)
   pub passes : List E → List P → E → List (ℕ × QueueNote)
 
-abbrev pub begins : {E P T M : Type 0} → Kind E P T M → E → Bool
+abbrev pub begins : {E P T M A : Type 0} → Kind E P T M A → E → Bool
 begins kind e = is_some (kind.said e)
 
-abbrev pub alive : {E P T M : Type 0} → Kind E P T M → List E → Bool
+abbrev pub alive : {E P T M A : Type 0} → Kind E P T M A → List E → Bool
 alive kind es = is_alive (begins kind) kind.ends kind.ending es
 
-abbrev pub window : {E P T M : Type 0} → Kind E P T M → List E → List M
+abbrev pub window : {E P T M A : Type 0} → Kind E P T M A → List E → List M
 window kind es = window_of (alive kind) kind.sent es
 
-abbrev pub events : {E P T M : Type 0} → Kind E P T M → T → ℕ → List M → List (ℕ × QueueNote)
+abbrev pub events : {E P T M A : Type 0} → Kind E P T M A → T → ℕ → List A → List (ℕ × QueueNote)
 events kind terms slot ms = map (λ m. (kind.queue terms, kind.item slot m)) ms
 
-abbrev pub created : {E P T M : Type 0} → Kind E P T M → T → ℕ → ObjectId → ℕ × QueueNote
+abbrev pub created : {E P T M A : Type 0} → Kind E P T M A → T → ℕ → ObjectId → ℕ × QueueNote
 created kind terms slot tag = (kind.queue terms, q.Create slot kind.object (kind.make terms) tag)
 
-abbrev pub last : {E P T M : Type 0} → Kind E P T M → T → ℕ → List (ℕ × QueueNote)
+abbrev pub last : {E P T M A : Type 0} → Kind E P T M A → T → ℕ → List (ℕ × QueueNote)
 last kind terms slot = (kind.queue terms, q.Gone slot kind.object) ∷ []
 
 -- these puts are the Create of the object with these terms
-pub record IsCreate {E P T M : Type 0} (kind : Kind E P T M) (terms : T) (own : List (ℕ × QueueNote)) : Type 0 where
+pub record IsCreate {E P T M A : Type 0} (kind : Kind E P T M A) (terms : T) (own : List (ℕ × QueueNote)) : Type 0 where
   pub slot : ℕ
   pub tag : ObjectId
   pub is : own ≡ created kind terms slot tag ∷ []
 
 -- What has to be known of a kind: with which events the ending comes, how the link goes on, and what the service puts for
 -- the object at each event.
-pub record IsKind {E P T M : Type 0} (kind : Kind E P T M) : Type 0 where
+pub record IsKind {E P T M A : Type 0} (kind : Kind E P T M A) : Type 0 where
   pub ending_same : (es : List E) (e : E) → kind.is_word e ≡ false → kind.ending (es ++ e ∷ []) ≡ kind.ending es
   pub ending_stays : (es : List E) (e : E) → kind.ending es ≡ true → kind.ending (es ++ e ∷ []) ≡ true
   pub no_word_begins : (e : E) → begins kind e ≡ true → kind.is_word e ≡ false
@@ -80,7 +80,7 @@ pub record IsKind {E P T M : Type 0} (kind : Kind E P T M) : Type 0 where
   pub goes_none : (terms : T) (w : List M) → kind.goes terms w [] ≡ []
   pub own_append : (xs ys : List P) → kind.own (xs ++ ys) ≡ kind.own xs ++ kind.own ys
   pub own_none : kind.own [] ≡ []
-  pub placed : (sofar : List P) (terms : T) (slot : ℕ) (tag : ObjectId) (more : List M)
+  pub placed : (sofar : List P) (terms : T) (slot : ℕ) (tag : ObjectId) (more : List A)
       → kind.own sofar ≡ created kind terms slot tag ∷ events kind terms slot more → kind.place sofar ≡ Some (kind.queue terms, slot)
   pub answers : (es : List E) (sofar : List P) (e : E) → (begins kind e ≡ true → list_any (begins kind) es ≡ true)
       → kind.own (kind.answer es sofar e) ≡ cond (alive kind es) (cond (kind.ends e) (kind.closes es sofar) (kind.passes es sofar e)) []
@@ -106,7 +106,7 @@ no_turn false = refl
 
 -- ---- the phases of an object
 
-module _ {E P T M : Type 0} (kind : Kind E P T M) (is : IsKind kind) where
+module _ {E P T M A : Type 0} (kind : Kind E P T M A) (is : IsKind kind) where
   abbrev all : List E → List P
   all es = all_puts kind.reaction es
 
@@ -235,7 +235,7 @@ module _ {E P T M : Type 0} (kind : Kind E P T M) (is : IsKind kind) where
         whole = stream_more es e ∙ ap (λ (ws : List (ℕ × QueueNote)). kind.own (all es) ++ ws) (passes ∙ is.passing es (all es) e l.terms l.slot (stands es l) l.said)
             ∙ ap (λ (ws : List (ℕ × QueueNote)). ws ++ events kind l.terms l.slot (kind.goes l.terms w ms)) l.whole
             ∙ ap (λ (ws : List (ℕ × QueueNote)). create ∷ ws) (sym (map-append (λ m. (kind.queue l.terms, kind.item l.slot m)) (kind.out l.terms w) (kind.goes l.terms w ms)))
-            ∙ ap (λ (ns : List M). create ∷ events kind l.terms l.slot ns) (sym (is.out_more l.terms w es e))
+            ∙ ap (λ (ns : List A). create ∷ events kind l.terms l.slot ns) (sym (is.out_more l.terms w es e))
             ∙ ap (λ (ns : List M). create ∷ events kind l.terms l.slot (kind.out l.terms ns)) (sym (window_more es e true l.live));
       }
 
@@ -344,7 +344,7 @@ module _ {E P T M : Type 0} (kind : Kind E P T M) (is : IsKind kind) where
                 ∙ ap (λ (ws : List (ℕ × QueueNote)). ws ++ cond (turns kind.ending es e) over []) made.is
                 ∙ ap (λ (b : Bool). created kind terms made.slot made.tag ∷ cond (b && not (kind.ending es)) over []) still
                 ∙ ap (λ (b : Bool). created kind terms made.slot made.tag ∷ cond b over []) (no_turn (kind.ending es))
-                ∙ ap (λ (ms : List M). created kind terms made.slot made.tag ∷ events kind terms made.slot ms) (sym (is.out_none terms))
+                ∙ ap (λ (ms : List A). created kind terms made.slot made.tag ∷ events kind terms made.slot ms) (sym (is.out_none terms))
                 ∙ ap (λ (w : List M). created kind terms made.slot made.tag ∷ events kind terms made.slot (kind.out terms w)) (sym empty);
           }))
 

@@ -3,6 +3,8 @@ use Rattle.std.specs.Prelude.{slice_index_or, filter, None, Some}
 use Rattle.std.proofs.Common.{◌≡◌, ℕ, ◌<◌, ◌==◌, true, false, cond, List, [], refl, ◌∙◌, ap}
 use Rattle.std.proofs.lemmas.Bool.{both_ways, false_from_ne_true}
 use Rattle.mama_link.specs.Link.{through}
+use Rattle.mama_event.specs.Wire.{arriving, cut_arrival}
+use Rattle.mama_event.specs.ToQueue.{delivered_note}
 use Rattle.mama_event.specs.declared.ids.SubId.{SubId}
 use Rattle.mama_event.specs.declared.ids.ObjectId.TheVariants.{Sub}
 use Rattle.mama_event.specs.declared.shape.Shape.{Shape}
@@ -11,7 +13,6 @@ use Rattle.mama_event.specs.declared.to_bridge.BridgeNote.{BridgeNote}
 use Rattle.mama_event.specs.declared.to_bridge.BridgeNote.TheVariants as b
 use Rattle.mama_event.specs.declared.to_queue.Make.TheVariants as make
 use Rattle.mama_event.specs.declared.to_queue.QueueNote.{QueueNote}
-use Rattle.mama_event.specs.declared.to_queue.QueueNote.TheVariants as q
 use Rattle.mama_event.specs.Ports.{clients_of}
 use Rattle.mama_rules_services.specs.Bridge.{BridgeEvent, joins, no_event, opens, from_client, from_publisher, from_queue, put_by, heard, terms_in, joins_sub, leaves_sub, window, bridge_puts}
 use Rattle.mama_rules_services.specs.Ports.{bridge_putter}
@@ -79,7 +80,7 @@ sub_streams script run orderly edges lines = record {
       let k : ℕ = terms.queue in
       let journal : List (ℕ × QueueNote) = slice_index_or run.queues k [] in
       let came = came_by_lines script run orderly edges lines s terms small says in
-      journal_has (Sub s) (make.Sub terms.kind terms.cache shape.strategy) (λ slot m. q.Deliver slot s m) (through terms.faults (window shape s es)) k (stream_of (Sub s) (bridge_puts shape run.bridge)) journal
+      journal_has (Sub s) (make.Sub terms.kind terms.cache shape.strategy) (λ slot a. delivered_note slot s a) (through cut_arrival terms.faults (arriving (window shape s es))) k (stream_of (Sub s) (bridge_puts shape run.bridge)) journal
       (one_port (Sub s) 0 journal (λ port apart. other_ports (Sub s) (λ t. refl) shape run.bridge run.timers k journal port apart (edges.queues k on port))
       ∙ ap (filter (is_of (Sub s))) (edges.queues k on 0) ∙ part_stream (Sub s) k (bridge_puts shape run.bridge))
       (subs_streams shape run.bridge s terms came.was came.dead came.joined);

@@ -1,10 +1,13 @@
 -- The stream of a subscription: its Create, what its link lets through of its window, and its Gone.
-use Rattle.std.specs.Prelude.{slice_index, Option, None, Some, is_some}
+use Rattle.std.specs.Prelude.{slice_index, Option, None, Some, is_some, Ok}
 use Rattle.std.specs.List.{list_any}
 use Rattle.std.proofs.Common.{◌≡◌, ℕ, ◌==◌, Bool, true, false, cond, List, [], ◌∷◌, ◌++◌, map, refl, ◌∙◌, ap, subst, inl}
 use Rattle.std.proofs.lemmas.Bool.{both_ways}
+use Rattle.std.proofs.lemmas.List.{map-append}
 use Rattle.mama_journal.specs.Journal.{first_said}
 use Rattle.mama_link.specs.Link.{rest}
+use Rattle.mama_event.specs.Wire.{Arrival, arriving, cut_arrival}
+use Rattle.mama_event.specs.ToQueue.{delivered_note}
 use Rattle.mama_event.specs.declared.ids.SubId.{SubId}
 use Rattle.mama_event.specs.declared.ids.ObjectId.TheVariants.{Sub}
 use Rattle.mama_event.specs.declared.market.MarketMsg.{MarketMsg}
@@ -18,9 +21,9 @@ use Rattle.mama_rules_services.specs.Bridge.{BridgeEvent, joins, leaves, publish
 use Rattle.mama_laws_legal.specs.Laws.{SubsGetTheirStreams}
 use Rattle.mama_laws_legal.proofs.Endings.{ending_stays}
 use Rattle.mama_link.proofs.LawLemmas.{emitted}
-use Rattle.mama_laws_legal.proofs.Links.{IsFew, few_if, emitted_few}
+use Rattle.mama_laws_legal.proofs.Links.{IsFew, few_if, few_map, emitted_few}
 use Rattle.mama_laws_legal.proofs.Lives.{same_sub-is, same_sub-itself, some_is}
-use Rattle.mama_laws_legal.proofs.BridgeStreams.{is_word, ending_same, stream-append, items_here, gone_here, placed}
+use Rattle.mama_laws_legal.proofs.BridgeStreams.{is_word, ending_same, stream-append, delivered_of, items_here, gone_here, placed}
 use Rattle.mama_laws_legal.proofs.ObjectStreams.{Kind, IsKind, IsCreate, stream_at_end}
 use Rattle.mama_laws_legal.proofs.Deliveries.{stream, quiet, no_messages, answer_stream, join_stream, reaction_stream}
 
@@ -30,7 +33,7 @@ few shape s (Some terms) (publishes r msg) = few_if (slice_index shape.publisher
 few shape s (Some terms) (images r msg) = few_if (same_sub r s) msg
 few shape s (Some terms) _ = inl refl
 
-abbrev sub : Shape → SubId → Kind BridgeEvent BridgePut SubTerms MarketMsg
+abbrev sub : Shape → SubId → Kind BridgeEvent BridgePut SubTerms MarketMsg Arrival
 sub shape s = record {
   object = Sub s;
   said = terms_in s;
@@ -38,12 +41,12 @@ sub shape s = record {
   ending = has_ending shape;
   is_word = is_word;
   sent = λ es e. sent_with shape s (first_said (terms_in s) es) e;
-  out = λ terms ms. emitted terms.faults ms;
-  goes = λ terms w ms. passed_on terms.faults w ms;
-  left = λ terms w. rest terms.faults w;
+  out = λ terms ms. emitted cut_arrival terms.faults (arriving ms);
+  goes = λ terms w ms. passed_on cut_arrival terms.faults (arriving w) (arriving ms);
+  left = λ terms w. rest terms.faults (arriving w);
   queue = λ terms. terms.queue;
   make = λ terms. make.Sub terms.kind terms.cache shape.strategy;
-  item = λ slot m. q.Deliver slot s m;
+  item = λ slot a. delivered_note slot s a;
   answer = answer shape;
   reaction = bridge_reaction shape;
   own = stream s;
@@ -65,8 +68,8 @@ module _ (shape : Shape) (s : SubId) where
   end_sends_none terms (leaves r) h = no_messages shape s (leaves r) (λ topic. refl) terms
   end_sends_none terms _ h = absurd (both_ways false refl h)
 
-  here : (es : List BridgeEvent) (sofar : List BridgePut) (f : List MarketMsg) (k slot : ℕ) → place_of (Sub s) sofar ≡ Some (k, slot) → stream s (delivered s sofar f) ≡ map (λ m. (k, q.Deliver slot s m)) f
-  here es sofar f k slot at = items_here (Sub s) (place_of (Sub s) sofar) (λ slot m. q.Deliver slot s m) f (λ slot m. same_sub-itself s) k slot at
+  here : (es : List BridgeEvent) (sofar : List BridgePut) (f : List Arrival) (k slot : ℕ) → place_of (Sub s) sofar ≡ Some (k, slot) → stream s (delivered s sofar f) ≡ map (λ a. (k, delivered_note slot s a)) f
+  here es sofar f k slot at = items_here (Sub s) (place_of (Sub s) sofar) (λ slot a. delivered_note slot s a) f (λ slot a. delivered_of (Sub s) slot s a ∙ same_sub-itself s) k slot at
 
   creates : (es : List BridgeEvent) (sofar : List BridgePut) (e : BridgeEvent) (terms : SubTerms) → terms_in s e ≡ Some terms → list_any (joins_sub s) es ≡ false → IsCreate (sub shape s) terms (stream s (answer shape es sofar e))
   creates es sofar (joins r t tag) terms said new = by_case (same_sub r s) refl said
@@ -87,22 +90,25 @@ module _ (shape : Shape) (s : SubId) where
     end_sends_none = λ es e h. end_sends_none (first_said (terms_in s) es) e h;
     word_sends_none = λ es e h. quiet shape s (first_said (terms_in s) es) e h;
     out_none = λ terms. refl;
-    out_more = λ terms w es e. emitted_few terms.faults w (sent_with shape s (first_said (terms_in s) es) e) (few shape s (first_said (terms_in s) es) e);
+    out_more = λ terms w es e.
+        let sent : List MarketMsg = sent_with shape s (first_said (terms_in s) es) e in
+        ap (emitted cut_arrival terms.faults) (map-append (λ (m : MarketMsg). Ok m) w sent)
+        ∙ emitted_few cut_arrival terms.faults (arriving w) (arriving sent) (few_map (λ (m : MarketMsg). Ok m) sent (few shape s (first_said (terms_in s) es) e));
     goes_none = λ terms w. refl;
     own_append = stream-append (Sub s);
     own_none = refl;
-    placed = λ sofar terms slot tag more is. placed (Sub s) sofar terms.queue slot (make.Sub terms.kind terms.cache shape.strategy) tag (map (λ m. (terms.queue, q.Deliver slot s m)) more) is;
+    placed = λ sofar terms slot tag more is. placed (Sub s) sofar terms.queue slot (make.Sub terms.kind terms.cache shape.strategy) tag (map (λ a. (terms.queue, delivered_note slot s a)) more) is;
     answers = answer_stream shape s;
     creates = creates;
     reacts = reaction_stream shape s;
     closing = λ es sofar terms slot at said.
-        stream-append (Sub s) (delivered s sofar (rest (faults_of (first_said (terms_in s) es)) (window_in shape s es))) (gone (Sub s) sofar)
-        ∙ ap (λ (ws : List (ℕ × QueueNote)). ws ++ stream s (gone (Sub s) sofar)) (here es sofar (rest (faults_of (first_said (terms_in s) es)) (window_in shape s es)) terms.queue slot at)
-        ∙ ap (λ (ws : List (ℕ × QueueNote)). map (λ m. (terms.queue, q.Deliver slot s m)) (rest (faults_of (first_said (terms_in s) es)) (window_in shape s es)) ++ ws) (gone_here (Sub s) sofar terms.queue slot at)
-        ∙ ap (λ (o : Option SubTerms). map (λ m. (terms.queue, q.Deliver slot s m)) (rest (faults_of o) (window_in shape s es)) ++ (terms.queue, q.Gone slot (Sub s)) ∷ []) said;
+        stream-append (Sub s) (delivered s sofar (rest (faults_of (first_said (terms_in s) es)) (arriving (window_in shape s es)))) (gone (Sub s) sofar)
+        ∙ ap (λ (ws : List (ℕ × QueueNote)). ws ++ stream s (gone (Sub s) sofar)) (here es sofar (rest (faults_of (first_said (terms_in s) es)) (arriving (window_in shape s es))) terms.queue slot at)
+        ∙ ap (λ (ws : List (ℕ × QueueNote)). map (λ a. (terms.queue, delivered_note slot s a)) (rest (faults_of (first_said (terms_in s) es)) (arriving (window_in shape s es))) ++ ws) (gone_here (Sub s) sofar terms.queue slot at)
+        ∙ ap (λ (o : Option SubTerms). map (λ a. (terms.queue, delivered_note slot s a)) (rest (faults_of o) (arriving (window_in shape s es))) ++ (terms.queue, q.Gone slot (Sub s)) ∷ []) said;
     passing = λ es sofar e terms slot at said.
-        here es sofar (passed_on (faults_of (first_said (terms_in s) es)) (window_in shape s es) (sent_with shape s (first_said (terms_in s) es) e)) terms.queue slot at
-        ∙ ap (λ (o : Option SubTerms). map (λ m. (terms.queue, q.Deliver slot s m)) (passed_on (faults_of o) (window_in shape s es) (sent_with shape s (first_said (terms_in s) es) e))) said;
+        here es sofar (passed_on cut_arrival (faults_of (first_said (terms_in s) es)) (arriving (window_in shape s es)) (arriving (sent_with shape s (first_said (terms_in s) es) e))) terms.queue slot at
+        ∙ ap (λ (o : Option SubTerms). map (λ a. (terms.queue, delivered_note slot s a)) (passed_on cut_arrival (faults_of o) (arriving (window_in shape s es)) (arriving (sent_with shape s (first_said (terms_in s) es) e)))) said;
   }
 
 pub subs_streams : SubsGetTheirStreams

@@ -19,7 +19,7 @@ use Rattle.mama_laws_legal.proofs.TimerLives.{is_word, ending_same, ending_stays
 use Rattle.mama_laws_legal.proofs.ObjectStreams.{Kind, IsKind, IsCreate, stream_at_end}
 
 -- a timer is an object whose link holds nothing: what it fires goes out at once
-abbrev timer : Shape → TimerId → Kind TimersEvent (ℕ × QueueNote) (ℕ × ℕ) ℕ
+abbrev timer : Shape → TimerId → Kind TimersEvent (ℕ × QueueNote) (ℕ × ℕ) ℕ ℕ
 timer shape t = record {
   object = Timer t;
   said = terms_in t;

@@ -18,7 +18,7 @@ use Rattle.mama_laws_genuine.proofs.Elements.{all_append, all_map, all_filter}
 
 -- the two ways to say that keys are distinct
 
-apart : (fs : List FieldData) → are_distinct fs ≡ true → AreDistinct fs
+pub apart : (fs : List FieldData) → are_distinct fs ≡ true → AreDistinct fs
 apart [] same = tt
 apart (f ∷ fs) same =
     let parts = and_parts (not (has_key (key_of f) fs)) (are_distinct fs) same in

@@ -1,9 +1,13 @@
 -- What is shown of each note, event, put and deed of a legal record: the parts of what a log may have of it.
-use Rattle.std.specs.Prelude.{◌≡◌, ℕ, suc, ◌+◌, ◌^◌, ◌<◌, ◌≤◌, List, length, Some}
+use Rattle.std.specs.Prelude.{◌≡◌, ℕ, suc, ◌+◌, ◌^◌, ◌<◌, ◌≤◌, List, ◌∷◌, ◌++◌, length, Some, Ok, Err}
 use Rattle.std.specs.List.{AllByRecursion}
+use Rattle.mama_msg.specs.Field.{FieldData}
+use Rattle.mama_payload.specs.Spelling.{spelling}
 use Rattle.mama_event.specs.declared.ids.ObjectId.{ObjectId}
 use Rattle.mama_event.specs.declared.ids.ObjectId.TheVariants.{Sub, Timer, Inbox}
 use Rattle.mama_event.specs.declared.market.MarketMsg.{MarketMsg}
+use Rattle.mama_event.specs.declared.wire.PieceMsg.{PieceMsg}
+use Rattle.mama_event.specs.Wire.{Arrival, ReplyArrival}
 use Rattle.mama_event.specs.declared.callback.Callback.{Callback}
 use Rattle.mama_event.specs.declared.order.Order.{Order}
 use Rattle.mama_event.specs.declared.to_bridge.BridgeNote.{BridgeNote}
@@ -34,6 +38,30 @@ IsObject names (Inbox id) = IsInbox names id
 pub record IsSound (nums : Nums) (m : MarketMsg) : Type 0 where
   pub msg : IsMarketMsg nums m
   pub next : suc m.seq < 2 ^ 32
+
+-- ---- what comes out of links
+
+-- a front of the spelling of a body, and not the whole
+pub record IsFront (nums : Nums) (bytes : List ℕ) : Type 0 where
+  pub body : List FieldData
+  pub is : IsBody nums body
+  pub next : ℕ
+  pub more : List ℕ
+  pub split : spelling body ≡ bytes ++ next ∷ more
+
+-- what a cut left of a message
+pub record IsCut (nums : Nums) (p : PieceMsg) : Type 0 where
+  pub sender : p.sender < 2 ^ 32
+  pub seq : p.seq < 2 ^ 32
+  pub front : IsFront nums p.body
+
+abbrev pub Arrives : Nums → Arrival → Type 0
+Arrives nums (Ok m) = IsSound nums m
+Arrives nums (Err p) = IsCut nums p
+
+abbrev pub IsAnswered : Nums → ReplyArrival → Type 0
+IsAnswered nums (Ok body) = IsBody nums body
+IsAnswered nums (Err bytes) = IsFront nums bytes
 
 -- ---- what a script says
 
@@ -89,23 +117,33 @@ Names names (opens i terms tag) = IsInbox names i × (inbox_terms_of names i ≡
 Names names (asks i topic fids) = IsInbox names i × AreFids fids
 Names names _ = Unit {0}
 
--- what it puts to queues, but for the messages
-abbrev pub Places : NamesData → QueueNote → Type 0
-Places names (q.Create slot object make tag) = (slot < 2 ^ 32) × IsLinked names object × (make_of names object ≡ Some make) × (tag ≡ object)
-Places names (q.Deliver slot sub msg) = (slot < 2 ^ 32) × IsSub names sub
-Places names (q.Reply slot inbox body) = (slot < 2 ^ 32) × IsInbox names inbox
-Places names (q.Tick slot timer moment) = ⊥
-Places names (q.Gone slot object) = (slot < 2 ^ 32) × IsLinked names object
-Places names q.Fin = Unit {0}
-
 abbrev pub IsFin : TimersNote → Type 0
 IsFin t.Fin = Unit {0}
 IsFin _ = ⊥
 
-abbrev pub LinkPut : NamesData → BridgePut → Type 0
-LinkPut names (to_publisher n note) = IsPublisherNote names note
-LinkPut names (to_queue k note) = Places names note
-LinkPut names (to_timers note) = IsFin note
+-- what it puts, where this holds of what comes out of links
+module _ (names : NamesData) (A : Arrival → Type 0) (R : ReplyArrival → Type 0) where
+  abbrev pub Places : QueueNote → Type 0
+  Places (q.Create slot object make tag) = (slot < 2 ^ 32) × IsLinked names object × (make_of names object ≡ Some make) × (tag ≡ object)
+  Places (q.Deliver slot sub msg) = (slot < 2 ^ 32) × IsSub names sub × A (Ok msg)
+  Places (q.Reply slot inbox body) = (slot < 2 ^ 32) × IsInbox names inbox × R (Ok body)
+  Places (q.Bad slot sub kind sender seq bytes) = (slot < 2 ^ 32) × IsSub names sub × A (Err (record { kind = kind; sender = sender; seq = seq; body = bytes }))
+  Places (q.BadReply slot inbox bytes) = (slot < 2 ^ 32) × IsInbox names inbox × R (Err bytes)
+  Places (q.Tick slot timer moment) = ⊥
+  Places (q.Gone slot object) = (slot < 2 ^ 32) × IsLinked names object
+  Places q.Fin = Unit {0}
+
+  abbrev pub LinkPut : BridgePut → Type 0
+  LinkPut (to_publisher n note) = IsPublisherNote names note
+  LinkPut (to_queue k note) = Places note
+  LinkPut (to_timers note) = IsFin note
+
+-- where anything may come out
+abbrev pub Any : Arrival → Type 0
+Any a = Unit {0}
+
+abbrev pub AnyReply : ReplyArrival → Type 0
+AnyReply a = Unit {0}
 
 -- ---- the timer service
 
@@ -120,6 +158,8 @@ abbrev pub Takes : NamesData → QueueNote → Type 0
 Takes names (q.Create slot object make tag) = IsObject names object
 Takes names (q.Deliver slot sub msg) = IsSub names sub × IsSound names.nums msg
 Takes names (q.Reply slot inbox body) = IsInbox names inbox × IsBody names.nums body
+Takes names (q.Bad slot sub kind sender seq bytes) = IsSub names sub
+Takes names (q.BadReply slot inbox bytes) = IsInbox names inbox
 Takes names (q.Tick slot timer moment) = IsTimer names timer × (moment < 2 ^ 64)
 Takes names (q.Gone slot object) = IsObject names object
 Takes names q.Fin = Unit {0}

@@ -154,6 +154,8 @@ module _ (names : NamesData) where
   queue_bridge_two (q.Create slot object make tag) h = (h.0, linked_two object h.1, make_is object make h.2, h.3)
   queue_bridge_two (q.Deliver slot sub msg) h = (h.0, sub_two sub h.1, msg_two names.nums msg h.2)
   queue_bridge_two (q.Reply slot inbox body) h = (h.0, inbox_two inbox h.1, body_two names.nums body h.2)
+  queue_bridge_two (q.Bad slot sub kind sender seq bytes) h = (h.0, sub_two sub h.1, h.2, h.3, h.4)
+  queue_bridge_two (q.BadReply slot inbox bytes) h = (h.0, inbox_two inbox h.1, h.2)
   queue_bridge_two (q.Gone slot object) h = (h.0, linked_two object h.1)
   queue_bridge_two q.Fin h = tt
   queue_bridge_two _ h = absurd h
@@ -192,6 +194,7 @@ module _ (names : NamesData) where
   inbox_hears_two : (call : Callback) → InboxHears names.nums call → InboxHears Known call
   inbox_hears_two on.Create h = tt
   inbox_hears_two (on.Reply body) h = body_two names.nums body h
+  inbox_hears_two (on.Error code) h = h
   inbox_hears_two on.Destroy h = tt
   inbox_hears_two _ h = absurd h
 

@@ -6,6 +6,7 @@ pub mod ClientsFit
 pub mod PlansFit
 pub mod Bodies
 pub mod SendersFit
+pub mod Fronts
 pub mod Few
 pub mod Once
 pub mod SlotsFit

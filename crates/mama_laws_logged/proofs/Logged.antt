@@ -40,21 +40,19 @@ use Rattle.mama_rules_legal.specs.Edges.{AreEdges, client_puts, queue_puts, put_
 use Rattle.mama_laws_legal.proofs.AllSent.{count_publishers}
 use Rattle.mama_laws_legal.proofs.Putters.{by_bridge_port, by_timers_port}
 use Rattle.mama_log_line.specs.Names.{NamesData, names_of}
-use Rattle.mama_log_line.specs.Entering.{IsBody, IsPublisherNote, MayEnterPublisher, BridgeFromClient, BridgeFromPublisher, BridgeFromQueue, BridgeFrom, MayEnterBridge, TimersFromClient, TimersFromQueue, TimersFromBridge, TimersFrom, MayEnterTimers, IsLinked, IsTimed, QueueFromBridge, QueueFromTimers, QueueFrom, MayEnterQueue, MayOrder, IsLastImage}
+use Rattle.mama_log_line.specs.Entering.{IsPublisherNote, MayEnterPublisher, BridgeFromClient, BridgeFromPublisher, BridgeFromQueue, BridgeFrom, MayEnterBridge, TimersFromClient, TimersFromQueue, TimersFromBridge, TimersFrom, MayEnterTimers, IsLinked, IsTimed, QueueFromBridge, QueueFromTimers, QueueFrom, MayEnterQueue, MayOrder, IsLastImage}
 use Rattle.mama_log_read.specs.Logged.{IsMoment, MayCall, MayHearAll, IsLogged}
-use Rattle.mama_laws_genuine.specs.Sent.{Delivers}
-use Rattle.mama_laws_genuine.proofs.Elements.{all_if, all_flat_map, all_map, all_any, all_weaker, all_both, all_by_port, all_by_ports}
-use Rattle.mama_laws_genuine.proofs.Carried.{InBridgeNote, InBridgePut}
-use Rattle.mama_laws_genuine.proofs.Bridging.{all_bridge_puts}
+use Rattle.mama_laws_genuine.proofs.Elements.{all_if, all_flat_map, all_map, all_any, all_weaker, all_by_port, all_by_ports}
 use Rattle.mama_laws_genuine.proofs.Lines.{length-publishers}
 use Rattle.mama_laws_logged.specs.Telling.{AreMoments, LegalRecordsAreLogged}
-use Rattle.mama_laws_logged.proofs.Fits.{IsObject, IsSound, IsPlan, IsSender, ClientPut, PublisherPut, QueuePutFits, OrderNote, OrderPut, Names, Places, IsFin, LinkPut, Arms, Takes, IsCall}
+use Rattle.mama_laws_logged.proofs.Fits.{IsObject, Arrives, IsAnswered, IsPlan, IsSender, ClientPut, PublisherPut, QueuePutFits, OrderNote, OrderPut, Names, IsFin, Places, LinkPut, Any, AnyReply, Arms, Takes, IsCall}
 use Rattle.mama_laws_logged.proofs.Few.{IsFew, names_few}
 use Rattle.mama_laws_logged.proofs.SlotsFit.{free_slot_small}
 use Rattle.mama_laws_logged.proofs.ClientsFit.{clients_fit}
 use Rattle.mama_laws_logged.proofs.PlansFit.{objects_fit, orders_fit}
 use Rattle.mama_laws_logged.proofs.SendersFit.{senders_fit, publisher_fits}
-use Rattle.mama_laws_logged.proofs.BridgeFits.{bridge_fits}
+use Rattle.mama_laws_logged.proofs.Fronts.{front_broken, arrives_cut, answered_cut}
+use Rattle.mama_laws_logged.proofs.BridgeFits.{Sends, any_sends, bridge_fits}
 use Rattle.mama_laws_logged.proofs.TimersFit.{timers_fit}
 use Rattle.mama_laws_logged.proofs.QueuesFit.{calls_fit, queue_fits, orders_put, images_fit}
 
@@ -96,7 +94,7 @@ module _ (names : NamesData) where
   timers_of_queue (queue.to_bridge note) h = tt
   timers_of_queue (queue.to_timers note) h = (h, tt)
 
-  timers_of_bridge : (put : BridgePut) → LinkPut names put → AllByRecursion TimersFromBridge (timer_part put)
+  timers_of_bridge : (put : BridgePut) → LinkPut names Any AnyReply put → AllByRecursion TimersFromBridge (timer_part put)
   timers_of_bridge (to_publisher n note) h = tt
   timers_of_bridge (to_queue k note) h = tt
   timers_of_bridge (to_timers note) h = (fin_alone note h, tt)
@@ -105,7 +103,7 @@ module _ (names : NamesData) where
       fin_alone t.Fin h = tt
       fin_alone _ h = absurd h
 
-  asked_part : (n : ℕ) (put : BridgePut) → LinkPut names put → AllByRecursion (IsPublisherNote names) (publisher_part n put)
+  asked_part : (n : ℕ) (put : BridgePut) → LinkPut names Any AnyReply put → AllByRecursion (IsPublisherNote names) (publisher_part n put)
   asked_part n (to_publisher m note) h = all_if (IsPublisherNote names) (m == n) (note ∷ []) [] (h, tt) tt
   asked_part n (to_queue k note) h = tt
   asked_part n (to_timers note) h = tt
@@ -150,29 +148,34 @@ module _ (names : NamesData) where
   Told (ByQueue k) note = OrderNote names note
   Told _ note = ⊥
 
-  client_carries : (note : BridgeNote) → BridgeFromClient names note → InBridgeNote (IsSound names.nums) (IsBody names.nums) note
-  client_carries (b.Publish msg) h = absurd h
-  client_carries (b.Image sub msg) h = absurd h
-  client_carries (b.Reply inbox body) h = absurd h
-  client_carries _ h = tt
+  abbrev SendsSound : BridgeEvent → Type 0
+  SendsSound = Sends (Arrives names.nums) (IsAnswered names.nums) names.shape
 
-  publisher_carries : (note : BridgeNote) → PublisherPut names note → InBridgeNote (IsSound names.nums) (IsBody names.nums) note
-  publisher_carries (b.Publish msg) h = h
-  publisher_carries (b.Image sub msg) h = h.1
-  publisher_carries (b.Reply inbox body) h = h.1
-  publisher_carries _ h = tt
+  sound_if : (c : Bool) (e f : BridgeEvent) → SendsSound e → SendsSound f → SendsSound (if c then e else f)
+  sound_if true e f one two = one
+  sound_if false e f one two = two
 
-  queue_carries : (note : BridgeNote) → OrderNote names note → InBridgeNote (IsSound names.nums) (IsBody names.nums) note
-  queue_carries (b.Publish msg) h = absurd h
-  queue_carries (b.Image sub msg) h = absurd h
-  queue_carries (b.Reply inbox body) h = absurd h
-  queue_carries _ h = tt
+  client_sound : (c : ℕ) (note : BridgeNote) → SendsSound (put_by (ByClient c) note)
+  client_sound c (b.Join sub terms tag) = sound_if (sub.client == c) (joins sub terms tag) no_event tt tt
+  client_sound c (b.OpenInbox inbox terms tag) = sound_if (inbox.client == c) (opens inbox terms tag) no_event tt tt
+  client_sound c _ = tt
 
-  carries : (who : Putter) (note : BridgeNote) → Told who note → InBridgeNote (IsSound names.nums) (IsBody names.nums) note
-  carries (ByClient c) note h = client_carries note h
-  carries (ByPublisher n) note h = publisher_carries note h
-  carries (ByQueue k) note h = queue_carries note h
-  carries _ note h = absurd h
+  publisher_sound : (n : ℕ) (note : BridgeNote) → PublisherPut names note → SendsSound (put_by (ByPublisher n) note)
+  publisher_sound n (b.Publish msg) h = h
+  publisher_sound n (b.Image sub msg) h = h.1
+  publisher_sound n (b.Reply inbox body) h = h.1
+  publisher_sound n _ h = tt
+
+  queue_sound : (k : ℕ) (note : BridgeNote) → SendsSound (put_by (ByQueue k) note)
+  queue_sound k (b.Join sub terms tag) = tt
+  queue_sound k _ = tt
+
+  -- what the bridge hears names what is declared, and its messages are sound
+  heard_sound : (who : Putter) (note : BridgeNote) → Told who note → Names names (put_by who note) × SendsSound (put_by who note)
+  heard_sound (ByClient c) note h = (client_names c note h, client_sound c note)
+  heard_sound (ByPublisher n) note h = (publisher_names n note, publisher_sound n note h)
+  heard_sound (ByQueue k) note h = (queue_names k note h, queue_sound k note)
+  heard_sound _ note h = absurd h
 
   from_publisher : (note : BridgeNote) → PublisherPut names note → BridgeFromPublisher names note
   from_publisher (b.Publish msg) h = h.msg
@@ -184,19 +187,21 @@ module _ (names : NamesData) where
 
   -- ---- what queues take
 
-  from_bridge : (note : QueueNote) → Places names note → Delivers (IsSound names.nums) (IsBody names.nums) note → QueueFromBridge names note × Takes names note
-  from_bridge (q.Create slot object make tag) h d = (h, linked_object object h.1)
-  from_bridge (q.Deliver slot sub msg) h d = ((h.0, h.1, d.msg), (h.1, d))
-  from_bridge (q.Reply slot inbox body) h d = ((h.0, h.1, d), (h.1, d))
-  from_bridge (q.Tick slot timer moment) h d = absurd h
-  from_bridge (q.Gone slot object) h d = (h, linked_object object h.1)
-  from_bridge q.Fin h d = (tt, tt)
+  from_bridge : (note : QueueNote) → Places names (Arrives names.nums) (IsAnswered names.nums) note → QueueFromBridge names note × Takes names note
+  from_bridge (q.Create slot object make tag) h = (h, linked_object object h.1)
+  from_bridge (q.Deliver slot sub msg) h = ((h.0, h.1, h.2.msg), (h.1, h.2))
+  from_bridge (q.Reply slot inbox body) h = (h, (h.1, h.2))
+  from_bridge (q.Bad slot sub kind sender seq bytes) h = ((h.0, h.1, h.2.sender, h.2.seq, front_broken names.nums bytes h.2.front), h.1)
+  from_bridge (q.BadReply slot inbox bytes) h = ((h.0, h.1, front_broken names.nums bytes h.2), h.1)
+  from_bridge (q.Tick slot timer moment) h = absurd h
+  from_bridge (q.Gone slot object) h = (h, linked_object object h.1)
+  from_bridge q.Fin h = (tt, tt)
 
-  bridge_brings : (k : ℕ) (put : BridgePut) → LinkPut names put × InBridgePut (IsSound names.nums) (IsBody names.nums) put
+  bridge_brings : (k : ℕ) (put : BridgePut) → LinkPut names (Arrives names.nums) (IsAnswered names.nums) put
       → AllByRecursion (λ (note : QueueNote). QueueFromBridge names note × Takes names note) (queue_part k put)
   bridge_brings k (to_publisher n note) h = tt
   bridge_brings k (to_queue m note) h =
-      all_if (λ (note : QueueNote). QueueFromBridge names note × Takes names note) (m == k) (note ∷ []) [] (from_bridge note h.0 h.1, tt) tt
+      all_if (λ (note : QueueNote). QueueFromBridge names note × Takes names note) (m == k) (note ∷ []) [] (from_bridge note h, tt) tt
   bridge_brings k (to_timers note) h = tt
 
   from_timers : (note : QueueNote) → QueueFromTimers names note → QueueFromTimers names note × Takes names note
@@ -206,6 +211,8 @@ module _ (names : NamesData) where
   from_timers q.Fin h = (h, tt)
   from_timers (q.Deliver slot sub msg) h = absurd h
   from_timers (q.Reply slot inbox body) h = absurd h
+  from_timers (q.Bad slot sub kind sender seq bytes) h = absurd h
+  from_timers (q.BadReply slot inbox bytes) h = absurd h
 
   -- ---- what the timer service hears
 
@@ -311,18 +318,19 @@ module _ (script : ScriptData) (is : IsScript script) (within : IsWithin script)
       all_by_ports (λ port note. Noted names (bridge_putter shape port) note) run.bridge
       (λ port. subst (AllByRecursion (Noted names (bridge_putter shape port))) (sym (edges.bridge port)) (all_noted (bridge_putter shape port)))
 
-  linked : AllByRecursion (LinkPut names) (bridge_puts shape run.bridge)
+  linked : AllByRecursion (LinkPut names Any AnyReply) (bridge_puts shape run.bridge)
   linked =
-      bridge_fits names shape refl (λ before sofar queue all. free_slot_small names few shape before sofar queue all) (heard shape run.bridge)
-      (all_map (λ (e : ℕ × BridgeNote). Noted names (bridge_putter shape e.0) e.1) (Names names) (λ (e : ℕ × BridgeNote). put_by (bridge_putter shape e.0) e.1)
-      (λ e h. heard_names names (bridge_putter shape e.0) e.1 h) run.bridge noted_bridge)
+      bridge_fits names shape refl (free_slot_small names few shape) Any (λ keep a h. tt) AnyReply (λ keep a h. tt) (heard shape run.bridge)
+      (all_map (λ (e : ℕ × BridgeNote). Noted names (bridge_putter shape e.0) e.1) (λ (e : BridgeEvent). Names names e × Sends Any AnyReply shape e)
+      (λ (e : ℕ × BridgeNote). put_by (bridge_putter shape e.0) e.1)
+      (λ e h. (heard_names names (bridge_putter shape e.0) e.1 h, any_sends shape (put_by (bridge_putter shape e.0) e.1))) run.bridge noted_bridge)
 
   -- ---- publishers
 
   asked : (n : ℕ) → n < length script.publishers → AllByRecursion (IsPublisherNote names) (taken_by (slice_index_or run.publishers n []))
   asked n inside =
       subst (AllByRecursion (IsPublisherNote names)) (sym (edges.publishers n inside))
-      (all_flat_map (LinkPut names) (IsPublisherNote names) (publisher_part n) (asked_part names n) (bridge_puts shape run.bridge) linked)
+      (all_flat_map (LinkPut names Any AnyReply) (IsPublisherNote names) (publisher_part n) (asked_part names n) (bridge_puts shape run.bridge) linked)
 
   sender : (n : ℕ) → n < length script.publishers → IsSender names.nums (slice_index_or setting.publishers n no_section)
   sender n inside =
@@ -348,11 +356,12 @@ module _ (script : ScriptData) (is : IsScript script) (within : IsWithin script)
       all_by_ports (λ port note. Told names (bridge_putter shape port) note) run.bridge
       (λ port. subst (AllByRecursion (Told names (bridge_putter shape port))) (sym (edges.bridge port)) (all_told port))
 
-  carried : AllByRecursion (InBridgePut (IsSound names.nums) (IsBody names.nums)) (bridge_puts shape run.bridge)
-  carried =
-      all_bridge_puts (IsSound names.nums) (IsBody names.nums) shape run.bridge
-      (all_weaker (λ (e : ℕ × BridgeNote). Told names (bridge_putter shape e.0) e.1) (λ (e : ℕ × BridgeNote). InBridgeNote (IsSound names.nums) (IsBody names.nums) e.1)
-      (λ e h. carries names (bridge_putter shape e.0) e.1 h) run.bridge told_bridge)
+  passed : AllByRecursion (LinkPut names (Arrives names.nums) (IsAnswered names.nums)) (bridge_puts shape run.bridge)
+  passed =
+      bridge_fits names shape refl (free_slot_small names few shape) (Arrives names.nums) (arrives_cut names.nums) (IsAnswered names.nums) (answered_cut names.nums) (heard shape run.bridge)
+      (all_map (λ (e : ℕ × BridgeNote). Told names (bridge_putter shape e.0) e.1) (λ (e : BridgeEvent). Names names e × SendsSound names e)
+      (λ (e : ℕ × BridgeNote). put_by (bridge_putter shape e.0) e.1)
+      (λ e h. heard_sound names (bridge_putter shape e.0) e.1 h) run.bridge told_bridge)
 
   -- ---- the timer service
 
@@ -380,7 +389,7 @@ module _ (script : ScriptData) (is : IsScript script) (within : IsWithin script)
       (all_flat_map (ClientPut names) (TimersFromClient names) timers_part (timers_of_client names) (client_puts script run.clients c) (client_put c)))
       (λ k inside. low_timers (clients_of shape + k) (ByQueue k) (omega (arith, ports_few)) (on_timers (ByQueue k)) (order_timers k))
       (low_timers (clients_of shape + queues_of shape) ByBridge (omega (arith, ports_few)) (on_timers ByBridge)
-      (all_flat_map (LinkPut names) TimersFromBridge timer_part (timers_of_bridge names) (bridge_puts shape run.bridge) linked))
+      (all_flat_map (LinkPut names Any AnyReply) TimersFromBridge timer_part (timers_of_bridge names) (bridge_puts shape run.bridge) linked))
       (λ n past. tt) port
 
   timers_by : AllByRecursion (λ (e : ℕ × TimersNote). TimersBy e.0 (timers_putter shape e.0) e.1) run.timers
@@ -401,8 +410,7 @@ module _ (script : ScriptData) (is : IsScript script) (within : IsWithin script)
 
   all_entered : (k : ℕ) (who : Putter) → AllByRecursion (Entered who) (put_on_queue shape run.bridge run.timers k who)
   all_entered k ByBridge =
-      all_flat_map (λ (put : BridgePut). LinkPut names put × InBridgePut (IsSound names.nums) (IsBody names.nums) put) (Entered ByBridge) (queue_part k) (bridge_brings names k)
-      (bridge_puts shape run.bridge) (all_both (LinkPut names) (InBridgePut (IsSound names.nums) (IsBody names.nums)) (bridge_puts shape run.bridge) linked carried)
+      all_flat_map (LinkPut names (Arrives names.nums) (IsAnswered names.nums)) (Entered ByBridge) (queue_part k) (bridge_brings names k) (bridge_puts shape run.bridge) passed
   all_entered k ByTimers =
       all_weaker (QueueFromTimers names) (Entered ByTimers) (from_timers names) (by_port k (timers_puts shape run.timers))
       (all_by_port (QueueFromTimers names) k (timers_puts shape run.timers) timed)

@@ -21,6 +21,7 @@ use Rattle.mama_event.specs.declared.to_timers.TimersNote.TheVariants as t
 use Rattle.mama_event.specs.declared.to_queue.Make.{Make}
 use Rattle.mama_event.specs.declared.to_queue.Make.TheVariants as make
 use Rattle.mama_event.specs.declared.to_queue.QueueNote.{QueueNote}
+use Rattle.mama_event.specs.Wire.{code_of}
 use Rattle.mama_event.specs.declared.to_queue.QueueNote.TheVariants as q
 use Rattle.mama_event.specs.declared.shape.Strategy.TheVariants.{One}
 use Rattle.mama_dq.specs.Strategy.{callbacks_of}
@@ -33,6 +34,7 @@ use Rattle.mama_log_line.specs.Names.{NamesData, IsSub}
 use Rattle.mama_log_line.specs.Entering.{SubHears, MayHear, MayOrder, IsLastImage}
 use Rattle.mama_laws_genuine.proofs.Elements.{all_append, all_if, all_at, all_any, all_flat_map, all_map, all_puts_after, all_puts_known, all_puts_so_far}
 use Rattle.mama_laws_logged.proofs.Fits.{IsSound, IsObject, Takes, IsCall, DeedFits, QueuePutFits, OrderPut}
+use Rattle.mama_laws_logged.proofs.Fronts.{code_fits}
 use Rattle.mama_laws_logged.proofs.StrategyFits.{calls_sound, image_sound}
 
 -- ---- what any object hears
@@ -147,6 +149,8 @@ module _ (names : NamesData) (orders : ObjectId → ℕ → List Order)
       tt
       (h.1, made_fit (Sub sub) (sofar ++ handled sub msg ∷ []) calls h.0 (context_calls names.nums how (messages_of sub sofar) msg (messages_sound names sub sofar so) h.1))
   served_fit before sofar (q.Reply slot inbox body) so h = made_fit (Inbox inbox) sofar (on.Reply body ∷ []) h.0 (h.1, tt)
+  served_fit before sofar (q.Bad slot sub kind sender seq bytes) so h = made_fit (Sub sub) sofar (on.Error (code_of bytes) ∷ []) h (code_fits bytes, tt)
+  served_fit before sofar (q.BadReply slot inbox bytes) so h = made_fit (Inbox inbox) sofar (on.Error (code_of bytes) ∷ []) h (code_fits bytes, tt)
   served_fit before sofar (q.Tick slot timer moment) so h = made_fit (Timer timer) sofar (on.Tick moment ∷ []) h.0 (h.1, tt)
   served_fit before sofar (q.Gone slot object) so h = made_fit object sofar (on.Destroy ∷ []) h (hears_destroy names.nums object, tt)
   served_fit before sofar q.Fin so h = tt
@@ -198,6 +202,8 @@ module _ (names : NamesData) (orders : ObjectId → ℕ → List Order)
       all_if (IsOrdered names) (is_muted (Sub sub) sofar) [] (handled sub msg ∷ made orders (Sub sub) (sofar ++ handled sub msg ∷ []) calls)
       tt (tt, made_ordered (Sub sub) (sofar ++ handled sub msg ∷ []) calls)
   served_ordered before sofar (q.Reply slot inbox body) = made_ordered (Inbox inbox) sofar (on.Reply body ∷ [])
+  served_ordered before sofar (q.Bad slot sub kind sender seq bytes) = made_ordered (Sub sub) sofar (on.Error (code_of bytes) ∷ [])
+  served_ordered before sofar (q.BadReply slot inbox bytes) = made_ordered (Inbox inbox) sofar (on.Error (code_of bytes) ∷ [])
   served_ordered before sofar (q.Tick slot timer moment) = made_ordered (Timer timer) sofar (on.Tick moment ∷ [])
   served_ordered before sofar (q.Gone slot object) = made_ordered object sofar (on.Destroy ∷ [])
   served_ordered before sofar q.Fin = tt

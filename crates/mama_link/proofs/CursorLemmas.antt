@@ -12,7 +12,7 @@ use Rattle.std.proofs.lemmas.Map.Entries.{lookup_at_gap, length-keys_of}
 use Rattle.std.proofs.lemmas.Map.Keys.{below_from_sorted}
 use Rattle.std.proofs.lemmas.Option.{slice_get_within, get_or_from_slice_get}
 use Rattle.mama_link.specs.declared.faults.Fault.{Fault}
-use Rattle.mama_link.specs.declared.faults.Fault.TheVariants.{Lose, Dup, Hold}
+use Rattle.mama_link.specs.declared.faults.Fault.TheVariants.{Lose, Dup, Hold, Cut}
 use Rattle.std.specs.Option.{option_or}
 use Rattle.mama_link.specs.declared.faults.FaultRow.{FaultRow}
 use Rattle.mama_link.specs.declared.faults.FaultsFault.{FaultsFault}
@@ -120,11 +120,11 @@ module _ (rows : List FaultRow) (table : List (ℕ × Fault)) (passed cursor : �
 
 -- ---- rows none of which is bad
 
-none-first : (o p : Option FaultsFault) → option_or o p ≡ None → o ≡ None
+pub none-first : (o p : Option FaultsFault) → option_or o p ≡ None → o ≡ None
 none-first None p h = refl
 none-first (Some e) p h = absurd cc
 
-none-then : (o p : Option FaultsFault) → option_or o p ≡ None → p ≡ None
+pub none-then : (o p : Option FaultsFault) → option_or o p ≡ None → p ≡ None
 none-then None p h = h
 none-then (Some e) p h = absurd cc
 
@@ -145,6 +145,7 @@ positive n h = grind (arith, nat_tests)
 holds_more : (fault : Fault) (by : ℕ) → is_zero_hold fault ≡ false → Some fault ≡ Some (Hold by) → 0 < by
 holds_more Lose by h e = absurd cc
 holds_more Dup by h e = absurd cc
+holds_more (Cut keep) by h e = absurd cc
 holds_more (Hold n) by h e =
     let same : n ≡ by = cc in
     let more : 0 < n = positive n h in

@@ -6,13 +6,14 @@ use Rattle.std.proofs.Math.Seq.{take-suc}
 use Rattle.std.proofs.lemmas.List.{take_more}
 use Rattle.std.specs.Ordering.{nat_cmp}
 use Rattle.std.specs.Option.{option_or}
+use Rattle.std.specs.List.Sorted.{IsStrictlySortedBy}
 use Rattle.std.specs.BTreeMap.{is_at, insert_entry}
 use Rattle.mama_link.specs.declared.faults.Fault.{Fault}
-use Rattle.mama_link.specs.declared.faults.Fault.TheVariants.{Lose, Dup, Hold}
+use Rattle.mama_link.specs.declared.faults.Fault.TheVariants.{Lose, Dup, Hold, Cut}
 use Rattle.mama_link.specs.declared.faults.FaultRow.{FaultRow}
 use Rattle.mama_link.specs.declared.faults.FaultsFault.{FaultsFault}
 use Rattle.mama_link.specs.Faults.{fault_at, fault_of_row, first_fault_after}
-use Rattle.mama_link.specs.Table.{holds_until, slots_due, table_from}
+use Rattle.mama_link.specs.Table.{holds_until, slots_due, table_from, IsTable}
 
 -- a map over numbers finds a key where the numbers are equal
 pub is_at-nat_cmp : (a b : ℕ) → is_at (nat_cmp a) b ≡ (a == b)
@@ -107,6 +108,7 @@ holds_until-none : (place i : ℕ) (fault : Fault) → ((by : ℕ) → fault ≡
 holds_until-none place i Lose other = refl
 holds_until-none place i Dup other = refl
 holds_until-none place i (Hold by) other = absurd (other by refl)
+holds_until-none place i (Cut keep) other = refl
 
 -- and after an entry that holds none
 pub slots_due-other : (place : ℕ) (table : List (ℕ × Fault)) (k : ℕ) → k < length table → ((by : ℕ) → (get_or table k no_entry).1 ≡ Hold by → ⊥) →
@@ -115,3 +117,8 @@ slots_due-other place table k h other =
     sym (append-nil (slots_due place 0 (take k table)))
     ∙ ap (λ (b : Bool). slots_due place 0 (take k table) ++ (if b then k ∷ [] else [])) (sym (holds_until-none place (get_or table k no_entry).0 (get_or table k no_entry).1 other))
     ∙ sym (slots_due-take place table k h)
+
+-- without rows there is nothing to find
+pub no_rows : IsTable [] []
+unfolding IsStrictlySortedBy
+no_rows = record { sound = refl; ordered = tt; found = λ i. refl; told = λ k d h. absurd (omega arith) }

@@ -4,4 +4,6 @@ pub mod SlotLemmas
 pub mod CursorLemmas
 pub mod PassLemmas
 pub mod LawLemmas
+pub mod CutLemmas
+pub mod MapLemmas
 pub mod Rows

@@ -4,7 +4,7 @@ use Rattle.std.proofs.lemmas.Bool.Decides.{nat_tests}
 use Rattle.std.proofs.lemmas.List.Elements.{filter-append}
 use Rattle.std.specs.List.{enumerate_from, flat_map}
 use Rattle.mama_link.specs.declared.faults.Fault.{Fault}
-use Rattle.mama_link.specs.declared.faults.Fault.TheVariants.{Lose, Dup, Hold}
+use Rattle.mama_link.specs.declared.faults.Fault.TheVariants.{Lose, Dup, Hold, Cut}
 use Rattle.mama_link.specs.declared.faults.FaultRow.{FaultRow}
 use Rattle.mama_link.specs.Faults.{fault_at}
 use Rattle.mama_link.specs.Link.{is_held_until, is_held_after, is_due, is_held, own, copies, numbered, emit, held, Standing, standing_after, StandsFor, coming}
@@ -56,6 +56,7 @@ due_is_held n i None h = h
 due_is_held n i (Some Lose) h = h
 due_is_held n i (Some Dup) h = h
 due_is_held n i (Some (Hold by)) h = grind (arith, nat_tests)
+due_is_held n i (Some (Cut keep)) h = h
 
 -- what is held after the next place was held and is not due there
 held_after_next : (n i : ℕ) (fault : Option Fault) → is_held_after (n + 1) i fault ≡ (is_held_after n i fault && not (is_held_until (n + 1) i fault))
@@ -63,6 +64,7 @@ held_after_next n i None = refl
 held_after_next n i (Some Lose) = refl
 held_after_next n i (Some Dup) = refl
 held_after_next n i (Some (Hold by)) = grind (arith, nat_tests)
+held_after_next n i (Some (Cut keep)) = refl
 
 later_is_other : (place by : ℕ) → 0 < by → (place + by == place) ≡ false
 later_is_other place by h = grind (arith, nat_tests)
@@ -79,6 +81,7 @@ own_is_not_due rows place holds = by_fault (fault_at rows place) holds
     by_fault (Some Lose) h = refl
     by_fault (Some Dup) h = refl
     by_fault (Some (Hold by)) h = later_is_other place by (h by refl)
+    by_fault (Some (Cut keep)) h = refl
 
 -- of a message more, what is held is what its fault holds back
 own_is_held : {T : Type 0} (place : ℕ) (fault : Option Fault) (message : T) → ((by : ℕ) → fault ≡ Some (Hold by) → 0 < by) →
@@ -87,6 +90,7 @@ own_is_held place None message h = refl
 own_is_held place (Some Lose) message h = refl
 own_is_held place (Some Dup) message h = refl
 own_is_held place (Some (Hold by)) message h = rw (later_is_after place by (h by refl)) refl
+own_is_held place (Some (Cut keep)) message h = refl
 
 -- ---- one message more
 
@@ -99,15 +103,15 @@ numbered-more {T} x message =
     let same : 1 + length x ≡ length x + 1 = omega arith in
     numbered-push 1 x message ∙ ap (λ (n : ℕ). numbered x ++ (n, message) ∷ []) same
 
-own-next : {T : Type 0} (rows : List FaultRow) (x : List T) (message : T) →
-    flat_map (own rows) (filter (λ (entry : ℕ × T). entry.0 == length x + 1) (numbered (x ++ message ∷ []))) ≡ copies (fault_at rows (length x + 1)) message
-own-next {T} rows x message =
+own-next : {T : Type 0} (cut : ℕ → T → T) (rows : List FaultRow) (x : List T) (message : T) →
+    flat_map (own cut rows) (filter (λ (entry : ℕ × T). entry.0 == length x + 1) (numbered (x ++ message ∷ []))) ≡ copies cut (fault_at rows (length x + 1)) message
+own-next {T} cut rows x message =
     let at : ℕ × T → Bool = λ (entry : ℕ × T). entry.0 == length x + 1 in
     let none : filter at (numbered x) ≡ [] = numbered-below 1 (length x + 1) x (omega arith) in
     let it : (length x + 1 == length x + 1) ≡ true = eq-eqb (length x + 1) (length x + 1) refl in
     let one : filter at (numbered (x ++ message ∷ [])) ≡ (length x + 1, message) ∷ [] =
     ap (filter at) (numbered-more x message) ∙ filter-append at (numbered x) ((length x + 1, message) ∷ []) ∙ rw (none, it) refl in
-    ap (flat_map (own rows)) one ∙ append-nil (copies (fault_at rows (length x + 1)) message)
+    ap (flat_map (own cut rows)) one ∙ append-nil (copies cut (fault_at rows (length x + 1)) message)
 
 due-next : {T : Type 0} (rows : List FaultRow) (x : List T) (message : T) → HoldsByMore rows →
     filter (is_due rows (length x + 1)) (numbered (x ++ message ∷ [])) ≡ filter (is_due rows (length x + 1)) (held rows x)
@@ -119,10 +123,10 @@ due-next {T} rows x message holds =
     ∙ sym (filter-filter (is_held rows (length x)) due (λ e h. due_is_held (length x) e.0 (fault_at rows e.0) h) (numbered x))
 
 -- what the next place emits is what a link that stands for the messages puts out
-pub emit-next : {T : Type 0} (rows : List FaultRow) (x : List T) (message : T) → HoldsByMore rows →
-    emit rows (x ++ message ∷ []) (length x + 1) ≡ coming (standing_after rows x) message
-emit-next rows x message holds =
-    rw (own-next rows x message, due-next rows x message holds) refl
+pub emit-next : {T : Type 0} (cut : ℕ → T → T) (rows : List FaultRow) (x : List T) (message : T) → HoldsByMore rows →
+    emit cut rows (x ++ message ∷ []) (length x + 1) ≡ coming cut (standing_after rows x) message
+emit-next cut rows x message holds =
+    rw (own-next cut rows x message, due-next rows x message holds) refl
 
 -- what is held after the next place
 pub held-next : {T : Type 0} (rows : List FaultRow) (x : List T) (message : T) → HoldsByMore rows →
@@ -151,6 +155,6 @@ stands-next {T} link x message holds stands =
     subst Stands (sym stands) (standing-next link.rows x message holds)
 
 -- and puts out what that place emits
-pub coming-is-emit : {T : Type 0} (link : Standing T) (x : List T) (message : T) → HoldsByMore link.rows → StandsFor x link → coming link message ≡ emit link.rows (x ++ message ∷ []) (length x + 1)
-coming-is-emit {T} link x message holds stands =
-    ap (λ (l : Standing T). coming l message) stands ∙ sym (emit-next link.rows x message holds)
+pub coming-is-emit : {T : Type 0} (cut : ℕ → T → T) (link : Standing T) (x : List T) (message : T) → HoldsByMore link.rows → StandsFor x link → coming cut link message ≡ emit cut link.rows (x ++ message ∷ []) (length x + 1)
+coming-is-emit {T} cut link x message holds stands =
+    ap (λ (l : Standing T). coming cut l message) stands ∙ sym (emit-next cut link.rows x message holds)

@@ -22,15 +22,15 @@ length-at_place place None = refl
 length-at_place place (Some message) = refl
 
 -- what a pass does at a place, where the message has this fault if any
-pub record PassEnds {T : Type 0} (rows : List FaultRow) (table : List (ℕ × Fault)) (passed count : ℕ) (slots : List (Option T)) (fault : Option Fault) (message : T) (place : ℕ) : Type 0 where
-  pub lengths : length (coming (record { rows = rows; passed = passed; held = held_in table slots }) message) ≡ length (copies fault message) + length (taken_at (slots_due place 0 table) slots)
+pub record PassEnds {T : Type 0} (cut : ℕ → T → T) (rows : List FaultRow) (table : List (ℕ × Fault)) (passed count : ℕ) (slots : List (Option T)) (fault : Option Fault) (message : T) (place : ℕ) : Type 0 where
+  pub lengths : length (coming cut (record { rows = rows; passed = passed; held = held_in table slots }) message) ≡ length (copies cut fault message) + length (taken_at (slots_due place 0 table) slots)
   pub fewer : length (taken_at (slots_due place 0 table) slots) ≤ count
   pub fits : count ≤ length slots
   pub long : length (emptied_at (slots_due place 0 table) slots) ≡ length slots
   pub kept : IsKept table place (count - length (taken_at (slots_due place 0 table) slots) + length (option_to_list (held_back fault message)))
       (if is_some fault then emptied_at (slots_due place 0 table) slots ++ held_back fault message ∷ [] else emptied_at (slots_due place 0 table) slots)
   pub out : (x : List T) → StandsFor x (record { rows = rows; passed = passed; held = held_in table slots }) →
-      copies fault message ++ taken_at (slots_due place 0 table) slots ≡ emit rows (x ++ message ∷ []) (length x + 1)
+      copies cut fault message ++ taken_at (slots_due place 0 table) slots ≡ emit cut rows (x ++ message ∷ []) (length x + 1)
   pub standing : (x : List T) → StandsFor x (record { rows = rows; passed = passed; held = held_in table slots }) →
       StandsFor (x ++ message ∷ []) (record {
         rows = rows;
@@ -39,7 +39,7 @@ pub record PassEnds {T : Type 0} (rows : List FaultRow) (table : List (ℕ × Fa
             (if is_some fault then emptied_at (slots_due place 0 table) slots ++ held_back fault message ∷ [] else emptied_at (slots_due place 0 table) slots);
       })
 
-module _ {T : Type 0} (rows : List FaultRow) (table : List (ℕ × Fault)) (passed : ℕ) (slots : List (Option T)) (is : IsTable rows table) (caught : IsCaughtUp table passed (length slots)) where
+module _ {T : Type 0} (cut : ℕ → T → T) (rows : List FaultRow) (table : List (ℕ × Fault)) (passed : ℕ) (slots : List (Option T)) (is : IsTable rows table) (caught : IsCaughtUp table passed (length slots)) where
   are_told : AreTold rows table
   are_told = recursion_from_All (λ (e : ℕ × Fault). fault_at rows e.0 ≡ Some e.1) table is.told
 
@@ -93,19 +93,19 @@ module _ {T : Type 0} (rows : List FaultRow) (table : List (ℕ × Fault)) (pass
       let one = length-at_place (passed + 1) (held_back o message) in
       omega arith
 
-  pub pass_ends-next : (count : ℕ) → count ≡ length (held_in table slots) → (fault : Option Fault) → fault_at rows (passed + 1) ≡ fault → (message : T) → PassEnds rows table passed count slots fault message (passed + 1)
+  pub pass_ends-next : (count : ℕ) → count ≡ length (held_in table slots) → (fault : Option Fault) → fault_at rows (passed + 1) ≡ fault → (message : T) → PassEnds cut rows table passed count slots fault message (passed + 1)
   pass_ends-next count counts fault tells message =
       let standing : Standing T = record { rows = rows; passed = passed; held = held_in table slots } in
       let due : List T = messages (filter (is_due rows (passed + 1)) (held_in table slots)) in
       let other : List (ℕ × T) = filter (λ (entry : ℕ × T). not (is_due rows (passed + 1) entry)) (held_in table slots) in
       let taken : length (taken_at (slots_due (passed + 1) 0 table) slots) ≡ length due = ap length taken-is-due in
-      let copied : copies (fault_at rows (passed + 1)) message ≡ copies fault message = ap (λ (f : Option Fault). copies f message) tells in
+      let copied : copies cut (fault_at rows (passed + 1)) message ≡ copies cut fault message = ap (λ (f : Option Fault). copies cut f message) tells in
       let sum : length other + length due ≡ length (held_in table slots) = omega (arith, length-filter_both (is_due rows (passed + 1)) (λ (entry : ℕ × T). not (is_due rows (passed + 1) entry)) (λ (e : ℕ × T). refl) (held_in table slots), length-map (filter (is_due rows (passed + 1)) (held_in table slots)) (λ (entry : ℕ × T). entry.1)) in
       let held = held-by fault tells message in
       let holds = holds_by_more rows is.sound in
       let with_held : List (ℕ × T) → Standing T = λ es. record { rows = rows; passed = passed + 1; held = es } in
       record {
-        lengths = ap (λ (own : List T). length (own ++ due)) copied ∙ length-append (copies fault message) due ∙ ap (λ (n : ℕ). length (copies fault message) + n) (sym taken);
+        lengths = ap (λ (own : List T). length (own ++ due)) copied ∙ length-append (copies cut fault message) due ∙ ap (λ (n : ℕ). length (copies cut fault message) + n) (sym taken);
         fewer = omega (arith, sum, taken, counts);
         fits = omega (arith, counts, length-held_in table slots);
         long = ap length emptied-is ∙ long;
@@ -114,28 +114,28 @@ module _ {T : Type 0} (rows : List FaultRow) (table : List (ℕ × Fault)) (pass
           counted = omega (arith, counted fault message, ap length held, taken, counts, sum);
         };
         out = λ x stands. ap (λ (own : List T). own ++ taken_at (slots_due (passed + 1) 0 table) slots) (sym copied)
-            ∙ ap (λ (ends : List T). copies (fault_at rows (passed + 1)) message ++ ends) taken-is-due
-            ∙ coming-is-emit standing x message holds stands;
+            ∙ ap (λ (ends : List T). copies cut (fault_at rows (passed + 1)) message ++ ends) taken-is-due
+            ∙ coming-is-emit cut standing x message holds stands;
         standing = λ x stands.
             let Stands : Standing T → Type 0 = StandsFor (x ++ message ∷ []) in
             subst Stands (ap with_held (ap (λ (f : Option Fault). other ++ at_place (passed + 1) (held_back f message)) tells ∙ sym held)) (stands-next standing x message holds stands);
       }
 
 -- the same at the place of a prepared pass
-pub pass_ends : {T : Type 0} (rows : List FaultRow) (table : List (ℕ × Fault)) (passed count : ℕ) (slots : List (Option T)) → IsTable rows table → IsKept table passed count slots →
-    (fault : Option Fault) (message : T) (place : ℕ) → place ≡ passed + 1 → fault ≡ fault_at rows place → PassEnds rows table passed count slots fault message place
-pass_ends rows table passed count slots is kept fault message place next tells =
-    let Ends : ℕ → Type 0 = λ n. PassEnds rows table passed count slots fault message n in
-    subst Ends (sym next) (pass_ends-next rows table passed slots is kept.caught_up count kept.counted fault (sym (tells ∙ ap (fault_at rows) next)) message)
+pub pass_ends : {T : Type 0} (cut : ℕ → T → T) (rows : List FaultRow) (table : List (ℕ × Fault)) (passed count : ℕ) (slots : List (Option T)) → IsTable rows table → IsKept table passed count slots →
+    (fault : Option Fault) (message : T) (place : ℕ) → place ≡ passed + 1 → fault ≡ fault_at rows place → PassEnds cut rows table passed count slots fault message place
+pass_ends cut rows table passed count slots is kept fault message place next tells =
+    let Ends : ℕ → Type 0 = λ n. PassEnds cut rows table passed count slots fault message n in
+    subst Ends (sym next) (pass_ends-next cut rows table passed slots is kept.caught_up count kept.counted fault (sym (tells ∙ ap (fault_at rows) next)) message)
 
 -- what a prepared pass does, by the link as contracts see it
-pub record PreparedEnds {T : Type 0} (rows : List FaultRow) (passed count room : ℕ) (slots : List (Option T)) (link : LinkData T) (prepared : Readied T) : Type 0 where
-  pub len : prepared.len ≡ length (copies prepared.fault prepared.message) + length (taken_at (slots_due prepared.place 0 (table_of rows)) slots)
+pub record PreparedEnds {T : Type 0} (cut : ℕ → T → T) (rows : List FaultRow) (passed count room : ℕ) (slots : List (Option T)) (link : LinkData T) (prepared : Readied T) : Type 0 where
+  pub len : prepared.len ≡ length (copies cut prepared.fault prepared.message) + length (taken_at (slots_due prepared.place 0 (table_of rows)) slots)
   pub room_for : IsSome prepared.fault → 0 < room
-  pub ends : PassEnds rows (table_of rows) passed count slots prepared.fault prepared.message prepared.place
+  pub ends : PassEnds cut rows (table_of rows) passed count slots prepared.fault prepared.message prepared.place
   pub rows_are : link.standing.rows ≡ rows
   pub out : (x : List T) → StandsFor x link.standing →
-      copies prepared.fault prepared.message ++ taken_at (slots_due prepared.place 0 (table_of rows)) slots ≡ emit link.standing.rows (x ++ prepared.message ∷ []) (length x + 1)
+      copies cut prepared.fault prepared.message ++ taken_at (slots_due prepared.place 0 (table_of rows)) slots ≡ emit cut link.standing.rows (x ++ prepared.message ∷ []) (length x + 1)
   pub standing : (x : List T) → StandsFor x link.standing →
       StandsFor (x ++ prepared.message ∷ []) (record {
         rows = rows;
@@ -148,10 +148,10 @@ pub record PreparedEnds {T : Type 0} (rows : List FaultRow) (passed count room :
 abbrev pub seen : {T : Type 0} → List FaultRow → ℕ → ℕ → List (Option T) → LinkData T
 seen rows passed room slots = record { standing = record { rows = rows; passed = passed; held = held_in (table_of rows) slots }; room = room }
 
-seen_ends : {T : Type 0} (rows : List FaultRow) (passed count room : ℕ) (slots : List (Option T)) → IsTable rows (table_of rows) → IsKept (table_of rows) passed count slots →
-    (prepared : Readied T) → IsPreparedFor (seen rows passed room slots) prepared → PreparedEnds rows passed count room slots (seen rows passed room slots) prepared
-seen_ends rows passed count room slots is kept prepared for =
-    let ends = pass_ends rows (table_of rows) passed count slots is kept prepared.fault prepared.message prepared.place for.place for.fault in
+seen_ends : {T : Type 0} (cut : ℕ → T → T) (rows : List FaultRow) (passed count room : ℕ) (slots : List (Option T)) → IsTable rows (table_of rows) → IsKept (table_of rows) passed count slots →
+    (prepared : Readied T) → IsPreparedFor cut (seen rows passed room slots) prepared → PreparedEnds cut rows passed count room slots (seen rows passed room slots) prepared
+seen_ends cut rows passed count room slots is kept prepared for =
+    let ends = pass_ends cut rows (table_of rows) passed count slots is kept prepared.fault prepared.message prepared.place for.place for.fault in
     record {
       len = for.len ∙ ends.lengths;
       room_for = for.room;
@@ -161,11 +161,11 @@ seen_ends rows passed count room slots is kept prepared for =
       standing = ends.standing;
     }
 
-pub prepared_ends : {T : Type 0} (rows : List FaultRow) (passed count room : ℕ) (slots : List (Option T)) (link : LinkData T) → seen rows passed room slots ≡ link →
-    IsTable rows (table_of rows) → IsKept (table_of rows) passed count slots → (prepared : Readied T) → IsPreparedFor link prepared → PreparedEnds rows passed count room slots link prepared
-prepared_ends {T} rows passed count room slots link is_seen is kept prepared for =
-    let Ends : LinkData T → Type 0 = λ l. IsPreparedFor l prepared → PreparedEnds rows passed count room slots l prepared in
-    subst Ends is_seen (seen_ends rows passed count room slots is kept prepared) for
+pub prepared_ends : {T : Type 0} (cut : ℕ → T → T) (rows : List FaultRow) (passed count room : ℕ) (slots : List (Option T)) (link : LinkData T) → seen rows passed room slots ≡ link →
+    IsTable rows (table_of rows) → IsKept (table_of rows) passed count slots → (prepared : Readied T) → IsPreparedFor cut link prepared → PreparedEnds cut rows passed count room slots link prepared
+prepared_ends {T} cut rows passed count room slots link is_seen is kept prepared for =
+    let Ends : LinkData T → Type 0 = λ l. IsPreparedFor cut l prepared → PreparedEnds cut rows passed count room slots l prepared in
+    subst Ends is_seen (seen_ends cut rows passed count room slots is kept prepared) for
 
 pub kept_along : {T : Type 0} (table : List (ℕ × Fault)) (passed passed' count count' : ℕ) (slots slots' : List (Option T)) → IsKept table passed count slots →
     passed' ≡ passed → count' ≡ count → slots' ≡ slots → IsKept table passed' count' slots'
@@ -186,25 +186,25 @@ length-option_to_list (Some x) = omega arith
 -- ---- before a pass
 
 -- what is made ready for the next pass is prepared for the link
-pub is_prepared : {T : Type 0} (rows : List FaultRow) (passed count room : ℕ) (slots : List (Option T)) → IsTable rows (table_of rows) → IsKept (table_of rows) passed count slots →
+pub is_prepared : {T : Type 0} (cut : ℕ → T → T) (rows : List FaultRow) (passed count room : ℕ) (slots : List (Option T)) → IsTable rows (table_of rows) → IsKept (table_of rows) passed count slots →
     (fault : Option Fault) (message : T) (due : ℕ) → fault ≡ fault_here (slice_get (table_of rows) (length slots)) (passed + 1) → due ≡ length (found_at (slots_due (passed + 1) 0 (table_of rows)) slots) →
-    (IsSome fault → 0 < room) → IsPreparedFor (seen rows passed room slots) (record { place = passed + 1; fault = fault; message = message; len = length (copies fault message) + due })
-is_prepared {T} rows passed count room slots is kept fault message due here counts room_for =
+    (IsSome fault → 0 < room) → IsPreparedFor cut (seen rows passed room slots) (record { place = passed + 1; fault = fault; message = message; len = length (copies cut fault message) + due })
+is_prepared {T} cut rows passed count room slots is kept fault message due here counts room_for =
     let tells : fault ≡ fault_at rows (passed + 1) = here ∙ cursor_tells rows (table_of rows) passed (length slots) is kept.caught_up in
     let ends : List T = messages (filter (is_due rows (passed + 1)) (held_in (table_of rows) slots)) in
     record {
       place = refl;
       fault = tells;
-      len = ap (λ (n : ℕ). length (copies fault message) + n) (counts ∙ ap length (found-is-due rows (table_of rows) passed slots is kept.caught_up))
-          ∙ sym (length-append (copies fault message) ends) ∙ ap (λ (f : Option Fault). length (copies f message ++ ends)) tells;
+      len = ap (λ (n : ℕ). length (copies cut fault message) + n) (counts ∙ ap length (found-is-due cut rows (table_of rows) passed slots is kept.caught_up))
+          ∙ sym (length-append (copies cut fault message) ends) ∙ ap (λ (f : Option Fault). length (copies cut f message ++ ends)) tells;
       room = room_for;
     }
 
 -- its length is that of what its place emits
-pub prepared_len : {T : Type 0} (rows : List FaultRow) (passed room : ℕ) (slots : List (Option T)) → IsTable rows (table_of rows) → (prepared : Readied T) →
-    IsPreparedFor (seen rows passed room slots) prepared → (x : List T) → StandsFor x (seen rows passed room slots).standing → prepared.len ≡ length (emit rows (x ++ prepared.message ∷ []) (length x + 1))
-prepared_len rows passed room slots is prepared for x stands =
-    for.len ∙ ap length (coming-is-emit (seen rows passed room slots).standing x prepared.message (holds_by_more rows is.sound) stands)
+pub prepared_len : {T : Type 0} (cut : ℕ → T → T) (rows : List FaultRow) (passed room : ℕ) (slots : List (Option T)) → IsTable rows (table_of rows) → (prepared : Readied T) →
+    IsPreparedFor cut (seen rows passed room slots) prepared → (x : List T) → StandsFor x (seen rows passed room slots).standing → prepared.len ≡ length (emit cut rows (x ++ prepared.message ∷ []) (length x + 1))
+prepared_len cut rows passed room slots is prepared for x stands =
+    for.len ∙ ap length (coming-is-emit cut (seen rows passed room slots).standing x prepared.message (holds_by_more rows is.sound) stands)
 
 -- ---- the end
 

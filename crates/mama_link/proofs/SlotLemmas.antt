@@ -7,7 +7,7 @@ use Rattle.std.proofs.Math.ListN.{get_or-eq_default}
 use Rattle.std.proofs.lemmas.List.{map-append, set_past}
 use Rattle.std.proofs.lemmas.List.Elements.{filter-append}
 use Rattle.mama_link.specs.declared.faults.Fault.{Fault}
-use Rattle.mama_link.specs.declared.faults.Fault.TheVariants.{Lose, Dup, Hold}
+use Rattle.mama_link.specs.declared.faults.Fault.TheVariants.{Lose, Dup, Hold, Cut}
 use Rattle.mama_link.specs.declared.faults.FaultRow.{FaultRow}
 use Rattle.mama_link.specs.Faults.{fault_at}
 use Rattle.mama_link.specs.Table.{holds_until, slots_due}
@@ -47,6 +47,7 @@ is_held_until-some : (place i : ℕ) (fault : Fault) → is_held_until place i (
 is_held_until-some place i Lose = refl
 is_held_until-some place i Dup = refl
 is_held_until-some place i (Hold by) = refl
+is_held_until-some place i (Cut keep) = refl
 
 -- each entry is what the rows tell for its index
 abbrev pub AreTold : List FaultRow → List (ℕ × Fault) → Type 0

@@ -2,7 +2,7 @@
 use Rattle.std.specs.Prelude.{Bool, true, false, ◌==◌, ◌&&◌, List}
 use Rattle.std.specs.Cmp.Lexicographic.{pointwise}
 use Rattle.mama_link.specs.declared.faults.Fault.{Fault}
-use Rattle.mama_link.specs.declared.faults.Fault.TheVariants.{Lose, Dup, Hold}
+use Rattle.mama_link.specs.declared.faults.Fault.TheVariants.{Lose, Dup, Hold, Cut}
 use Rattle.mama_link.specs.declared.faults.FaultRow.{FaultRow}
 
 -- two faults are one
@@ -10,6 +10,7 @@ abbrev pub same_fault : Fault → Fault → Bool
 same_fault Lose Lose = true
 same_fault Dup Dup = true
 same_fault (Hold by) (Hold by') = by == by'
+same_fault (Cut keep) (Cut keep') = keep == keep'
 same_fault _ _ = false
 
 -- two rows tell one fault of one message

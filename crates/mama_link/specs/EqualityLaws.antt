@@ -7,7 +7,7 @@ use Rattle.std.proofs.Common.{ap, sym, true≢false}
 use Rattle.std.proofs.lemmas.Bool.{and_parts, and_from}
 use Rattle.std.proofs.lemmas.Bool.Decides.{Decides-eqb}
 use Rattle.mama_link.specs.declared.faults.Fault.{Fault}
-use Rattle.mama_link.specs.declared.faults.Fault.TheVariants.{Lose, Dup, Hold}
+use Rattle.mama_link.specs.declared.faults.Fault.TheVariants.{Lose, Dup, Hold, Cut}
 use Rattle.mama_link.specs.declared.faults.FaultRow.{FaultRow}
 use Rattle.mama_link.specs.Equality.{same_fault, same_row, same_rows}
 
@@ -15,6 +15,7 @@ pub same_fault-Decides : (a b : Fault) → Decides (same_fault a b) (a ≡ b)
 same_fault-Decides Lose Lose = (λ h. refl, λ e. refl)
 same_fault-Decides Dup Dup = (λ h. refl, λ e. refl)
 same_fault-Decides (Hold by) (Hold by') = (λ h. ap Hold ((Decides-eqb by by').0 h), λ e. (Decides-eqb by by').1 (cc))
+same_fault-Decides (Cut keep) (Cut keep') = (λ h. ap Cut ((Decides-eqb keep keep').0 h), λ e. (Decides-eqb keep keep').1 (cc))
 same_fault-Decides _ _ = (λ h. absurd (true≢false (sym h)), λ e. cc)
 
 pub same_row-Decides : (a b : FaultRow) → Decides (same_row a b) (a ≡ b)

@@ -2,7 +2,7 @@
 use Rattle.std.specs.Prelude.{ℕ, Bool, false, ◌==◌, List, [], ◌∷◌, ◌++◌, Option, None, Some, is_some, if◌then◌else◌}
 use Rattle.std.specs.Option.{option_or}
 use Rattle.mama_link.specs.declared.faults.Fault.{Fault}
-use Rattle.mama_link.specs.declared.faults.Fault.TheVariants.{Lose, Dup, Hold}
+use Rattle.mama_link.specs.declared.faults.Fault.TheVariants.{Lose, Dup, Hold, Cut}
 use Rattle.mama_link.specs.declared.faults.FaultRow.{FaultRow}
 use Rattle.mama_link.specs.declared.faults.FaultsFault.{FaultsFault}
 use Rattle.mama_link.specs.declared.faults.FaultsFault.TheVariants.{Repeated, ZeroHold, ZeroIndex}
@@ -17,6 +17,7 @@ abbrev pub is_zero_hold : Fault → Bool
 is_zero_hold Lose = false
 is_zero_hold Dup = false
 is_zero_hold (Hold by) = by == 0
+is_zero_hold (Cut keep) = false
 
 -- what is bad about a row that comes after the rows `before`: messages are numbered from 1, a hold is by at least 1, and a message has one fault at most
 abbrev pub fault_of_row : List FaultRow → FaultRow → Option FaultsFault

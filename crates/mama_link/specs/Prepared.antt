@@ -12,8 +12,8 @@ pub record Readied (T : Type 0) : Type 0 where
   pub len : ℕ
 
 -- a pass is prepared for a link: it is the link's next, and the link has room to hold its message
-pub record IsPreparedFor {T : Type 0} (link : LinkData T) (prepared : Readied T) : Type 0 where
+pub record IsPreparedFor {T : Type 0} (cut : ℕ → T → T) (link : LinkData T) (prepared : Readied T) : Type 0 where
   pub place : prepared.place ≡ link.standing.passed + 1
   pub fault : prepared.fault ≡ fault_at link.standing.rows prepared.place
-  pub len : prepared.len ≡ length (coming link.standing prepared.message)
+  pub len : prepared.len ≡ length (coming cut link.standing prepared.message)
   pub room : IsSome prepared.fault → 0 < link.room

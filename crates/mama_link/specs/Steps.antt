@@ -1,7 +1,7 @@
 -- inner: what a link does at one pass: what it holds back, what it copies, and how it stands afterwards.
 use Rattle.std.specs.Prelude.{ℕ, ◌+◌, not, List, [], ◌∷◌, ◌++◌, Option, None, Some, filter}
 use Rattle.mama_link.specs.declared.faults.Fault.{Fault}
-use Rattle.mama_link.specs.declared.faults.Fault.TheVariants.{Lose, Dup, Hold}
+use Rattle.mama_link.specs.declared.faults.Fault.TheVariants.{Lose, Dup, Hold, Cut}
 use Rattle.mama_link.specs.Faults.{fault_at}
 use Rattle.mama_link.specs.Link.{is_due, Standing}
 
@@ -12,6 +12,7 @@ module _ {T : Type 0} where
   held_back (Some Lose) message = None
   held_back (Some Dup) message = None
   held_back (Some (Hold by)) message = Some message
+  held_back (Some (Cut keep)) message = None
 
   -- at a place, nothing or the message of that number
   abbrev pub at_place : ℕ → Option T → List (ℕ × T)
@@ -32,3 +33,4 @@ copy_for None message = None
 copy_for (Some Lose) message = None
 copy_for (Some Dup) message = Some message
 copy_for (Some (Hold by)) message = None
+copy_for (Some (Cut keep)) message = None

@@ -3,11 +3,14 @@ use Rattle.std.specs.Prelude.{◌≡◌, ℕ, ◌+◌, Bool, false, ◌==◌, Li
 use Rattle.std.specs.Ordering.{nat_cmp}
 use Rattle.std.specs.BTreeMap.{BTreeMap, get, insert_entry, is_at}
 use Rattle.std.specs.Map.{lookup, keys_of}
+use Rattle.std.specs.Arc.{arc_value}
 use Rattle.std.specs.List.{All}
 use Rattle.std.specs.List.Sorted.{IsStrictlySortedBy}
+use Rattle.std.specs.declared.alloc.Global.{Global}
+use Rattle.std.specs.declared.sync.Arc.{Arc}
 use Rattle.std.specs.declared.vec.Vec.{Vec}
 use Rattle.mama_link.specs.declared.faults.Fault.{Fault}
-use Rattle.mama_link.specs.declared.faults.Fault.TheVariants.{Lose, Dup, Hold}
+use Rattle.mama_link.specs.declared.faults.Fault.TheVariants.{Lose, Dup, Hold, Cut}
 use Rattle.mama_link.specs.declared.faults.FaultRow.{FaultRow}
 use Rattle.mama_link.specs.Faults.{fault_at, first_fault}
 
@@ -25,6 +28,7 @@ abbrev pub holds_until : ℕ → ℕ → Fault → Bool
 holds_until place i Lose = false
 holds_until place i Dup = false
 holds_until place i (Hold by) = i + by == place
+holds_until place i (Cut keep) = false
 
 -- the slots, counted from n, of the entries that hold a message until the place
 abbrev pub slots_due : ℕ → ℕ → List (ℕ × Fault) → List ℕ
@@ -53,3 +57,8 @@ pub record IsIndexed {A : Type 0} (rows : List FaultRow) (table : List (ℕ × F
   pub tabled : table ≡ table_of rows
   pub entries : IsTable rows table
   pub due : (place : ℕ) → slots_at dues place ≡ slots_due place 0 table
+
+-- the rows of faults, which have no block where there are none
+abbrev pub rows_of : Option (Arc (List FaultRow) Global) → List FaultRow
+rows_of None = []
+rows_of (Some block) = arc_value block

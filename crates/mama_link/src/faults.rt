@@ -11,6 +11,7 @@ use std::collections::BTreeMap;
 use std::error::Error;
 use std::fmt;
 use std::marker::Model;
+use std::sync::Arc;
 
 /// What befalls one message of a link.
 #[derive(Clone, Copy, Debug, PartialEq, Eq, Hash)]
@@ -21,6 +22,8 @@ pub enum Fault {
     Dup,
     /// It comes out after the own output of the message that is this many later, or at the link's end.
     Hold(u32),
+    /// It comes out in its place with this many of its first bytes, or whole where it has no more.
+    Cut(u32),
 }
 
 /// A fault for the message of this number. A link numbers its messages from 1.
@@ -153,15 +156,16 @@ fn add_due(
     Ok(())
 }
 
-/// Fault rows with distinct indexes from 1, none of which holds by 0. They are seen as the list of the rows.
+// Rows, none of which is bad, with what finds them by their indexes and by the places at which messages are due. They are
+// seen as the list of the rows.
 #[derive(Drop)]
-pub struct Faults {
+struct Indexed {
     rows: Vec<FaultRow>,
     table: Vec<(u32, Fault)>,
     dues: BTreeMap<u64, Vec<usize>>,
 }
 
-impl Model for Faults {
+impl Model for Indexed {
     ghost use Rattle.std.specs.Prelude.{List};
     ghost use Rattle.mama_link.specs.declared.faults.FaultRow.{FaultRow};
 
@@ -174,16 +178,66 @@ impl Model for Faults {
     ghost invariant = { λ f. IsIndexed f.rows.items f.table.items f.dues };
 }
 
+impl Indexed {
+    fn new(alloc: Global, rows: Vec<FaultRow>) -> Result<Indexed, FaultsFault>
+        ensures rows { IfOk result (λ indexed. indexed ≡ rows.items) }
+        ensures sound { OnOk result (first_fault rows.items ≡ None) }
+        ensures refused { IfErr result (λ fault. fault ≢ NoMemory → first_fault rows.items ≡ Some fault) }
+    {
+        let table = in_order(alloc, &by_index(alloc, rows.as_slice())?)?;
+        let dues = by_place(alloc, table.as_slice())?;
+        Ok(Indexed { rows, table, dues })
+    }
+
+    fn rows(&self) -> &[FaultRow]
+        ensures { result.now ≡ self.now }
+    {
+        self.rows.as_slice()
+    }
+
+    fn table(&self) -> &[(u32, Fault)]
+        ensures table { result.now ≡ table_of self.now }
+        ensures entries { IsTable self.now (table_of self.now) }
+    {
+        self.table.as_slice()
+    }
+
+    fn due_at(&self, place: u64) -> &[usize]
+        ensures due { result.now ≡ slots_due place 0 (table_of self.now) }
+        ensures few { length result.now < 2 ^ 63 }
+    {
+        match self.dues.get(&place) {
+            Some(slots) => slots.as_slice(),
+            None => &[],
+        }
+    }
+}
+
+/// Fault rows with distinct indexes from 1, none of which holds by 0. They are seen as the list of the rows. Copies share
+/// them.
+#[derive(Drop)]
+pub struct Faults {
+    // None where there are no rows, so that these take no memory.
+    block: Option<Arc<Indexed>>,
+}
+
+impl Model for Faults {
+    ghost use Rattle.std.specs.Prelude.{List};
+    ghost use Rattle.mama_link.specs.declared.faults.FaultRow.{FaultRow};
+
+    ghost Value = { List FaultRow };
+
+    ghost use Rattle.mama_link.specs.Table.{rows_of};
+
+    ghost view = { λ f. rows_of f.block };
+}
+
 impl Faults {
-    /// No faults.
-    pub fn none(alloc: Global) -> Faults
+    /// No faults. It takes no memory.
+    pub fn none(_alloc: Global) -> Faults
         ensures { result ≡ [] }
     {
-        Faults {
-            rows: Vec::new(alloc),
-            table: Vec::new(alloc),
-            dues: BTreeMap::new(alloc),
-        }
+        Faults { block: None }
     }
 
     /// The faults of these rows, or what is bad about the first row that is: its index is 0, else it holds by 0,
@@ -195,16 +249,21 @@ impl Faults {
         // Short of memory, a refusal names what is bad about the first bad row.
         ensures refused { IfErr result (λ fault. fault ≢ NoMemory → first_fault rows.items ≡ Some fault) }
     {
-        let table = in_order(alloc, &by_index(alloc, rows.as_slice())?)?;
-        let dues = by_place(alloc, table.as_slice())?;
-        Ok(Faults { rows, table, dues })
+        if rows.is_empty() {
+            return Ok(Faults::none(alloc));
+        }
+        let block = Arc::new(alloc, Indexed::new(alloc, rows)?)?;
+        Ok(Faults { block: Some(block) })
     }
 
     /// The rows in their order.
     pub fn rows(&self) -> &[FaultRow]
         ensures { result.now ≡ self.now }
     {
-        self.rows.as_slice()
+        match &self.block {
+            None => &[],
+            Some(block) => block.rows(),
+        }
     }
 
     /// The rows in the order of their indexes.
@@ -212,7 +271,10 @@ impl Faults {
         ensures table { result.now ≡ table_of self.now }
         ensures entries { IsTable self.now (table_of self.now) }
     {
-        self.table.as_slice()
+        match &self.block {
+            None => &[],
+            Some(block) => block.table(),
+        }
     }
 
     /// The numbers of the table's entries whose messages are due at a place.
@@ -221,20 +283,23 @@ impl Faults {
         ensures entries { IsTable self.now (table_of self.now) }
         ensures few { length result.now < 2 ^ 63 }
     {
-        match self.dues.get(&place) {
-            Some(slots) => slots.as_slice(),
+        let _entries = self.table();
+        match &self.block {
             None => &[],
+            Some(block) => block.due_at(place),
         }
     }
 
-    /// Equal faults.
+    /// Equal faults, which share the rows.
     pub fn try_clone(&self) -> Result<Faults, OutOfMemory>
         ensures { IfOk result (λ copy. copy ≡ self.now) }
     {
-        let rows = self.rows.clone()?;
-        let table = self.table.clone()?;
-        let dues = by_place(*self.rows.allocator(), table.as_slice())?;
-        Ok(Faults { rows, table, dues })
+        match &self.block {
+            None => Ok(Faults { block: None }),
+            Some(block) => Ok(Faults {
+                block: Some(Arc::try_clone(block)?),
+            }),
+        }
     }
 }
 

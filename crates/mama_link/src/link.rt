@@ -3,6 +3,7 @@ ghost use Rattle.std.specs.List.{flat_map};
 ghost use Rattle.mama_link.specs.Link.{emit, rest, messages, standing_after, StandsFor};
 ghost use Rattle.mama_link.specs.Prepared.{IsPreparedFor};
 
+use crate::cuttable::Cuttable;
 use crate::faults::Faults;
 use crate::prepared::Prepared;
 use crate::slots::{count_found, count_slot, fault_at_cursor, keep, make_room, put_all, release};
@@ -10,7 +11,7 @@ use mama_memory::{Duplicate, OutOfMemory, Outbox};
 use std::alloc::Global;
 use std::marker::Model;
 
-/// Messages pass a link one by one, and its fault rows say which of them are lost, repeated or held back.
+/// Messages pass a link one by one, and its fault rows say which of them are lost, repeated, held back or cut.
 #[derive(Drop)]
 pub struct Link<T> {
     faults: Faults,
@@ -57,12 +58,12 @@ impl<T> Link<T> {
     }
 }
 
-impl<T: Duplicate> Link<T> {
+impl<T: Duplicate + Cuttable> Link<T> {
     /// Makes the copy and the room for the next pass, or gives the message back.
     fn ready(&mut self, message: T) -> Result<Prepared<T>, T>
-        ensures prepared { IfOk result (λ prepared. IsPreparedFor self.new prepared) }
+        ensures prepared { IfOk result (λ prepared. IsPreparedFor T.cut_to self.new prepared) }
         ensures message { IfOk result (λ prepared. prepared.message ≡ message) }
-        ensures len { IfOk result (λ prepared. (x : List T) → StandsFor x self.old.standing → prepared.len ≡ length (emit self.old.standing.rows (x ++ message ∷ []) (length x + 1))) }
+        ensures len { IfOk result (λ prepared. (x : List T) → StandsFor x self.old.standing → prepared.len ≡ length (emit T.cut_to self.old.standing.rows (x ++ message ∷ []) (length x + 1))) }
         ensures refused { IfErr result (λ back. back ≡ message) }
         ensures standing { self.new.standing ≡ self.old.standing }
         ensures room { self.old.room ≤ self.new.room }
@@ -83,9 +84,9 @@ impl<T: Duplicate> Link<T> {
     /// and what was prepared before stays prepared. The error is want of memory, and also the answer of a link that
     /// 2^64 - 1 messages have passed.
     pub fn prepare(&mut self, message: &T) -> Result<Prepared<T>, OutOfMemory>
-        ensures prepared { IfOk result (λ prepared. IsPreparedFor self.new prepared) }
+        ensures prepared { IfOk result (λ prepared. IsPreparedFor T.cut_to self.new prepared) }
         ensures message { IfOk result (λ prepared. prepared.message ≡ message.now) }
-        ensures len { IfOk result (λ prepared. (x : List T) → StandsFor x self.old.standing → prepared.len ≡ length (emit self.old.standing.rows (x ++ message.now ∷ []) (length x + 1))) }
+        ensures len { IfOk result (λ prepared. (x : List T) → StandsFor x self.old.standing → prepared.len ≡ length (emit T.cut_to self.old.standing.rows (x ++ message.now ∷ []) (length x + 1))) }
         ensures standing { self.new.standing ≡ self.old.standing }
         ensures room { self.old.room ≤ self.new.room }
     {
@@ -95,9 +96,9 @@ impl<T: Duplicate> Link<T> {
 
     /// Passes the message that was prepared, as [`Link::pass`] does. It takes no memory.
     pub fn pass_prepared(&mut self, prepared: Prepared<T>, out: &mut Outbox<T>)
-        requires prepared { IsPreparedFor self.old prepared }
+        requires prepared { IsPreparedFor T.cut_to self.old prepared }
         requires spare { prepared.len ≤ out.old.spare }
-        ensures out { (x : List T) → StandsFor x self.old.standing → out.new.items ≡ out.old.items ++ emit self.old.standing.rows (x ++ prepared.message ∷ []) (length x + 1) }
+        ensures out { (x : List T) → StandsFor x self.old.standing → out.new.items ≡ out.old.items ++ emit T.cut_to self.old.standing.rows (x ++ prepared.message ∷ []) (length x + 1) }
         ensures standing { (x : List T) → StandsFor x self.old.standing → StandsFor (x ++ prepared.message ∷ []) self.new.standing }
         ensures rows { self.new.standing.rows ≡ self.old.standing.rows }
         ensures spare { out.old.spare ≤ out.new.spare + prepared.len }
@@ -114,7 +115,7 @@ impl<T: Duplicate> Link<T> {
     /// Passes the message, the next of the link. Err is want of memory, and gives the message back. It is also the
     /// answer of a link that 2^64 - 1 messages have passed.
     pub fn pass(&mut self, message: T, out: &mut Outbox<T>) -> Result<(), T>
-        ensures out { OnOk result ((x : List T) → StandsFor x self.old.standing → out.new.items ≡ out.old.items ++ emit self.old.standing.rows (x ++ message ∷ []) (length x + 1)) }
+        ensures out { OnOk result ((x : List T) → StandsFor x self.old.standing → out.new.items ≡ out.old.items ++ emit T.cut_to self.old.standing.rows (x ++ message ∷ []) (length x + 1)) }
         ensures standing { OnOk result ((x : List T) → StandsFor x self.old.standing → StandsFor (x ++ message ∷ []) self.new.standing) }
         ensures rows { self.new.standing.rows ≡ self.old.standing.rows }
         ensures refused { IfErr result (λ back. back ≡ message) }
@@ -128,7 +129,9 @@ impl<T: Duplicate> Link<T> {
         self.pass_prepared(prepared, out);
         Ok(())
     }
+}
 
+impl<T: Drop> Link<T> {
     /// What the end puts out: the messages still held, in order of number and not of dueness.
     fn into_held(self) -> Vec<Option<T>>
         ensures { flat_map option_to_list result.items ≡ messages self.standing.held }

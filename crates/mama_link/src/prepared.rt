@@ -1,7 +1,8 @@
-ghost use Rattle.std.specs.Prelude.{◌≡◌, ◌+◌, ◌<◌, ◌≤◌, ◌^◌, ◌++◌, ◌↔◌, length, IsTrue, IfOk, IfErr};
+ghost use Rattle.std.specs.Prelude.{◌≡◌, ◌+◌, ◌<◌, ◌≤◌, ◌^◌, ◌++◌, ◌↔◌, [], ◌∷◌, length, IsTrue, IfOk, IfErr};
 ghost use Rattle.mama_link.specs.Link.{copies};
 ghost use Rattle.mama_link.specs.Steps.{held_back, copy_for};
 
+use crate::cuttable::Cuttable;
 use crate::faults::Fault;
 use mama_memory::{Duplicate, Outbox};
 use std::marker::Model;
@@ -65,12 +66,14 @@ impl<T: Drop> Prepared<T> {
     {
         self.message
     }
+}
 
+impl<T: Cuttable + Drop> Prepared<T> {
     /// Puts out what comes of the message in its place, and gives it back where it is held.
     pub(crate) fn put_own(self, out: &mut Outbox<T>) -> Option<T>
-        requires { length (copies self.fault self.message) ≤ out.old.spare }
-        ensures out { out.new.items ≡ out.old.items ++ copies self.fault self.message }
-        ensures spare { out.new.spare + length (copies self.fault self.message) ≡ out.old.spare }
+        requires { length (copies T.cut_to self.fault self.message) ≤ out.old.spare }
+        ensures out { out.new.items ≡ out.old.items ++ copies T.cut_to self.fault self.message }
+        ensures spare { out.new.spare + length (copies T.cut_to self.fault self.message) ≡ out.old.spare }
         ensures held { result ≡ held_back self.fault self.message }
     {
         match self.fault {
@@ -87,11 +90,26 @@ impl<T: Drop> Prepared<T> {
                 None
             }
             Some(Fault::Hold(_)) => Some(self.message),
+            Some(Fault::Cut(keep)) => {
+                put_cut(self.message, keep, out);
+                None
+            }
         }
     }
 }
 
-impl<T: Duplicate> Prepared<T> {
+/// Puts out what a cut leaves of a message.
+fn put_cut<T: Cuttable + Drop>(message: T, keep: u32, out: &mut Outbox<T>)
+    requires { 0 < out.old.spare }
+    ensures out { out.new.items ≡ out.old.items ++ T.cut_to keep message ∷ [] }
+    ensures spare { out.new.spare + 1 ≡ out.old.spare }
+{
+    let mut message = message;
+    message.cut(keep);
+    out.push_reserved(message);
+}
+
+impl<T: Duplicate + Cuttable> Prepared<T> {
     /// A pass at a place where this many held messages come out besides, or the message.
     pub(crate) fn new(
         place: u64,
@@ -100,7 +118,7 @@ impl<T: Duplicate> Prepared<T> {
         due: usize,
     ) -> Result<Prepared<T>, T>
         requires { due < 2 ^ 63 }
-        ensures prepared { IfOk result (λ p. p ≡ record { place = place; fault = fault; message = message; len = length (copies fault message) + due }) }
+        ensures prepared { IfOk result (λ p. p ≡ record { place = place; fault = fault; message = message; len = length (copies T.cut_to fault message) + due }) }
         ensures refused { IfErr result (λ back. back ≡ message) }
     {
         let (copy, own) = match fault {
@@ -111,6 +129,7 @@ impl<T: Duplicate> Prepared<T> {
                 Err(_) => return Err(message),
             },
             Some(Fault::Hold(_)) => (None, 0),
+            Some(Fault::Cut(_)) => (None, 1),
         };
         Ok(Prepared {
             place,

@@ -98,6 +98,7 @@ timer_words _ h = absurd h
 inbox_words : (nums : Nums) (call : Callback) → InboxHears nums call → AreWords (words_of call)
 inbox_words nums on.Create h = (head_word heads.Create, tt)
 inbox_words nums (on.Reply body) h = (head_word heads.Reply, field_words nums body h.message.fields)
+inbox_words nums (on.Error code) h = (head_word heads.Error, (decimal_word code (omega (arith, h)), tt))
 inbox_words nums on.Destroy h = (head_word heads.Destroy, tt)
 inbox_words nums _ h = absurd h
 
@@ -129,6 +130,7 @@ timer_again _ h = absurd h
 inbox_again : (nums : Nums) (call : Callback) → InboxHears nums call → inbox_call_in nums (head_of call) (rest_of call) ≡ Ok call
 inbox_again nums on.Create h = alone_again on.Create
 inbox_again nums (on.Reply body) h = unfold replied_in in rw (body_again nums body h) refl
+inbox_again nums (on.Error code) h = unfold error_in in rw (code_again code h) refl
 inbox_again nums on.Destroy h = alone_again on.Destroy
 inbox_again nums _ h = absurd h
 
@@ -237,14 +239,14 @@ late_found nums (sender ∷ seq ∷ []) call h =
     ((sender_is.0, seq_is.0), same_pair (codes "late") sender (decimal a.0) seq (decimal b.0) sender_is.1 seq_is.1)
 late_found nums (a ∷ b ∷ c ∷ ws) call h = absurd cc
 
-error_found : (nums : Nums) (ws : List (List ℕ)) (call : Callback) → error_in ws ≡ Ok call → Spelled (SubHears nums) heads.Error ws call
+error_found : (May : Callback → Type 0) → ((code : ℕ) → code < 2 ^ 8 → May (on.Error code)) → (ws : List (List ℕ)) (call : Callback) → error_in ws ≡ Ok call → Spelled May heads.Error ws call
 unfolding error_in
-error_found nums [] call h = absurd cc
-error_found nums (w ∷ []) call h =
+error_found May may [] call h = absurd cc
+error_found May may (w ∷ []) call h =
     let a = step_ok 5 (below_in (2 ^ 8) w) _ call h in
     let is = below_in_found (2 ^ 8) w a.0 a.1 in
-    one_word (SubHears nums) (on.Error a.0) call w a.0 is.0 refl is.1 (ok_is (on.Error a.0) call a.2)
-error_found nums (a ∷ b ∷ ws) call h = absurd cc
+    one_word May (on.Error a.0) call w a.0 (may a.0 is.0) refl is.1 (ok_is (on.Error a.0) call a.2)
+error_found May may (a ∷ b ∷ ws) call h = absurd cc
 
 tick_found : (ws : List (List ℕ)) (call : Callback) → ticked_in ws ≡ Ok call → Spelled TimerHears heads.Tick ws call
 unfolding ticked_in
@@ -269,7 +271,7 @@ sub_found nums heads.Gap ws call h = gap_found nums ws call h
 sub_found nums heads.Quality ws call h = quality_call_found nums ws call h
 sub_found nums heads.Request ws call h = request_found nums ws call h
 sub_found nums heads.Late ws call h = late_found nums ws call h
-sub_found nums heads.Error ws call h = error_found nums ws call h
+sub_found nums heads.Error ws call h = error_found (SubHears nums) (λ code small. small) ws call h
 sub_found nums heads.Destroy ws call h = alone_is (SubHears nums) on.Destroy call ws tt refl h
 sub_found nums _ ws call h = absurd cc
 
@@ -282,6 +284,7 @@ timer_found _ ws call h = absurd cc
 inbox_found : (nums : Nums) (head : Head) (ws : List (List ℕ)) (call : Callback) → inbox_call_in nums head ws ≡ Ok call → Spelled (InboxHears nums) head ws call
 inbox_found nums heads.Create ws call h = alone_is (InboxHears nums) on.Create call ws tt refl h
 inbox_found nums heads.Reply ws call h = reply_found nums ws call h
+inbox_found nums heads.Error ws call h = error_found (InboxHears nums) (λ code small. small) ws call h
 inbox_found nums heads.Destroy ws call h = alone_is (InboxHears nums) on.Destroy call ws tt refl h
 inbox_found nums _ ws call h = absurd cc
 

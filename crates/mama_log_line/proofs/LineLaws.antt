@@ -56,6 +56,8 @@ head_word heads.Disarm = fixed (codes "disarm") refl refl
 head_word heads.Now = fixed (codes "now") refl refl
 head_word heads.Create = fixed (codes "create") refl refl
 head_word heads.Data = fixed (codes "data") refl refl
+head_word heads.Bad = fixed (codes "bad") refl refl
+head_word heads.BadReply = fixed (codes "badreply") refl refl
 head_word heads.Tick = fixed (codes "tick") refl refl
 head_word heads.Gone = fixed (codes "gone") refl refl
 head_word heads.Msg = fixed (codes "msg") refl refl
@@ -103,6 +105,9 @@ four a b c d = append_assoc (a ++ b) c d ∙ append_assoc a b (c ++ d)
 
 pub five : (a b c d e : List ℕ) → a ++ b ++ c ++ d ++ e ≡ a ++ (b ++ (c ++ (d ++ e)))
 five a b c d e = append_assoc (a ++ b ++ c) d e ∙ four a b c (d ++ e)
+
+pub six : (a b c d e f : List ℕ) → a ++ b ++ c ++ d ++ e ++ f ≡ a ++ (b ++ (c ++ (d ++ (e ++ f))))
+six a b c d e f = append_assoc (a ++ b ++ c ++ d) e f ∙ five a b c d (e ++ f)
 
 pub market_row : (m : MarketMsg) → msg_text m ≡ sentence (market_words m)
 market_row m =

@@ -91,6 +91,7 @@ timer_call_in _ words = Err 3
 abbrev pub inbox_call_in : Nums → Head → List (List ℕ) → Result Callback ℕ
 inbox_call_in nums heads.Create words = alone_in on.Create words
 inbox_call_in nums heads.Reply words = replied_in nums words
+inbox_call_in nums heads.Error words = error_in words
 inbox_call_in nums heads.Destroy words = alone_in on.Destroy words
 inbox_call_in nums _ words = Err 3
 

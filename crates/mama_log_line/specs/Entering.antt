@@ -1,5 +1,7 @@
 -- believed: What a log of a script may say: which notes come by which kind of port, and which callbacks an object hears.
-use Rattle.std.specs.Prelude.{◌≡◌, ℕ, ◌^◌, ◌<◌, ◌≤◌, true, List, length, Some}
+use Rattle.std.specs.Prelude.{◌≡◌, ℕ, ◌^◌, ◌<◌, ◌≤◌, true, nat_lt, List, length, Some, IsErr}
+use Rattle.std.specs.List.{list_all}
+use Rattle.mama_payload.specs.Reading.{decoded}
 use Rattle.mama_msg.specs.Field.{FieldData}
 use Rattle.mama_event.specs.FidList.{is_fid_list}
 use Rattle.mama_event.specs.declared.ids.ObjectId.{ObjectId}
@@ -143,10 +145,17 @@ abbrev pub IsTimed : NamesData → ObjectId → Type 0
 IsTimed names (Timer id) = IsTimer names id
 IsTimed names _ = ⊥
 
+-- bytes that spell no message, in either version of payloads
+pub record IsBroken (bytes : List ℕ) : Type 0 where
+  pub each : list_all (λ b. nat_lt b (2 ^ 8)) bytes ≡ true
+  pub broken : IsErr (decoded bytes)
+
 abbrev pub QueueFromBridge : NamesData → QueueNote → Type 0
 QueueFromBridge names (q.Create slot object make tag) = (slot < 2 ^ 32) × IsLinked names object × (make_of names object ≡ Some make) × (tag ≡ object)
 QueueFromBridge names (q.Deliver slot sub msg) = (slot < 2 ^ 32) × IsSub names sub × IsMarketMsg names.nums msg
 QueueFromBridge names (q.Reply slot inbox body) = (slot < 2 ^ 32) × IsInbox names inbox × IsBody names.nums body
+QueueFromBridge names (q.Bad slot sub kind sender seq bytes) = (slot < 2 ^ 32) × IsSub names sub × (sender < 2 ^ 32) × (seq < 2 ^ 32) × IsBroken bytes
+QueueFromBridge names (q.BadReply slot inbox bytes) = (slot < 2 ^ 32) × IsInbox names inbox × IsBroken bytes
 QueueFromBridge names (q.Gone slot object) = (slot < 2 ^ 32) × IsLinked names object
 QueueFromBridge names q.Fin = Unit {0}
 QueueFromBridge names _ = ⊥
@@ -189,6 +198,7 @@ TimerHears _ = ⊥
 abbrev pub InboxHears : Nums → Callback → Type 0
 InboxHears nums on.Create = Unit {0}
 InboxHears nums (on.Reply body) = IsBody nums body
+InboxHears nums (on.Error code) = code < 2 ^ 8
 InboxHears nums on.Destroy = Unit {0}
 InboxHears nums _ = ⊥
 

@@ -26,6 +26,8 @@ head_text heads.Disarm = codes "disarm"
 head_text heads.Now = codes "now"
 head_text heads.Create = codes "create"
 head_text heads.Data = codes "data"
+head_text heads.Bad = codes "bad"
+head_text heads.BadReply = codes "badreply"
 head_text heads.Tick = codes "tick"
 head_text heads.Gone = codes "gone"
 head_text heads.Msg = codes "msg"
@@ -42,7 +44,7 @@ abbrev pub all_heads : List Head
 all_heads =
     heads.Send ∷ heads.Done ∷ heads.Want ∷ heads.Ask ∷ heads.Settle ∷ heads.Fin ∷ heads.Join ∷ heads.Leave ∷
     heads.Open ∷ heads.Close ∷ heads.Publish ∷ heads.Image ∷ heads.Reply ∷ heads.Recap ∷ heads.Settled ∷ heads.Bye ∷
-    heads.Arm ∷ heads.Disarm ∷ heads.Now ∷ heads.Create ∷ heads.Data ∷ heads.Tick ∷ heads.Gone ∷ heads.Msg ∷
+    heads.Arm ∷ heads.Disarm ∷ heads.Now ∷ heads.Create ∷ heads.Data ∷ heads.Bad ∷ heads.BadReply ∷ heads.Tick ∷ heads.Gone ∷ heads.Msg ∷
     heads.Gap ∷ heads.Quality ∷ heads.Request ∷ heads.Late ∷ heads.Error ∷ heads.Destroy ∷ heads.Order ∷ heads.Clock ∷ []
 
 -- what a word begins: the first head that has the word

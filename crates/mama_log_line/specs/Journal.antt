@@ -14,6 +14,12 @@ use Rattle.mama_event.specs.declared.publisher_entry.PublisherEntry.{PublisherEn
 use Rattle.mama_event.specs.declared.publisher_entry.PublisherEntry.TheVariants.{Send, Done, Took}
 use Rattle.mama_words.specs.Reading.{◌>>=◌, or_fault}
 use Rattle.mama_words.specs.Parting.{parted_in}
+use Rattle.mama_words.specs.Value.{block_in}
+use Rattle.mama_words.specs.KindIn.{msg_kind_in}
+use Rattle.mama_msg.specs.Field.{FieldData}
+use Rattle.mama_payload.specs.declared.fault.DecodeFault.{DecodeFault}
+use Rattle.mama_event.specs.declared.wire.PieceMsg.{PieceMsg}
+use Rattle.mama_payload.specs.Reading.{decoded}
 use Rattle.mama_words.specs.Number.{number_in, below_in}
 use Rattle.mama_log_line.specs.declared.head.Head.{Head}
 use Rattle.mama_log_line.specs.declared.head.Head.TheVariants as heads
@@ -276,6 +282,39 @@ reply_in names (slot ∷ inbox ∷ words) = do
   Ok (q.Reply slot inbox body)
 reply_in names words = Err 4
 
+-- bytes that spell no message
+abbrev pub if_broken : List ℕ → Result (List FieldData) DecodeFault → Result (List ℕ) ℕ
+if_broken bytes (Ok fields) = Err 7
+if_broken bytes (Err fault) = Ok bytes
+
+unfoldable pub broken_in : List ℕ → Result (List ℕ) ℕ
+broken_in word = or_fault 7 (block_in word) >>= λ bytes. if_broken bytes (decoded bytes)
+
+-- a message whose bytes spell none
+unfoldable pub piece_in : List ℕ → List ℕ → List ℕ → List ℕ → Result PieceMsg ℕ
+piece_in kind sender seq bytes = do
+  kind ← or_fault 4 (msg_kind_in kind)
+  sender ← small_in sender
+  seq ← small_in seq
+  bytes ← broken_in bytes
+  Ok (record { kind = kind; sender = sender; seq = seq; body = bytes })
+
+unfoldable pub bad_in : NamesData → List (List ℕ) → Result QueueNote ℕ
+bad_in names (slot ∷ sub ∷ kind ∷ sender ∷ seq ∷ bytes ∷ []) = do
+  slot ← small_in slot
+  sub ← sub_in names sub
+  piece ← piece_in kind sender seq bytes
+  Ok (q.Bad slot sub piece.kind piece.sender piece.seq piece.body)
+bad_in names words = Err 4
+
+unfoldable pub bad_reply_in : NamesData → List (List ℕ) → Result QueueNote ℕ
+bad_reply_in names (slot ∷ inbox ∷ bytes ∷ []) = do
+  slot ← small_in slot
+  inbox ← inbox_in names inbox
+  bytes ← broken_in bytes
+  Ok (q.BadReply slot inbox bytes)
+bad_reply_in names words = Err 4
+
 unfoldable pub tick_in : NamesData → List (List ℕ) → Result QueueNote ℕ
 tick_in names (slot ∷ timer ∷ moment ∷ []) = do
   slot ← small_in slot
@@ -302,6 +341,8 @@ abbrev pub queue_bridge_in : NamesData → Head → List (List ℕ) → Result Q
 queue_bridge_in names heads.Create words = create_linked_in names words
 queue_bridge_in names heads.Data words = data_in names words
 queue_bridge_in names heads.Reply words = reply_in names words
+queue_bridge_in names heads.Bad words = bad_in names words
+queue_bridge_in names heads.BadReply words = bad_reply_in names words
 queue_bridge_in names heads.Gone words = gone_linked_in names words
 queue_bridge_in names heads.Fin words = alone_in q.Fin words
 queue_bridge_in names _ words = Err 3

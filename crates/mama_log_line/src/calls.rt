@@ -176,6 +176,7 @@ fn inbox_call(alloc: Global, nums: Nums, head: Head, words: &[&[u8]]) -> Result<
     match head {
         Head::Create => alone(Callback::Create, words),
         Head::Reply => read_reply(alloc, nums, words),
+        Head::Error => read_error(words),
         Head::Destroy => alone(Callback::Destroy, words),
         _ => Err(ReadError::Fault(3)),
     }

@@ -26,6 +26,8 @@ pub enum Head {
     Now,
     Create,
     Data,
+    Bad,
+    BadReply,
     Tick,
     Gone,
     Msg,
@@ -40,7 +42,7 @@ pub enum Head {
 }
 
 impl Head {
-    const ALL: [Head; 32] = [
+    const ALL: [Head; 34] = [
         Head::Send,
         Head::Done,
         Head::Want,
@@ -62,6 +64,8 @@ impl Head {
         Head::Now,
         Head::Create,
         Head::Data,
+        Head::Bad,
+        Head::BadReply,
         Head::Tick,
         Head::Gone,
         Head::Msg,
@@ -101,6 +105,8 @@ impl Head {
             Head::Now => b"now",
             Head::Create => b"create",
             Head::Data => b"data",
+            Head::Bad => b"bad",
+            Head::BadReply => b"badreply",
             Head::Tick => b"tick",
             Head::Gone => b"gone",
             Head::Msg => b"msg",

@@ -11,9 +11,10 @@ use crate::word::{
     alone, read_body, read_inbox, read_linked, read_market, read_moment, read_small, read_sub,
     read_timer, without_fault,
 };
-use mama_event::{ObjectId, QueueNote};
+use mama_event::{ObjectId, Piece, PieceMsg, QueueNote};
 use mama_memory::OutOfMemory;
-use mama_words::{ReadError, parted};
+use mama_payload::DecodeFault;
+use mama_words::{ReadError, parted, read_block, read_msg_kind};
 use std::alloc::Global;
 
 #[tactic(auto, unfolding(crate::specs::Journal::created_in))]
@@ -87,6 +88,80 @@ fn read_reply(alloc: Global, names: &Names, words: &[&[u8]]) -> Result<QueueNote
     }
 }
 
+// Bytes that spell no message.
+#[tactic(auto, unfolding(crate::specs::Journal::broken_in))]
+fn read_broken(alloc: Global, word: &[u8]) -> Result<Piece, ReadError>
+    ensures { Gives (λ x. x) result (journals.broken_in word.now) }
+{
+    let block = read_block(alloc, word)?;
+    let bytes = Piece::of_bytes(alloc, &block)?;
+    match bytes.unpack() {
+        Ok(_) => Err(ReadError::Fault(7)),
+        Err(DecodeFault::OutOfMemory) => Err(ReadError::Memory),
+        Err(_) => Ok(bytes),
+    }
+}
+
+// A message whose bytes spell none.
+#[tactic(auto, unfolding(crate::specs::Journal::piece_in))]
+fn read_piece(
+    alloc: Global,
+    kind: &[u8],
+    sender: &[u8],
+    seq: &[u8],
+    bytes: &[u8],
+) -> Result<PieceMsg, ReadError>
+    ensures { Gives (λ x. x) result (journals.piece_in kind.now sender.now seq.now bytes.now) }
+{
+    let kind = read_msg_kind(kind).ok_or(ReadError::Fault(4))?;
+    let sender = read_small(sender)?;
+    let seq = read_small(seq)?;
+    let body = read_broken(alloc, bytes)?;
+    Ok(PieceMsg {
+        kind,
+        sender,
+        seq,
+        body,
+    })
+}
+
+#[tactic(auto, unfolding(crate::specs::Journal::bad_in))]
+fn read_bad(alloc: Global, names: &Names, words: &[&[u8]]) -> Result<QueueNote, ReadError>
+    ensures { Gives (λ x. x) result (journals.bad_in names.now (map (λ w. w.now) words.now)) }
+{
+    match words {
+        [slot, sub, kind, sender, seq, bytes] => {
+            let slot = read_small(slot)?;
+            let sub = read_sub(names, sub)?;
+            let msg = read_piece(alloc, kind, sender, seq, bytes)?;
+            Ok(QueueNote::Bad {
+                slot,
+                sub,
+                kind: msg.kind,
+                sender: msg.sender,
+                seq: msg.seq,
+                bytes: msg.body,
+            })
+        }
+        _ => Err(ReadError::Fault(4)),
+    }
+}
+
+#[tactic(auto, unfolding(crate::specs::Journal::bad_reply_in))]
+fn read_bad_reply(alloc: Global, names: &Names, words: &[&[u8]]) -> Result<QueueNote, ReadError>
+    ensures { Gives (λ x. x) result (journals.bad_reply_in names.now (map (λ w. w.now) words.now)) }
+{
+    match words {
+        [slot, inbox, bytes] => {
+            let slot = read_small(slot)?;
+            let inbox = read_inbox(names, inbox)?;
+            let bytes = read_broken(alloc, bytes)?;
+            Ok(QueueNote::BadReply { slot, inbox, bytes })
+        }
+        _ => Err(ReadError::Fault(4)),
+    }
+}
+
 #[tactic(auto, unfolding(crate::specs::Journal::tick_in))]
 fn read_tick(names: &Names, words: &[&[u8]]) -> Result<QueueNote, ReadError>
     ensures { Gives (λ x. x) result (journals.tick_in names.now (map (λ w. w.now) words.now)) }
@@ -150,6 +225,8 @@ fn bridge_note(
         Head::Create => read_create_linked(names, words),
         Head::Data => read_data(alloc, names, words),
         Head::Reply => read_reply(alloc, names, words),
+        Head::Bad => read_bad(alloc, names, words),
+        Head::BadReply => read_bad_reply(alloc, names, words),
         Head::Gone => read_gone_linked(names, words),
         Head::Fin => alone(QueueNote::Fin, words),
         _ => Err(ReadError::Fault(3)),

@@ -7,6 +7,7 @@ ghost use Rattle.std.specs.Str.{bytes_eq};
 ghost use Rattle.mama_payload.specs.Reading.{decoded};
 ghost use Rattle.mama_packet.specs.Packet.{Spells};
 
+use mama_link::Cuttable;
 use mama_memory::{Duplicate, OutOfMemory};
 use mama_msg::Msg;
 use mama_payload::{DecodeFault, decode};
@@ -83,6 +84,16 @@ impl Piece {
             bytes,
             len: self.len,
         })
+    }
+}
+
+impl Cuttable for Piece {
+    ghost use Rattle.std.specs.Prelude.{take, ℕ, List};
+
+    ghost cut_to = { λ (keep : ℕ) (bytes : List ℕ). take keep bytes };
+
+    fn cut(&mut self, keep: u32) {
+        Piece::cut(self, keep);
     }
 }
 

@@ -8,3 +8,4 @@ pub mod Loops
 pub mod Going
 pub mod GoingOn
 pub mod Places
+pub mod Bytes

@@ -1,5 +1,8 @@
 -- believed: what holds of all spellings and of all bytes.
-use Rattle.std.specs.Prelude.{◌≡◌, ◌≢◌, ℕ, List, ◌∷◌, ◌++◌, length, Ok, Err}
+use Rattle.std.specs.Prelude.{◌≡◌, ◌≢◌, ℕ, ◌^◌, Bool, true, nat_lt, List, ◌∷◌, ◌++◌, length, Ok, Err}
+use Rattle.std.specs.List.{list_all, AllByRecursion}
+use Rattle.mama_msg.specs.declared.value.Value.{Value}
+use Rattle.mama_msg.specs.declared.value.Value.TheVariants as values
 use Rattle.mama_msg.specs.Field.{FieldData}
 use Rattle.mama_payload.specs.declared.fault.DecodeFault.{DecodeFault}
 use Rattle.mama_payload.specs.declared.fault.DecodeFault.TheVariants.{Truncated, Trailing}
@@ -33,3 +36,16 @@ FaultStands = (bytes more : List ℕ) (fault : DecodeFault) → decoded bytes �
 -- Truncated is at the length of the bytes
 abbrev pub TruncatedIsAtTheEnd : Type 0
 TruncatedIsAtTheEnd = (bytes : List ℕ) (place : ℕ) → decoded bytes ≡ Err (Truncated place) → place ≡ length bytes
+
+-- a number is a byte
+abbrev pub is_byte : ℕ → Bool
+is_byte b = nat_lt b (2 ^ 8)
+
+-- the numbers that a value has as its bytes are bytes, as they are in each value of the program
+abbrev pub HasBytes : Value → Type 0
+HasBytes (values.Bytes bytes) = list_all is_byte bytes ≡ true
+HasBytes value = Unit {0}
+
+-- the bytes of a spelling are bytes
+abbrev pub SpellingsAreBytes : Type 0
+SpellingsAreBytes = (m : List FieldData) → HasSpelling m → AllByRecursion (λ f. HasBytes f.value) m → list_all is_byte (spelling m) ≡ true

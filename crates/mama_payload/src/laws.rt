@@ -1,5 +1,5 @@
 //! What holds of all messages and of all bytes. The calls do nothing: what they ensure is the law.
-ghost use Rattle.mama_payload.specs.Laws.{NoSpellingBeginsAnother, OneSpellingIsOneMessage, SpellingIsRead, LongerIsTrailing, ShorterIsTruncated, FaultStands, TruncatedIsAtTheEnd};
+ghost use Rattle.mama_payload.specs.Laws.{NoSpellingBeginsAnother, OneSpellingIsOneMessage, SpellingIsRead, LongerIsTrailing, ShorterIsTruncated, FaultStands, TruncatedIsAtTheEnd, SpellingsAreBytes};
 
 /// No spelling begins another, so what was written is told from what follows it, and two messages with one spelling
 /// are equal.
@@ -21,4 +21,9 @@ pub fn spellings_are_read()
 pub fn faults_stand()
     ensures stand { FaultStands }
     ensures truncated { TruncatedIsAtTheEnd }
+{}
+
+/// Each number of a spelling is below 256, if the bytes that its values hold are.
+pub fn spellings_are_bytes()
+    ensures { SpellingsAreBytes }
 {}

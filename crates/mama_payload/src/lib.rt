@@ -10,7 +10,7 @@
 //! is read, unless there is no memory for the message.
 //!
 //! The laws of spellings and of faults are the contracts of calls with empty bodies: [`spellings_are_apart`],
-//! [`spellings_are_read`] and [`faults_stand`].
+//! [`spellings_are_read`], [`spellings_are_bytes`] and [`faults_stand`].
 #![tactic(auto)]
 
 mod decoding;
@@ -25,6 +25,6 @@ mod version;
 pub use decoding::decode;
 pub use encoding::{MAX_FIELDS, encode};
 pub use fault::{DecodeFault, EncodeFault};
-pub use laws::{faults_stand, spellings_are_apart, spellings_are_read};
+pub use laws::{faults_stand, spellings_are_apart, spellings_are_bytes, spellings_are_read};
 pub use mama_memory::OutOfMemory;
 pub use version::Version;

@@ -13,7 +13,10 @@ use Rattle.mama_journal.specs.EntryLaws.{puts-push}
 use Rattle.mama_journal.specs.Lane.{by_port}
 use Rattle.mama_event.specs.Lawful.{IsLawful}
 use Rattle.mama_event.specs.LawfulLaws.{IsLawful-prefix}
-use Rattle.mama_event.specs.ToQueue.{is_last, fits, note_of}
+use Rattle.mama_event.specs.ToQueue.{is_last, fits, note_of, delivered_note, replied_note}
+use Rattle.mama_event.specs.Wire.{Arrival, ReplyArrival, arrival_of, reply_of}
+use Rattle.mama_event.specs.declared.ids.SubId.{SubId}
+use Rattle.mama_event.specs.declared.ids.InboxId.{InboxId}
 use Rattle.mama_event.specs.Listener.{ListenerData, planned}
 use Rattle.mama_event.specs.Object.{same_object}
 use Rattle.mama_event.specs.Ports.{queue_port_of_timers}
@@ -67,12 +70,21 @@ not_true : (b : Bool) → not b ≡ true → b ≡ false
 not_true true h = cc
 not_true false h = refl
 
+-- what arrives makes no object, be it read or bad
+delivered_bears : (slot : ℕ) (sub : SubId) (a : Arrival) → born_in (delivered_note slot sub a) ≡ []
+delivered_bears slot sub (Ok msg) = refl
+delivered_bears slot sub (Err piece) = refl
+
+replied_bears : (slot : ℕ) (inbox : InboxId) (a : ReplyArrival) → born_in (replied_note slot inbox a) ≡ []
+replied_bears slot inbox (Ok body) = refl
+replied_bears slot inbox (Err bytes) = refl
+
 pub brings : {L : Type 0} (tagged : L → ObjectId) (view : L → ListenerData) (journal : List (ℕ × QueueNote)) (e : ToQueue L) → may_come journal (note_of tagged e) ≡ true
     → BringsOr journal (note_of tagged e) (brought view e)
 brings tagged view journal (event.Create slot object make l) may =
     record { made = record { object = object; make = make }; is = refl; object = refl; first = not_true (is_born object journal) may }
-brings tagged view journal (event.Deliver slot sub msg) may = refl
-brings tagged view journal (event.Reply slot inbox body) may = refl
+brings tagged view journal (event.Deliver slot sub msg) may = delivered_bears slot sub (arrival_of msg)
+brings tagged view journal (event.Reply slot inbox body) may = replied_bears slot inbox (reply_of body)
 brings tagged view journal (event.Tick slot timer moment) may = refl
 brings tagged view journal (event.Gone slot object) may = refl
 brings tagged view journal event.Fin may = refl

@@ -168,6 +168,8 @@ module _ {L : Type 0} (view : L → ListenerData) (plan : ObjectId → List Plan
   handed (q.Create slot object make tag) answer is = nothing_back (q.Create slot object make tag) answer refl (ap handed_back is)
   handed (q.Deliver slot sub msg) answer is = nothing_back (q.Deliver slot sub msg) answer refl (ap handed_back is ∙ told_none (Sub sub) _ _)
   handed (q.Reply slot inbox body) answer is = nothing_back (q.Reply slot inbox body) answer refl (ap handed_back is ∙ told_none (Inbox inbox) _ _)
+  handed (q.Bad slot sub kind sender seq bytes) answer is = nothing_back (q.Bad slot sub kind sender seq bytes) answer refl (ap handed_back is ∙ told_none (Sub sub) _ _)
+  handed (q.BadReply slot inbox bytes) answer is = nothing_back (q.BadReply slot inbox bytes) answer refl (ap handed_back is ∙ told_none (Inbox inbox) _ _)
   handed (q.Tick slot timer moment) answer is = nothing_back (q.Tick slot timer moment) answer refl (ap handed_back is ∙ told_none (Timer timer) _ _)
   handed (q.Gone slot object) answer is = one_back slot object answer is
   handed q.Fin answer is = nothing_back q.Fin answer refl (ap handed_back is ∙ fin_none (count_of is_fin journal == 1))

@@ -55,6 +55,8 @@ abbrev pub gone_in : QueueNote → List ObjectId
 gone_in (q.Create slot object make tag) = []
 gone_in (q.Deliver slot sub msg) = []
 gone_in (q.Reply slot inbox body) = []
+gone_in (q.Bad slot sub kind sender seq bytes) = []
+gone_in (q.BadReply slot inbox bytes) = []
 gone_in (q.Tick slot timer moment) = []
 gone_in (q.Gone slot object) = object ∷ []
 gone_in q.Fin = []

@@ -20,7 +20,7 @@ use mama_dispatch::{
     ImageHead, Serving, ServingNotes, Turn, callbacks_are_streams, lawful_may_come,
 };
 use mama_ends::{Inlet, Lane, Port, PutNote, Taker, Waiting};
-use mama_event::{SubId, ToService};
+use mama_event::{QueueNote, SubId, ToService};
 use mama_laws_allowed::queue_puts_are_lawful;
 use mama_memory::{OutOfMemory, Outbox};
 use mama_msg::Msg;
@@ -411,6 +411,13 @@ impl<L: Listener> QueuePost<L> {
         ensures same { self.new ≡ self.old }
     {
         self.ports.tell_timers(rt, lane)
+    }
+
+    /// What it took and served so far, each event with its port.
+    pub fn journal(&self) -> &[(u32, QueueNote)]
+        ensures { result.now ≡ self.now.served.journal }
+    {
+        self.serving.taken()
     }
 
     /// A copy of the image of a subscription, if it has one.

@@ -1,6 +1,7 @@
 -- What one entry more changes of the sends of a journal, and of the record that it says.
 use Rattle.std.specs.Prelude.{map, slice_get, slice_index_or, Option, Some, None}
-use Rattle.std.proofs.Common.{◌≡◌, ℕ, zero, suc, ◌+◌, Bool, true, false, List, [], ◌∷◌, ◌++◌, length, take, refl, ap, sym, ◌∙◌, add-one, arith}
+use Rattle.std.proofs.Common.{◌≡◌, ℕ, zero, suc, ◌+◌, Bool, true, false, List, [], ◌∷◌, ◌++◌, length, take, refl, ap, sym, ◌∙◌, append-nil, add-one, arith}
+use Rattle.std.proofs.lemmas.List.{map-append}
 use Rattle.mama_journal.specs.Journal.{count_of}
 use Rattle.mama_msg.specs.Field.{FieldData}
 use Rattle.mama_msg.specs.Message.{apply}
@@ -10,10 +11,11 @@ use Rattle.mama_event.specs.ToBridge.{note_of as bridge_note_of}
 use Rattle.mama_event.specs.ToPublisher.{note_of}
 use Rattle.mama_event.specs.declared.ids.ObjectId.{ObjectId}
 use Rattle.mama_event.specs.declared.market.MsgKind.TheVariants as kind
-use Rattle.mama_event.specs.declared.to_publisher.ToPublisher.{ToPublisher}
-use Rattle.mama_event.specs.declared.to_publisher.ToPublisher.TheVariants as took
+use Rattle.mama_event.specs.declared.to_publisher.PublisherNote.{PublisherNote}
+use Rattle.mama_event.specs.declared.to_bridge.ToBridge.{ToBridge}
+use Rattle.mama_event.specs.declared.to_bridge.BridgeNote.{BridgeNote}
 use Rattle.mama_event.specs.declared.to_bridge.BridgeNote.TheVariants as put
-use Rattle.mama_publisher.specs.Standing.{Standing, events_for}
+use Rattle.mama_publisher.specs.Standing.{Standing, Answered}
 use Rattle.mama_publisher.specs.Laws.{StandsAt, SendingUpdates, SendingRecaps, TakingEvents, TellingTheEnd}
 use Rattle.mama_event.specs.declared.publisher_entry.PublisherEntry.{PublisherEntry}
 use Rattle.mama_event.specs.declared.publisher_entry.PublisherEntry.TheVariants as entry
@@ -155,10 +157,19 @@ takes script journal p event at = record {
 pub tells_end : TellingTheEnd
 tells_end script journal p at = record { puts = refl; stands = stands_still script journal p entry.Done refl at }
 
--- the notes of what a publisher puts for an event
-pub notes-events_for : {L : Type 0} (tagged : L → ObjectId) (p : Standing) (event : ToPublisher)
-    → map (bridge_note_of tagged) (events_for p event) ≡ answer_of p.number p.held p.seq (note_of event)
-notes-events_for tagged p (took.Want sub k) = refl
-notes-events_for tagged p (took.Ask inbox fids) = refl
-notes-events_for tagged p took.Settle = refl
-notes-events_for tagged p took.Fin = refl
+-- one event, whose note is the answer
+pub answered_by : {L : Type 0} (tagged : L → ObjectId) (p : Standing) (note : PublisherNote) (old new : List (ToBridge L)) (event : ToBridge L)
+    → new ≡ old ++ event ∷ [] → bridge_note_of tagged event ∷ [] ≡ answer_of p.number p.held p.seq note → Answered tagged p note old new
+answered_by tagged p note old new event put notes = record { more = event ∷ []; put = put; notes = notes }
+
+-- no event, where there is no answer
+pub answered_none : {L : Type 0} (tagged : L → ObjectId) (p : Standing) (note : PublisherNote) (old : List (ToBridge L))
+    → [] ≡ answer_of p.number p.held p.seq note → Answered tagged p note old old
+answered_none tagged p note old notes = record { more = []; put = sym (append-nil old); notes = notes }
+
+-- what answers an event, by its notes
+pub answered_notes : {L : Type 0} (tagged : L → ObjectId) (p : Standing) (note : PublisherNote) (old new : List (ToBridge L)) → Answered tagged p note old new
+    → map (bridge_note_of tagged) new ≡ map (bridge_note_of tagged) old ++ answer_of p.number p.held p.seq note
+answered_notes tagged p note old new answered =
+    ap (map (bridge_note_of tagged)) answered.put ∙ map-append (bridge_note_of tagged) old answered.more
+    ∙ ap (λ (ns : List BridgeNote). map (bridge_note_of tagged) old ++ ns) answered.notes

@@ -7,10 +7,14 @@
 //! of the script. The contracts of [`Publisher::send`], [`Publisher::image`] and [`Publisher::take`] speak of the
 //! record and the number that it holds; the laws of this crate say that these are, after every call, the record and
 //! the number of updates of its journal, so that what the calls put is what the definition says.
+//!
+//! Messages travel packed. What [`Publisher::send`] and [`Publisher::image`] answer is packed by the caller, before it is put
+//! ([`packed_message`], or [`packed`] before the send and [`with_body`] behind it).
 #![tactic(auto)]
 
 mod asked;
 mod laws;
+mod packing;
 mod publisher;
 
 pub use laws::{
@@ -18,4 +22,5 @@ pub use laws::{
     telling_the_end_of_sends,
 };
 pub use mama_memory::OutOfMemory;
+pub use packing::{packed, packed_message, with_body};
 pub use publisher::{MOST_FIELDS, Publisher, SendFault};

@@ -5,9 +5,10 @@ ghost use Rattle.mama_event.specs.ToPublisher.{note_of};
 ghost use Rattle.mama_event.specs.ToBridge.{note_of as bridge_note_of};
 ghost use Rattle.mama_event.specs.declared.market.MsgKind.TheVariants as kind;
 ghost use Rattle.mama_publisher.specs.declared.publisher.SendFault.TheVariants.{OutOfMemory as NoMemory};
-ghost use Rattle.mama_publisher.specs.Standing.{advanced, events_for};
+ghost use Rattle.mama_publisher.specs.Standing.{advanced, Answered};
 
 use crate::asked::asked;
+use crate::packing::{packed, packed_message};
 use mama_event::{Fids, MarketMsg, MsgKind, Tagged, ToBridge, ToPublisher, Took};
 use mama_memory::{OutOfMemory, Outbox};
 use mama_msg::Msg;
@@ -131,13 +132,14 @@ impl Publisher {
         self.whole(kind)
     }
 
-    /// Answers an event. Where no memory is found the event is given back, and nothing has changed.
+    /// Answers an event. A message is packed before it is put. Where no memory is found the event is given back, and nothing
+    /// has changed.
     pub fn take<L: Tagged>(
         &mut self,
         event: ToPublisher,
         out: &mut Outbox<ToBridge<L>>,
     ) -> Result<Took, ToPublisher>
-        ensures puts { OnOk result (out.new.items ≡ out.old.items ++ events_for self.old event) }
+        ensures puts { OnOk result (Answered L.tagged self.old (note_of event) out.old.items out.new.items) }
         ensures notes { OnOk result (map (bridge_note_of L.tagged) out.new.items ≡ map (bridge_note_of L.tagged) out.old.items ++ answer_of self.old.number self.old.held self.old.seq (note_of event)) }
         ensures stays { self.new ≡ self.old }
         ensures ended { (result ≡ Ok Took.Ended) ↔ (event ≡ ToPublisher.Fin) }
@@ -202,17 +204,17 @@ impl Publisher {
         event: &ToPublisher,
         out: &mut Outbox<ToBridge<L>>,
     ) -> Result<(), OutOfMemory>
-        ensures ok { OnOk result (out.new.items ≡ out.old.items ++ events_for self.now event.now) }
+        ensures ok { OnOk result (Answered L.tagged self.now (note_of event.now) out.old.items out.new.items) }
         ensures err { OnErr result (out.new.items ≡ out.old.items) }
         ensures spare { out.old.spare ≤ out.new.spare + 1 }
     {
         match event {
             ToPublisher::Want { sub, kind } => {
-                let msg = self.whole(*kind)?;
+                let msg = packed_message(self.alloc, &self.whole(*kind)?)?;
                 put(ToBridge::Image { sub: *sub, msg }, out)
             }
             ToPublisher::Ask { inbox, fids } => {
-                let body = self.asked(fids)?;
+                let body = packed(self.alloc, &self.asked(fids)?)?;
                 put(
                     ToBridge::Reply {
                         inbox: *inbox,

@@ -6,6 +6,7 @@ use Rattle.mama_words.specs.Id.{sub_text, timer_text, inbox_text, object_text}
 use Rattle.mama_words.specs.Kind.{msg_kind_text, quality_text, strategy_text}
 use Rattle.mama_words.specs.declared.version.Version.{Version}
 use Rattle.mama_words.specs.declared.version.Version.TheVariants as version
+use Rattle.mama_words.specs.Value.{bytes_text}
 use Rattle.mama_words.specs.Field.{fields_text}
 use Rattle.mama_words.specs.Order.{order_text, word_of, spaced_number}
 use Rattle.mama_event.specs.declared.ids.SubId.{SubId}
@@ -81,6 +82,9 @@ abbrev pub queue_note_text : QueueNote → List ℕ
 queue_note_text (q.Create slot object make tag) = codes "create " ++ decimal slot ++ 32 ∷ object_text object
 queue_note_text (q.Deliver slot sub msg) = codes "data " ++ decimal slot ++ 32 ∷ sub_text sub ++ 32 ∷ msg_text msg
 queue_note_text (q.Reply slot inbox body) = codes "reply " ++ decimal slot ++ 32 ∷ inbox_text inbox ++ fields_text body
+queue_note_text (q.Bad slot sub kind sender seq bytes) =
+    codes "bad " ++ decimal slot ++ 32 ∷ sub_text sub ++ 32 ∷ msg_kind_text kind ++ spaced_number sender ++ spaced_number seq ++ 32 ∷ bytes_text bytes
+queue_note_text (q.BadReply slot inbox bytes) = codes "badreply " ++ decimal slot ++ 32 ∷ inbox_text inbox ++ 32 ∷ bytes_text bytes
 queue_note_text (q.Tick slot timer moment) = codes "tick " ++ decimal slot ++ 32 ∷ timer_text timer ++ 32 ∷ decimal moment
 queue_note_text (q.Gone slot object) = codes "gone " ++ decimal slot ++ 32 ∷ object_text object
 queue_note_text q.Fin = codes "fin"

@@ -1,4 +1,9 @@
-ghost use Rattle.std.specs.Prelude.{◌≡◌, ◌++◌, OnOk};
+ghost use Rattle.std.specs.Prelude.{◌≡◌, codes, ◌∷◌, ◌++◌, OnOk};
+ghost use Rattle.mama_edge.specs.Decimal.{decimal};
+ghost use Rattle.mama_words.specs.Id.{sub_text};
+ghost use Rattle.mama_words.specs.Kind.{msg_kind_text};
+ghost use Rattle.mama_words.specs.Order.{spaced_number};
+ghost use Rattle.mama_words.specs.Value.{bytes_text};
 ghost use Rattle.mama_record.specs.LogText as text;
 
 use crate::words::{
@@ -6,10 +11,13 @@ use crate::words::{
     put_timers_putter,
 };
 use mama_edge::print_u64;
-use mama_event::{BridgeNote, PublisherEntry, PublisherNote, QueueNote, Shape, TimersNote};
+use mama_event::{
+    BridgeNote, MsgKind, PublisherEntry, PublisherNote, QueueNote, Shape, SubId, TimersNote,
+};
 use mama_memory::OutOfMemory;
 use mama_words::{
-    print_fields, print_inbox_id, print_msg_kind, print_object_id, print_sub_id, print_timer_id,
+    print_block, print_fields, print_inbox_id, print_msg_kind, print_object_id, print_sub_id,
+    print_timer_id,
 };
 
 pub fn put_bridge_note(note: &BridgeNote, out: &mut Vec<u8>) -> Result<(), OutOfMemory>
@@ -100,6 +108,32 @@ pub fn put_timers_note(note: &TimersNote, out: &mut Vec<u8>) -> Result<(), OutOf
     }
 }
 
+fn put_bad(slot: u32, sub: SubId, out: &mut Vec<u8>) -> Result<(), OutOfMemory>
+    ensures { OnOk result (out.new.items ≡ out.old.items ++ (codes "bad " ++ decimal slot ++ 32 ∷ sub_text sub)) }
+{
+    out.extend_from_slice(b"bad ")?;
+    put_number(slot, out)?;
+    out.push(b' ')?;
+    print_sub_id(sub, out)
+}
+
+// What is printed of a message beside its fields.
+fn put_msg_head(kind: MsgKind, sender: u32, seq: u32, out: &mut Vec<u8>) -> Result<(), OutOfMemory>
+    ensures { OnOk result (out.new.items ≡ out.old.items ++ (32 ∷ msg_kind_text kind ++ spaced_number sender ++ spaced_number seq)) }
+{
+    out.push(b' ')?;
+    print_msg_kind(kind, out)?;
+    put_spaced_number(sender, out)?;
+    put_spaced_number(seq, out)
+}
+
+fn put_spaced_block(bytes: &[u8], out: &mut Vec<u8>) -> Result<(), OutOfMemory>
+    ensures { OnOk result (out.new.items ≡ out.old.items ++ 32 ∷ bytes_text bytes.now) }
+{
+    out.push(b' ')?;
+    print_block(bytes, out)
+}
+
 pub fn put_queue_note(note: &QueueNote, out: &mut Vec<u8>) -> Result<(), OutOfMemory>
     ensures { OnOk result (out.new.items ≡ out.old.items ++ text.queue_note_text note.now) }
 {
@@ -129,6 +163,25 @@ pub fn put_queue_note(note: &QueueNote, out: &mut Vec<u8>) -> Result<(), OutOfMe
             out.push(b' ')?;
             print_inbox_id(*inbox, out)?;
             print_fields(body, out)
+        }
+        QueueNote::Bad {
+            slot,
+            sub,
+            kind,
+            sender,
+            seq,
+            bytes,
+        } => {
+            put_bad(*slot, *sub, out)?;
+            put_msg_head(*kind, *sender, *seq, out)?;
+            put_spaced_block(bytes.bytes(), out)
+        }
+        QueueNote::BadReply { slot, inbox, bytes } => {
+            out.extend_from_slice(b"badreply ")?;
+            put_number(*slot, out)?;
+            out.push(b' ')?;
+            print_inbox_id(*inbox, out)?;
+            put_spaced_block(bytes.bytes(), out)
         }
         QueueNote::Tick {
             slot,

@@ -21,6 +21,8 @@ use Rattle.mama_event.specs.declared.to_bridge.BridgeNote.{BridgeNote}
 use Rattle.mama_event.specs.declared.to_bridge.BridgeNote.TheVariants as b
 use Rattle.mama_event.specs.Ports.{clients_of}
 use Rattle.mama_event.specs.Object.{same_sub, same_inbox, same_object}
+use Rattle.mama_event.specs.Wire.{arriving, answering, cut_arrival, cut_reply}
+use Rattle.mama_event.specs.ToQueue.{delivered_note, replied_note}
 use Rattle.mama_rules_services.specs.Bridge.{BridgePut, to_publisher, to_queue, to_timers, BridgeEvent, heard, is_live, is_open, window, reply_window}
 use Rattle.mama_rules_queue.specs.Queue.{QueuePut}
 use Rattle.mama_rules_queue.specs.Queue as queue
@@ -33,6 +35,8 @@ abbrev pub is_of : ObjectId → QueueNote → Bool
 is_of o (q.Create slot object make tag) = same_object object o
 is_of o (q.Deliver slot sub msg) = same_object (Sub sub) o
 is_of o (q.Reply slot inbox body) = same_object (Inbox inbox) o
+is_of o (q.Bad slot sub kind sender seq bytes) = same_object (Sub sub) o
+is_of o (q.BadReply slot inbox bytes) = same_object (Inbox inbox) o
 is_of o (q.Tick slot timer moment) = same_object (Timer timer) o
 is_of o (q.Gone slot object) = same_object object o
 is_of o q.Fin = false
@@ -54,11 +58,11 @@ pub record IsStream {M : Type 0} (o : ObjectId) (queue : ℕ) (make : Make) (ite
 
 -- that of a subscription with these terms
 abbrev pub IsSubStream : Strategy → SubId → SubTerms → List MarketMsg → List (ℕ × QueueNote) → Type 0
-IsSubStream strategy s terms window stream = IsStream (Sub s) terms.queue (make.Sub terms.kind terms.cache strategy) (λ slot m. q.Deliver slot s m) (through terms.faults window) stream
+IsSubStream strategy s terms window stream = IsStream (Sub s) terms.queue (make.Sub terms.kind terms.cache strategy) (λ slot a. delivered_note slot s a) (through cut_arrival terms.faults (arriving window)) stream
 
 -- that of an inbox with these terms
 abbrev pub IsInboxStream : InboxId → InboxTerms → List (List FieldData) → List (ℕ × QueueNote) → Type 0
-IsInboxStream i terms window stream = IsStream (Inbox i) terms.queue make.Inbox (λ slot m. q.Reply slot i m) (through terms.faults window) stream
+IsInboxStream i terms window stream = IsStream (Inbox i) terms.queue make.Inbox (λ slot a. replied_note slot i a) (through cut_reply terms.faults (answering window)) stream
 
 -- an object was alive once
 pub record WasAlive {E : Type 0} (alive : List E → Bool) (es : List E) : Type 0 where
@@ -93,7 +97,7 @@ pub record IsJournal {M : Type 0} (o : ObjectId) (make : Make) (item : ℕ → M
   pub whole : events_of o journal ≡ q.Create slot o make tag ∷ (map (λ m. item slot m) passed ++ q.Gone slot o ∷ [])
 
 abbrev pub IsSubJournal : Strategy → SubId → SubTerms → List MarketMsg → List (ℕ × QueueNote) → Type 0
-IsSubJournal strategy s terms window journal = IsJournal (Sub s) (make.Sub terms.kind terms.cache strategy) (λ slot m. q.Deliver slot s m) (through terms.faults window) journal
+IsSubJournal strategy s terms window journal = IsJournal (Sub s) (make.Sub terms.kind terms.cache strategy) (λ slot a. delivered_note slot s a) (through cut_arrival terms.faults (arriving window)) journal
 
 -- So it is with each subscription that the script joins, in the journal of its queue.
 pub record AreSubStreams (script : ScriptData) (run : RunData) : Type 0 where
@@ -114,7 +118,7 @@ abbrev pub inbox_terms_of : ScriptData → RunData → InboxId → Option InboxT
 inbox_terms_of script run i = first_said (inbox_terms_put i) (client_puts script run.clients i.client)
 
 abbrev pub IsInboxJournal : InboxId → InboxTerms → List (List FieldData) → List (ℕ × QueueNote) → Type 0
-IsInboxJournal i terms window journal = IsJournal (Inbox i) make.Inbox (λ slot m. q.Reply slot i m) (through terms.faults window) journal
+IsInboxJournal i terms window journal = IsJournal (Inbox i) make.Inbox (λ slot a. replied_note slot i a) (through cut_reply terms.faults (answering window)) journal
 
 -- So it is with each inbox that the script opens, in the journal of its queue.
 pub record AreInboxStreams (script : ScriptData) (run : RunData) : Type 0 where

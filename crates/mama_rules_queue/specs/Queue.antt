@@ -26,6 +26,7 @@ use Rattle.mama_event.specs.declared.to_bridge.BridgeNote.TheVariants as b
 use Rattle.mama_event.specs.declared.to_timers.TimersNote.{TimersNote}
 use Rattle.mama_event.specs.declared.to_timers.TimersNote.TheVariants as t
 use Rattle.mama_event.specs.Object.{same_sub, same_timer, same_inbox, same_object}
+use Rattle.mama_event.specs.Wire.{code_of}
 use Rattle.mama_dq.specs.Context.{ContextData, new_context}
 use Rattle.mama_dq.specs.Strategy.{callbacks_of, fold}
 
@@ -108,7 +109,8 @@ abbrev pub context_of : Option Make → List MarketMsg → ContextData
 context_of (Some (make.Sub kind cache strategy)) messages = fold strategy kind cache messages
 context_of _ messages = fold strategy.One Basic 0 messages
 
--- what an entry does: its candidates, of which those are made that are not muted
+-- What an entry does: its candidates, of which those are made that are not muted. Bytes that spell no message change no context: of them the
+-- listener is told the code of the first fault.
 abbrev pub served : (ObjectId → ℕ → List Order) → List (ℕ × QueueNote) → List Deed → QueueNote → List Deed
 served orders before sofar (q.Create slot object make tag) = made orders object sofar (on.Create ∷ [])
 served orders before sofar (q.Deliver slot sub msg) =
@@ -116,6 +118,8 @@ served orders before sofar (q.Deliver slot sub msg) =
     else handled sub msg ∷ made orders (Sub sub) (sofar ++ handled sub msg ∷ [])
     (callbacks_of (context_of (first_said (λ e. make_in (Sub sub) e.1) before) (messages_of sub sofar)) msg)
 served orders before sofar (q.Reply slot inbox body) = made orders (Inbox inbox) sofar (on.Reply body ∷ [])
+served orders before sofar (q.Bad slot sub kind sender seq bytes) = made orders (Sub sub) sofar (on.Error (code_of bytes) ∷ [])
+served orders before sofar (q.BadReply slot inbox bytes) = made orders (Inbox inbox) sofar (on.Error (code_of bytes) ∷ [])
 served orders before sofar (q.Tick slot timer moment) = made orders (Timer timer) sofar (on.Tick moment ∷ [])
 served orders before sofar (q.Gone slot object) = made orders object sofar (on.Destroy ∷ [])
 served orders before sofar q.Fin = []

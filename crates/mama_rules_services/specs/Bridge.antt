@@ -28,6 +28,8 @@ use Rattle.mama_event.specs.declared.to_bridge.BridgeNote.{BridgeNote}
 use Rattle.mama_event.specs.declared.to_bridge.BridgeNote.TheVariants as b
 use Rattle.mama_event.specs.Ports.{clients_of, publishers_of, queues_of}
 use Rattle.mama_event.specs.Object.{same_sub, same_inbox, same_object}
+use Rattle.mama_event.specs.Wire.{Arrival, ReplyArrival, arriving, answering, cut_arrival, cut_reply}
+use Rattle.mama_event.specs.ToQueue.{delivered_note, replied_note}
 pub use Rattle.mama_rules_services.specs.Life.{lives, is_alive, newly, all_alive, window_of}
 pub use Rattle.mama_rules_services.specs.Place.{created_by, at_place, slot_on, least_slot}
 use Rattle.mama_rules_services.specs.Ports.{Putter, ByClient, ByPublisher, ByQueue, bridge_putter}
@@ -240,40 +242,40 @@ wants_image shape s Basic topic = []
 wants_image shape s Market topic = to_first shape topic (p.Want s Initial)
 wants_image shape s Snapshot topic = to_first shape topic (p.Want s Initial)
 
--- messages of a subscription, delivered in its slot
-abbrev pub delivered : SubId → List BridgePut → List MarketMsg → List BridgePut
-delivered s sofar msgs = flat_map (λ m. to_place (place_of (Sub s) sofar) (λ slot. q.Deliver slot s m)) msgs
+-- what arrives for a subscription, in its slot
+abbrev pub delivered : SubId → List BridgePut → List Arrival → List BridgePut
+delivered s sofar arrivals = flat_map (λ a. to_place (place_of (Sub s) sofar) (λ slot. delivered_note slot s a)) arrivals
 
-abbrev pub replied : InboxId → List BridgePut → List (List FieldData) → List BridgePut
-replied i sofar bodies = flat_map (λ body. to_place (place_of (Inbox i) sofar) (λ slot. q.Reply slot i body)) bodies
+abbrev pub replied : InboxId → List BridgePut → List ReplyArrival → List BridgePut
+replied i sofar arrivals = flat_map (λ a. to_place (place_of (Inbox i) sofar) (λ slot. replied_note slot i a)) arrivals
 
 abbrev pub gone : ObjectId → List BridgePut → List BridgePut
 gone o sofar = to_place (place_of o sofar) (λ slot. q.Gone slot o)
 
 -- what comes out of a link where some messages go in after those of the window
-abbrev pub passed_on : {T : Type 0} → List FaultRow → List T → List T → List T
-passed_on rows window [] = []
-passed_on rows window (m ∷ ms) = emit rows (window ++ m ∷ []) (length window + 1)
+abbrev pub passed_on : {T : Type 0} → (ℕ → T → T) → List FaultRow → List T → List T → List T
+passed_on cut rows window [] = []
+passed_on cut rows window (m ∷ ms) = emit cut rows (window ++ m ∷ []) (length window + 1)
 
 -- an entry's messages through the link of one live subscription
 abbrev pub passed : Shape → List BridgeEvent → List BridgePut → BridgeEvent → SubId → List BridgePut
 passed shape before sofar e s =
     let terms = first_said (terms_in s) before in
-    delivered s sofar (passed_on (faults_of terms) (window shape s before) (sent_with shape s terms e))
+    delivered s sofar (passed_on cut_arrival (faults_of terms) (arriving (window shape s before)) (arriving (sent_with shape s terms e)))
 
 abbrev pub passed_reply : Shape → List BridgeEvent → List BridgePut → BridgeEvent → InboxId → List BridgePut
 passed_reply shape before sofar e i =
     let terms = first_said (inbox_terms_in i) before in
-    replied i sofar (passed_on (inbox_faults_of terms) (reply_window shape i before) (replied_to i e))
+    replied i sofar (passed_on cut_reply (inbox_faults_of terms) (answering (reply_window shape i before)) (answering (replied_to i e)))
 
 -- the end of a live subscription: what its link still holds, and then its notice
 abbrev pub ended : Shape → List BridgeEvent → List BridgePut → SubId → List BridgePut
 ended shape before sofar s =
-    delivered s sofar (rest (faults_of (first_said (terms_in s) before)) (window shape s before)) ++ gone (Sub s) sofar
+    delivered s sofar (rest (faults_of (first_said (terms_in s) before)) (arriving (window shape s before))) ++ gone (Sub s) sofar
 
 abbrev pub ended_inbox : Shape → List BridgeEvent → List BridgePut → InboxId → List BridgePut
 ended_inbox shape before sofar i =
-    replied i sofar (rest (inbox_faults_of (first_said (inbox_terms_in i) before)) (reply_window shape i before)) ++ gone (Inbox i) sofar
+    replied i sofar (rest (inbox_faults_of (first_said (inbox_terms_in i) before)) (answering (reply_window shape i before))) ++ gone (Inbox i) sofar
 
 -- how many recap wishes of a subscription were forwarded
 abbrev pub is_recap_want : SubId → BridgePut → Bool

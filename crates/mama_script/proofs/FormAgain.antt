@@ -8,7 +8,7 @@ use Rattle.mama_msg.specs.Value.{IsText}
 use Rattle.mama_event.specs.declared.shape.Strategy.{Strategy}
 use Rattle.mama_words.specs.Kind.{strategy_text}
 use Rattle.mama_link.specs.declared.faults.Fault.{Fault}
-use Rattle.mama_link.specs.declared.faults.Fault.TheVariants.{Lose, Dup, Hold}
+use Rattle.mama_link.specs.declared.faults.Fault.TheVariants.{Lose, Dup, Hold, Cut}
 use Rattle.mama_words.specs.declared.order.OrderWord.{OrderWord}
 use Rattle.mama_words.specs.declared.order.OrderWord.TheVariants as orders
 use Rattle.mama_words.specs.Reading.{◌>>=◌}
@@ -34,7 +34,7 @@ use Rattle.mama_script.specs.declared.line.Line.TheVariants as lines
 use Rattle.mama_script.specs.Head.{allows}
 use Rattle.mama_script.specs.HeadText.{head_text}
 use Rattle.mama_script.specs.Line.{queue_text, fault_words, line_words, line_text, head_of, head_of_order, IsQueueName, IsFault, IsLine}
-use Rattle.mama_script.specs.Form.{queue_in, strategy_line_in, queues_in, topic_in, publisher_in, update_in, alone_in, pause_in, sub_in, timer_in, inbox_in, short_fault_in, hold_in, fault_in, at_in, order_line_in, now_in, body_in, head_at, form_in}
+use Rattle.mama_script.specs.Form.{queue_in, strategy_line_in, queues_in, topic_in, publisher_in, update_in, alone_in, pause_in, sub_in, timer_in, inbox_in, short_fault_in, hold_in, cut_in, long_fault_in, fault_in, at_in, order_line_in, now_in, body_in, head_at, form_in}
 use Rattle.mama_script.proofs.Heads.{head_at_again, between_again, decimal_is_no_word}
 
 queue_again : (q : QueueName) → IsQueueName q → queue_in (queue_text q) ≡ Some q
@@ -43,10 +43,11 @@ queue_again (Number n) small = rw (decimal_is_no_word 97 n (codes "any") (decima
 queue_again Any h = refl
 
 fault_again : (index : ℕ) (fault : Fault) → 1 ≤ index → index ≤ 4294967295 → IsFault fault → fault_in (codes "fault" ∷ fault_words index fault) ≡ Ok (lines.Fault (record { index = index; fault = fault }))
-unfolding fault_in short_fault_in hold_in
+unfolding fault_in short_fault_in long_fault_in hold_in cut_in
 fault_again index Lose low high h = rw (between_again 1 4294967295 index low high (omega (arith, high))) refl
 fault_again index Dup low high h = rw (between_again 1 4294967295 index low high (omega (arith, high))) refl
 fault_again index (Hold by) low high h = rw (between_again 1 4294967295 index low high (omega (arith, high)), between_again 1 4294967295 by h.0 h.1 (omega (arith, h.1))) refl
+fault_again index (Cut keep) low high h = rw (between_again 1 4294967295 index low high (omega (arith, high)), between_again 0 65535 keep (omega arith) h (omega (arith, h))) refl
 
 order_line_again : (o : OrderWord) → IsOrder o → order_line_in (order_words o) ≡ Ok (lines.Order o)
 order_line_again o h = ap (λ (r : Result OrderWord ℕ). r >>= λ order. Ok (lines.Order order)) (order_again o h)
@@ -118,6 +119,7 @@ fault_are_words : (index : ℕ) (fault : Fault) → index ≤ 4294967295 → IsF
 fault_are_words index Lose high h = (fixed (codes "lose") refl refl, (decimal_word index (omega (arith, high)), tt))
 fault_are_words index Dup high h = (fixed (codes "dup") refl refl, (decimal_word index (omega (arith, high)), tt))
 fault_are_words index (Hold by) high h = (fixed (codes "hold") refl refl, (decimal_word index (omega (arith, high)), (decimal_word by (omega (arith, h.1)), tt)))
+fault_are_words index (Cut keep) high h = (fixed (codes "cut") refl refl, (decimal_word index (omega (arith, high)), (decimal_word keep (omega (arith, h)), tt)))
 
 line_are_words : (v : Version) (l : Line) → IsLine v l → AreWords (line_words l)
 line_are_words v (lines.Strategy s) h = (fixed (codes "strategy") refl refl, (strategy_word s, tt))

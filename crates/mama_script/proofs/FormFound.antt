@@ -1,10 +1,10 @@
 -- What is read as a line is so spelled.
-use Rattle.std.proofs.Common.{◌≡◌, ℕ, ◌≤◌, true, cond, List, [], ◌∷◌, length, Option, Some, None, Ok, refl, sym, ap, subst, ◌∙◌, inl, inr}
+use Rattle.std.proofs.Common.{◌≡◌, ℕ, ◌≤◌, true, cond, List, [], ◌∷◌, length, Option, Some, None, Ok, Err, refl, sym, ap, subst, ◌∙◌, inl, inr}
 use Rattle.std.specs.Prelude.{◌==◌, option_map, codes}
 use Rattle.std.specs.Str.{bytes_eq}
 use Rattle.mama_edge.specs.Decimal.{decimal}
 use Rattle.mama_link.specs.declared.faults.Fault.{Fault}
-use Rattle.mama_link.specs.declared.faults.Fault.TheVariants.{Lose, Dup, Hold}
+use Rattle.mama_link.specs.declared.faults.Fault.TheVariants.{Lose, Dup, Hold, Cut}
 use Rattle.mama_words.specs.declared.order.OrderWord.{OrderWord}
 use Rattle.mama_words.specs.declared.order.OrderWord.TheVariants as orders
 use Rattle.mama_words.specs.Reading.{◌>>=◌, or_fault, both}
@@ -33,7 +33,7 @@ use Rattle.mama_script.specs.declared.line.Line.TheVariants as lines
 use Rattle.mama_script.specs.Head.{head_in, allows}
 use Rattle.mama_script.specs.HeadText.{head_text}
 use Rattle.mama_script.specs.Line.{queue_text, line_words, line_text, head_of, head_of_order, IsQueueName, IsLine}
-use Rattle.mama_script.specs.Form.{queue_in, count_in, strategy_line_in, queues_in, topic_or_fault, topic_in, publisher_in, update_in, alone_in, pause_in, sub_in, timer_in, inbox_in, short_fault_in, hold_in, fault_in, at_in, order_line_in, now_in, body_in, head_at, form_in}
+use Rattle.mama_script.specs.Form.{queue_in, count_in, strategy_line_in, queues_in, topic_or_fault, topic_in, publisher_in, update_in, alone_in, pause_in, sub_in, timer_in, inbox_in, short_fault_in, hold_in, cut_in, long_fault_in, fault_in, at_in, order_line_in, now_in, body_in, head_at, form_in}
 use Rattle.mama_script.proofs.Heads.{head_again, head_at_found, between_found}
 
 -- a line with this head, whose other words are these
@@ -183,12 +183,14 @@ abbrev short_text : Fault → List ℕ
 short_text Lose = codes "lose"
 short_text Dup = codes "dup"
 short_text (Hold by) = []
+short_text (Cut keep) = []
 
 -- such a fault
 abbrev IsShort : Fault → Type 0
 IsShort Lose = Unit {0}
 IsShort Dup = Unit {0}
 IsShort (Hold by) = ⊥
+IsShort (Cut keep) = ⊥
 
 short_found : (word : List ℕ) (fault : Fault) → short_fault_in word ≡ Some fault → IsShort fault × (word ≡ short_text fault)
 unfolding short_fault_in
@@ -204,6 +206,7 @@ short_row : (v : Version) (word index : List ℕ) (fault : Fault) (i : ℕ) → 
 short_row v word index Lose i short w n low high = record { fits = (low, high, tt); head_is = refl; words_are = same_two (codes "fault") word (codes "lose") index (decimal i) w n }
 short_row v word index Dup i short w n low high = record { fits = (low, high, tt); head_is = refl; words_are = same_two (codes "fault") word (codes "dup") index (decimal i) w n }
 short_row v word index (Hold by) i short w n low high = absurd short
+short_row v word index (Cut keep) i short w n low high = absurd short
 
 same_three : (h a b c d e f : List ℕ) → a ≡ b → c ≡ d → e ≡ f → h ∷ a ∷ c ∷ e ∷ [] ≡ h ∷ b ∷ d ∷ f ∷ []
 same_three h a b c d e f p q r = cc
@@ -218,6 +221,26 @@ hold_found v word index by l w e =
     subst (λ (x : Line). Spelled v heads.Fault (word ∷ index ∷ by ∷ []) x) (ok_is (lines.Fault (record { index = i.0; fault = Hold b.0 })) l b.2)
     (record { fits = (index_is.low, index_is.high, (by_is.low, by_is.high)); head_is = refl; words_are = same_three (codes "fault") word (codes "hold") index (decimal i.0) by (decimal b.0) w index_is.text_is by_is.text_is })
 
+cut_found : (v : Version) (word index keep : List ℕ) (l : Line) → word ≡ codes "cut" → cut_in index keep ≡ Ok l → Spelled v heads.Fault (word ∷ index ∷ keep ∷ []) l
+unfolding cut_in
+cut_found v word index keep l w e =
+    let i = step_ok 5 (count_in index) _ l e in
+    let b = step_ok 5 (between_in 0 65535 keep) _ l i.2 in
+    let index_is = between_found 1 4294967295 index i.0 i.1 in
+    let keep_is = between_found 0 65535 keep b.0 b.1 in
+    subst (λ (x : Line). Spelled v heads.Fault (word ∷ index ∷ keep ∷ []) x) (ok_is (lines.Fault (record { index = i.0; fault = Cut b.0 })) l b.2)
+    (record { fits = (index_is.low, index_is.high, keep_is.high); head_is = refl; words_are = same_three (codes "fault") word (codes "cut") index (decimal i.0) keep (decimal b.0) w index_is.text_is keep_is.text_is })
+
+long_found : (v : Version) (word index number : List ℕ) (l : Line) → long_fault_in word index number ≡ Ok l → Spelled v heads.Fault (word ∷ index ∷ number ∷ []) l
+unfolding long_fault_in
+long_found v word index number l e =
+    elim (chosen (bytes_eq word (codes "hold")) (hold_in index number) (cond (bytes_eq word (codes "cut")) (cut_in index number) (Err 4)) (Ok l) e) [
+      | inl p ↦ hold_found v word index number l (same_text word (codes "hold") p.0) p.1
+      | inr p ↦
+          let q = guard_step (bytes_eq word (codes "cut")) 4 (cut_in index number) l p.1 in
+          cut_found v word index number l (same_text word (codes "cut") q.0) q.1
+    ]
+
 fault_found : (v : Version) (rest : List (List ℕ)) (l : Line) → fault_in (head_text heads.Fault ∷ rest) ≡ Ok l → Spelled v heads.Fault rest l
 unfolding fault_in
 fault_found v [] l e = absurd cc
@@ -230,8 +253,7 @@ fault_found v (word ∷ index ∷ []) l e =
     subst (λ (x : Line). Spelled v heads.Fault (word ∷ index ∷ []) x) (ok_is (lines.Fault (record { index = i.0; fault = f.0 })) l i.2)
     (short_row v word index f.0 i.0 fault_is.0 fault_is.1 index_is.text_is index_is.low index_is.high)
 fault_found v (word ∷ index ∷ by ∷ []) l e =
-    let p = guard_step (bytes_eq word (codes "hold")) 4 (hold_in index by) l e in
-    hold_found v word index by l (same_text word (codes "hold") p.0) p.1
+    long_found v word index by l e
 fault_found v (a ∷ b ∷ c ∷ d ∷ ws) l e = absurd cc
 
 at_found : (v : Version) (rest : List (List ℕ)) (l : Line) → at_in (head_text heads.At ∷ rest) ≡ Ok l → Spelled v heads.At rest l

@@ -9,7 +9,7 @@ use Rattle.std.specs.BTreeSet.{insert_key}
 use Rattle.std.proofs.lemmas.Bool.{ltb-true, ltb-false, leb-false, eqb-true, eqb-false, ne_eqb}
 use Rattle.std.proofs.lemmas.Option.{slice_get_within}
 use Rattle.mama_link.specs.declared.faults.Fault.{Fault}
-use Rattle.mama_link.specs.declared.faults.Fault.TheVariants.{Lose, Dup, Hold}
+use Rattle.mama_link.specs.declared.faults.Fault.TheVariants.{Lose, Dup, Hold, Cut}
 use Rattle.mama_link.specs.declared.faults.FaultRow.{FaultRow}
 use Rattle.mama_link.specs.Faults.{fault_at, is_zero_hold, fault_of_row, first_fault_after, first_fault}
 use Rattle.mama_link.proofs.FaultLemmas.{is_at-nat_cmp, fault_at-append}
@@ -224,6 +224,7 @@ sound_fault : (fault : Fault) → IsFault fault → is_zero_hold fault ≡ false
 sound_fault Lose h = refl
 sound_fault Dup h = refl
 sound_fault (Hold by) h = ne_eqb by 0 (λ e. omega (arith, e, h.0))
+sound_fault (Cut keep) h = refl
 
 sound_line : (b : Before) (rows : List FaultRow) (l : Line) → AreTold b rows → Fits b l → bad_fault rows l ≡ None
 sound_line b rows (lines.Fault row) told fits =

@@ -6,7 +6,6 @@ use Rattle.std.proofs.lemmas.List.Folds.{flat_map-map}
 use Rattle.std.specs.Prelude.{codes}
 use Rattle.mama_edge.specs.Decimal.{decimal}
 use Rattle.mama_event.specs.declared.order.PlanRow.{PlanRow}
-use Rattle.mama_link.specs.declared.faults.Fault.TheVariants.{Hold}
 use Rattle.mama_msg.specs.Field.{FieldData}
 use Rattle.mama_words.specs.declared.order.OrderWord.{OrderWord}
 use Rattle.mama_words.specs.declared.order.OrderWord.TheVariants as orders
@@ -98,11 +97,8 @@ base_text out topic fs = ap (λ (t : List ℕ). (((out ++ codes "publisher") ++ 
 pub update_text : (out : List ℕ) (fs : List FieldData) → ((out ++ codes "update") ++ fields_text fs) ++ 10 ∷ [] ≡ out ++ ended (lines.Update fs)
 update_text out fs = ap (λ (t : List ℕ). ((out ++ codes "update") ++ t) ++ 10 ∷ []) (fields_row fs) ∙ simp append_assoc
 
-hold_shape : (out a b c : List ℕ) → (((out ++ a) ++ b) ++ c) ++ 10 ∷ [] ≡ out ++ ((a ++ (b ++ (c ++ []))) ++ 10 ∷ [])
-hold_shape out a b c = simp (append_assoc, append-nil)
-
-pub hold_text : (out : List ℕ) (index by : ℕ) → (((out ++ codes "fault hold") ++ spaced (decimal index)) ++ spaced (decimal by)) ++ 10 ∷ [] ≡ out ++ fault_text (record { index = index; fault = Hold by })
-hold_text out index by = hold_shape out (codes "fault hold") (spaced (decimal index)) (spaced (decimal by))
+pub long_text : (out head index number : List ℕ) → (((out ++ head) ++ index) ++ number) ++ 10 ∷ [] ≡ out ++ (head ++ (index ++ (number ++ 10 ∷ [])))
+long_text out head index number = simp append_assoc
 
 sub_parts : (out a b c d e f : List ℕ) → ((((((out ++ a) ++ b) ++ c) ++ d) ++ e) ++ f) ++ 10 ∷ [] ≡ out ++ ((a ++ (b ++ (c ++ (d ++ (e ++ (f ++ [])))))) ++ 10 ∷ [])
 sub_parts out a b c d e f = simp (append_assoc, append-nil)

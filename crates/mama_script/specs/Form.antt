@@ -3,7 +3,7 @@
 use Rattle.std.specs.Prelude.{ℕ, codes, ◌==◌, List, [], ◌∷◌, length, Option, Some, None, option_map, Result, Ok, Err, if◌then◌else◌}
 use Rattle.std.specs.Str.{bytes_eq}
 use Rattle.mama_link.specs.declared.faults.Fault.{Fault}
-use Rattle.mama_link.specs.declared.faults.Fault.TheVariants.{Lose, Dup, Hold}
+use Rattle.mama_link.specs.declared.faults.Fault.TheVariants.{Lose, Dup, Hold, Cut}
 use Rattle.mama_words.specs.Reading.{◌>>=◌, or_fault, both}
 use Rattle.mama_words.specs.Parting.{parted_in}
 use Rattle.mama_words.specs.Number.{number_in, between_in}
@@ -97,12 +97,24 @@ hold_in index by = do
   by ← or_fault 5 (count_in by)
   Ok (lines.Fault (record { index = index; fault = Hold by }))
 
+-- a cut may keep nothing
+unfoldable pub cut_in : List ℕ → List ℕ → Result Line ℕ
+cut_in index keep = do
+  index ← or_fault 5 (count_in index)
+  keep ← or_fault 5 (between_in 0 65535 keep)
+  Ok (lines.Fault (record { index = index; fault = Cut keep }))
+
+-- the faults of two numbers
+unfoldable pub long_fault_in : List ℕ → List ℕ → List ℕ → Result Line ℕ
+long_fault_in kind index number =
+    if bytes_eq kind (codes "hold") then hold_in index number else (if bytes_eq kind (codes "cut") then cut_in index number else Err 4)
+
 unfoldable pub fault_in : List (List ℕ) → Result Line ℕ
 fault_in (first ∷ kind ∷ index ∷ []) = do
   fault ← or_fault 4 (short_fault_in kind)
   index ← or_fault 5 (count_in index)
   Ok (lines.Fault (record { index = index; fault = fault }))
-fault_in (first ∷ kind ∷ index ∷ by ∷ []) = if bytes_eq kind (codes "hold") then hold_in index by else Err 4
+fault_in (first ∷ kind ∷ index ∷ number ∷ []) = long_fault_in kind index number
 fault_in words = Err 4
 
 -- the number of the call and the order are looked at together

@@ -1,7 +1,7 @@
 -- believed: Lines of a script, and how they are spelled.
 use Rattle.std.specs.Prelude.{◌≡◌, ℕ, ◌^◌, ◌<◌, ◌≤◌, codes, false, ◌==◌, List, [], ◌∷◌, ◌++◌, length, map}
 use Rattle.mama_link.specs.declared.faults.Fault.{Fault}
-use Rattle.mama_link.specs.declared.faults.Fault.TheVariants.{Lose, Dup, Hold}
+use Rattle.mama_link.specs.declared.faults.Fault.TheVariants.{Lose, Dup, Hold, Cut}
 use Rattle.mama_edge.specs.Decimal.{decimal}
 use Rattle.mama_edge.specs.Quoted.{quoted}
 use Rattle.mama_msg.specs.Value.{IsText}
@@ -29,6 +29,7 @@ abbrev pub fault_words : ℕ → Fault → List (List ℕ)
 fault_words index Lose = codes "lose" ∷ decimal index ∷ []
 fault_words index Dup = codes "dup" ∷ decimal index ∷ []
 fault_words index (Hold by) = codes "hold" ∷ decimal index ∷ decimal by ∷ []
+fault_words index (Cut keep) = codes "cut" ∷ decimal index ∷ decimal keep ∷ []
 
 -- the words of a line
 abbrev pub line_words : Line → List (List ℕ)
@@ -91,6 +92,7 @@ abbrev pub IsFault : Fault → Type 0
 IsFault Lose = Unit {0}
 IsFault Dup = Unit {0}
 IsFault (Hold by) = (1 ≤ by) × (by ≤ 4294967295)
+IsFault (Cut keep) = keep ≤ 65535
 
 -- a line with each number in its range, and fields that the version knows
 abbrev pub IsLine : Version → Line → Type 0

@@ -16,6 +16,9 @@ use std::alloc::Global;
 
 const MOST_U32: u64 = 4_294_967_295;
 
+/// The most bytes that a cut may keep.
+const MOST_KEPT: u64 = 65_535;
+
 /// The line that a text spells at this place of a script of this version, or the lowest of its faults from 2 to 8.
 #[tactic(auto, unfolding(crate::specs::Form::form_in))]
 pub fn read_form(
@@ -276,6 +279,31 @@ fn read_hold(index: &[u8], by: &[u8]) -> Result<Line, ReadError>
     }))
 }
 
+#[tactic(auto, unfolding(crate::specs::Form::cut_in))]
+fn read_cut(index: &[u8], keep: &[u8]) -> Result<Line, ReadError>
+    ensures { Gives (λ l. l) result (forms.cut_in index.now keep.now) }
+{
+    let index = read_u32(1, MOST_U32, index).ok_or(ReadError::Fault(5))?;
+    let keep = read_u32(0, MOST_KEPT, keep).ok_or(ReadError::Fault(5))?;
+    Ok(Line::Fault(FaultRow {
+        index,
+        fault: Fault::Cut(keep),
+    }))
+}
+
+#[tactic(auto, unfolding(crate::specs::Form::long_fault_in))]
+fn read_long_fault(kind: &[u8], index: &[u8], number: &[u8]) -> Result<Line, ReadError>
+    ensures { Gives (λ l. l) result (forms.long_fault_in kind.now index.now number.now) }
+{
+    if kind == b"hold".as_slice() {
+        read_hold(index, number)
+    } else if kind == b"cut".as_slice() {
+        read_cut(index, number)
+    } else {
+        Err(ReadError::Fault(4))
+    }
+}
+
 #[tactic(auto, unfolding(crate::specs::Form::fault_in))]
 fn read_fault(words: &[&[u8]]) -> Result<Line, ReadError>
     ensures { Gives (λ l. l) result (forms.fault_in (map (λ w. w.now) words.now)) }
@@ -286,13 +314,7 @@ fn read_fault(words: &[&[u8]]) -> Result<Line, ReadError>
             let index = read_u32(1, MOST_U32, index).ok_or(ReadError::Fault(5))?;
             Ok(Line::Fault(FaultRow { index, fault }))
         }
-        [_, kind, index, by] => {
-            if *kind == b"hold".as_slice() {
-                read_hold(index, by)
-            } else {
-                Err(ReadError::Fault(4))
-            }
-        }
+        [_, kind, index, number] => read_long_fault(kind, index, number),
         _ => Err(ReadError::Fault(4)),
     }
 }

@@ -317,7 +317,8 @@ fn put_fault(row: FaultRow, out: &mut Vec<u8>) -> Result<(), OutOfMemory>
     match row.fault {
         Fault::Lose => put_short_fault(b"fault lose", row.index, out),
         Fault::Dup => put_short_fault(b"fault dup", row.index, out),
-        Fault::Hold(by) => put_hold(row.index, by, out),
+        Fault::Hold(by) => put_long_fault(b"fault hold", row.index, by, out),
+        Fault::Cut(keep) => put_long_fault(b"fault cut", row.index, keep, out),
     }
 }
 
@@ -330,12 +331,17 @@ fn put_short_fault(head: &[u8], index: u32, out: &mut Vec<u8>) -> Result<(), Out
     Ok(())
 }
 
-fn put_hold(index: u32, by: u32, out: &mut Vec<u8>) -> Result<(), OutOfMemory>
-    ensures { OnOk result (out.new.items ≡ out.old.items ++ texts.fault_text (record { index = index; fault = Fault.Hold by })) }
+fn put_long_fault(
+    head: &[u8],
+    index: u32,
+    number: u32,
+    out: &mut Vec<u8>,
+) -> Result<(), OutOfMemory>
+    ensures { OnOk result (out.new.items ≡ out.old.items ++ (head.now ++ (spaced (decimal index) ++ (spaced (decimal number) ++ 10 ∷ [])))) }
 {
-    out.extend_from_slice(b"fault hold")?;
+    out.extend_from_slice(head)?;
     put_number(u64::from(index), out)?;
-    put_number(u64::from(by), out)?;
+    put_number(u64::from(number), out)?;
     out.push(b'\n')?;
     Ok(())
 }

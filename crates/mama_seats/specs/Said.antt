@@ -1,5 +1,6 @@
 -- inner: What a client and a publisher put in a step, as notes.
 use Rattle.std.specs.Prelude.{List, [], ◌∷◌}
+use Rattle.mama_event.specs.Wire.{market_of}
 use Rattle.mama_event.specs.declared.to_bridge.BridgeNote.{BridgeNote}
 use Rattle.mama_event.specs.declared.to_bridge.BridgeNote.TheVariants as b
 use Rattle.mama_event.specs.declared.to_timers.TimersNote.TheVariants as t
@@ -17,5 +18,5 @@ notes_in said.Done = to_timers t.ClientDone ∷ to_bridge b.ClientDone ∷ []
 
 abbrev pub notes_sent : Sent → List BridgeNote
 notes_sent sent.Nothing = []
-notes_sent (sent.Message msg) = b.Publish msg ∷ []
+notes_sent (sent.Message msg) = b.Publish (market_of msg) ∷ []
 notes_sent sent.Done = b.SendsDone ∷ []

@@ -11,13 +11,13 @@ ghost use Rattle.mama_seats.specs.Said.{notes_sent};
 
 use crate::line::next_at;
 use mama_event::{
-    MarketMsg, MsgKind, PublisherEntry, PublisherNote, Stream, Tagged, ToBridge, ToPublisher,
+    MsgKind, PublisherEntry, PublisherNote, Stream, Tagged, ToBridge, ToPublisher, WireMsg,
 };
 use mama_memory::{Duplicate, OutOfMemory, Outbox};
 use mama_msg::Msg;
 use mama_publisher::{
-    Publisher, SendFault, a_new_publisher_has_its_base, sending_a_recap, sending_an_update,
-    taking_an_event, telling_the_end_of_sends,
+    Publisher, SendFault, a_new_publisher_has_its_base, packed, packed_message, sending_a_recap,
+    sending_an_update, taking_an_event, telling_the_end_of_sends, with_body,
 };
 use mama_script::{PublisherLine, PublisherPart};
 use std::alloc::Global;
@@ -46,7 +46,7 @@ impl Model for PublisherState {
 #[derive(Drop)]
 enum Sent {
     Nothing,
-    Message(MarketMsg),
+    Message(WireMsg),
     /// It tells the bridge that it has sent all its lines.
     Done,
 }
@@ -212,6 +212,7 @@ impl PublisherState {
         ensures err { OnErr result (self.new ≡ self.old) }
     {
         self.journal.reserve(1)?;
+        let alloc = *self.journal.allocator();
         let line = next_at(lines, self.line);
         if line >= lines.len() {
             telling_the_end_of_sends();
@@ -222,8 +223,9 @@ impl PublisherState {
         }
         match &lines[line] {
             PublisherLine::Update(body) => {
+                let packet = packed(alloc, body)?;
                 let msg = match self.publisher.send(body) {
-                    Ok(msg) => msg,
+                    Ok(msg) => with_body(&msg, packet),
                     Err(SendFault::OutOfMemory | SendFault::NumbersSpent | SendFault::RecordFull) =>
                         return Err(OutOfMemory),
                 };
@@ -233,7 +235,7 @@ impl PublisherState {
                 Ok(Sent::Message(msg))
             }
             PublisherLine::Recap => {
-                let msg = self.publisher.image(MsgKind::Recap)?;
+                let msg = packed_message(alloc, &self.publisher.image(MsgKind::Recap)?)?;
                 sending_a_recap();
                 note_send(&mut self.journal);
                 self.line = line + 1;

@@ -18,10 +18,11 @@ use std::test::Fail;
 // A subscription and a timer that end each other in their callbacks. Then a journal that no run has: a message comes
 // before the subscription does, which comes twice and goes twice, and one port ends twice. It is told the first message
 // as its strategy tells it, and the gap, until it ends itself as it asks for a recap; an order ends nothing that is not
-// there.
+// there. Then bytes that spell no message, before and behind an image, and for an inbox, until the subscription is muted.
 const QUEUES: &str =
     "sub 0 market 0 4 1000|at 2 disarm t0.0|timer 0 10|at 3 stop s0.0|@b create 0 s0.0|t create 0 t0.0|t tick 0 t0.0 5|b data 0 s0.0 initial 1 7|t tick 0 t0.0 9|t gone 0 t0.0|b data 0 s0.0 initial 1 7|b gone 0 s0.0|b fin|t fin|@on s0.0|create|msg initial 1 7 ok|order disarm t0.0|destroy|on t0.0|create|tick 5|destroy|order stop s0.0|images|s0.0 ok 1 7|end|@5 q0 leave s0.0|9 q0 bye|@3 q0 disarm t0.0|9 q0 bye|
-sub 0 market 0 4 1000|at 1 disarm t0.0|at 6 stop s0.0|at 5 disarm t0.0|timer 0 10|at 2 stop s0.0|@b data 0 s0.0 initial 1 7|t create 0 t0.0|t tick 0 t0.0 5|b create 0 s0.0|b create 0 s0.0|b data 0 s0.0 update 1 9|b data 0 s0.0 initial 1 20|t tick 0 t0.0 6|b gone 0 s0.0|b gone 0 s0.0|b fin|b fin|t fin|@on s0.0|msg initial 1 7 ok|order disarm t0.0|create|create|gap 8 8|quality stale 7|order disarm t0.0|request 1|order stop s0.0|destroy|destroy|on t0.0|create|tick 5|order stop s0.0|images|s0.0 stale 1 9|end|@2 q0 leave s0.0|5 q0 recap s0.0 1|5 q0 leave s0.0|11 q0 bye|@0 q0 disarm t0.0|5 q0 disarm t0.0|11 q0 bye|";
+sub 0 market 0 4 1000|at 1 disarm t0.0|at 6 stop s0.0|at 5 disarm t0.0|timer 0 10|at 2 stop s0.0|@b data 0 s0.0 initial 1 7|t create 0 t0.0|t tick 0 t0.0 5|b create 0 s0.0|b create 0 s0.0|b data 0 s0.0 update 1 9|b data 0 s0.0 initial 1 20|t tick 0 t0.0 6|b gone 0 s0.0|b gone 0 s0.0|b fin|b fin|t fin|@on s0.0|msg initial 1 7 ok|order disarm t0.0|create|create|gap 8 8|quality stale 7|order disarm t0.0|request 1|order stop s0.0|destroy|destroy|on t0.0|create|tick 5|order stop s0.0|images|s0.0 stale 1 9|end|@2 q0 leave s0.0|5 q0 recap s0.0 1|5 q0 leave s0.0|11 q0 bye|@0 q0 disarm t0.0|5 q0 disarm t0.0|11 q0 bye|
+sub 0 market 0 4 1000|at 4 stop s0.0|inbox 0|@b create 0 s0.0|b create 1 i0.0|b bad 0 s0.0 initial 1 6 x|b data 0 s0.0 initial 1 7|b bad 0 s0.0 update 1 8 x0200|b badreply 1 i0.0 x0141|b bad 0 s0.0 update 1 9 x01|b gone 0 s0.0|b gone 1 i0.0|b fin|t fin|@on s0.0|create|error 1|msg initial 1 7 ok|error 7|order stop s0.0|destroy|on i0.0|create|error 5|destroy|images|s0.0 ok 1 7|end|@4 q0 leave s0.0|10 q0 bye|@10 q0 bye|";
 
 fn script_with(alloc: Global, lines: &str) -> Result<Script, Fail> {
     let head = "mama script 1|queues 1|topic \"A\"|client|";

@@ -1,8 +1,9 @@
 use crate::rows::message;
 use mama_event::{
     CallNote, Callback, Duplicate, Fids, InboxId, InboxTerms, MarketMsg, MsgKind, ObjectId, Order,
-    Orders, PublisherNote, Quality, Stream, SubId, SubKind, SubTerms, Tagged, TimerId, TimersNote,
-    ToBridge, ToPublisher, ToService, ToTimers, Topics,
+    Orders, Packet, Piece, PieceMsg, PublisherNote, Quality, QueueNote, Stream, SubId, SubKind,
+    SubTerms, Tagged, TimerId, TimersNote, ToBridge, ToPublisher, ToQueue, ToService, ToTimers,
+    Topics,
 };
 use mama_link::{Fault, FaultRow, Faults};
 use mama_memory::OutOfMemory;
@@ -217,5 +218,80 @@ fn events_of_timers_have_notes(rt: HostRuntime) -> Result<(), Fail> {
     for (event, note) in &ends {
         assert!(rt; note_and_end(event)? == (*note, true));
     }
+    Ok(())
+}
+
+// A reply to the inbox, and a message for the subscription, with these bytes.
+fn reply_of(alloc: Global, bytes: &[u8]) -> Result<ToQueue<ObjectId>, OutOfMemory> {
+    Ok(ToQueue::Reply {
+        slot: 4,
+        inbox: INBOX,
+        body: Piece::of_bytes(alloc, bytes)?,
+    })
+}
+
+fn deliver_of(alloc: Global, bytes: &[u8]) -> Result<ToQueue<ObjectId>, OutOfMemory> {
+    let msg = PieceMsg {
+        kind: MsgKind::Recap,
+        sender: 7,
+        seq: 9,
+        body: Piece::of_bytes(alloc, bytes)?,
+    };
+    Ok(ToQueue::Deliver {
+        slot: 3,
+        sub: SUB,
+        msg,
+    })
+}
+
+// Whether an event has this note, is read as it with this code, and is not the last.
+fn is_noted(event: &ToQueue<ObjectId>, note: QueueNote, code: u8) -> Result<bool, OutOfMemory> {
+    let (read, told) = event.read()?;
+    Ok(read == note && told == code && note_and_end(event)? == (note, false))
+}
+
+#[test]
+fn events_of_queues_have_what_they_spell(rt: HostRuntime) -> Result<(), Fail> {
+    let alloc = rt.alloc();
+    let msg = market(alloc)?;
+    let packet = Packet::pack(alloc, &msg.body)?;
+    let reply = reply_of(alloc, packet.bytes())?;
+    let deliver = deliver_of(alloc, packet.bytes())?;
+    let replied = QueueNote::Reply {
+        slot: 4,
+        inbox: INBOX,
+        body: message(alloc, "22:bid:u32:100")?,
+    };
+    assert!(rt; is_noted(&reply, replied, 0)?);
+    let delivered = QueueNote::Deliver {
+        slot: 3,
+        sub: SUB,
+        msg,
+    };
+    assert!(rt; is_noted(&deliver, delivered, 0)?);
+    Ok(())
+}
+
+// Bytes behind which one stands too many.
+const LONGER: &[u8] = &[1, 0, 0];
+
+#[test]
+fn events_of_queues_have_the_bytes_that_spell_nothing(rt: HostRuntime) -> Result<(), Fail> {
+    let alloc = rt.alloc();
+    let replied = QueueNote::BadReply {
+        slot: 4,
+        inbox: INBOX,
+        bytes: Piece::of_bytes(alloc, LONGER)?,
+    };
+    assert!(rt; is_noted(&reply_of(alloc, LONGER)?, replied, 6)?);
+    let delivered = QueueNote::Bad {
+        slot: 3,
+        sub: SUB,
+        kind: MsgKind::Recap,
+        sender: 7,
+        seq: 9,
+        bytes: Piece::of_bytes(alloc, LONGER)?,
+    };
+    assert!(rt; is_noted(&deliver_of(alloc, LONGER)?, delivered, 6)?);
     Ok(())
 }

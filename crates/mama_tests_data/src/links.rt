@@ -1,8 +1,8 @@
 //! Outboxes, the rows of links, and what links let through.
 
 use crate::rows::{number, numbered};
-use mama_link::{Fault, FaultRow, Faults, FaultsFault, Link};
-use mama_memory::{OutOfMemory, Outbox};
+use mama_link::{Cuttable, Fault, FaultRow, Faults, FaultsFault, Link};
+use mama_memory::{Duplicate, OutOfMemory, Outbox};
 use std::alloc::Global;
 use std::process::Abort;
 use std::test::Fail;
@@ -29,6 +29,8 @@ fn fault_of(word: &str, by: u32) -> Fault {
         Fault::Lose
     } else if word == "dup" {
         Fault::Dup
+    } else if word == "cut" {
+        Fault::Cut(by)
     } else {
         Fault::Hold(by)
     }
@@ -87,17 +89,47 @@ fn the_rows_stay_in_their_order(rt: HostRuntime) -> Result<(), Fail> {
     Ok(())
 }
 
-fn link_of(alloc: Global, text: &str) -> Result<Link<u32>, Fail> {
+// A message of four bytes, of which some may be left.
+#[derive(Clone, Copy, Drop)]
+struct Item {
+    number: u32,
+    left: u32,
+}
+
+fn make_item(number: u32) -> Item {
+    Item { number, left: 4 }
+}
+
+impl Duplicate for Item {
+    fn try_clone(&self) -> Result<Item, OutOfMemory> {
+        Ok(*self)
+    }
+}
+
+impl Cuttable for Item {
+    ghost use Rattle.mama_tests_data.specs.Item.{with_left};
+
+    ghost cut_to = { with_left };
+
+    fn cut(&mut self, keep: u32) {
+        self.left = self.left.min(keep);
+    }
+}
+
+fn link_of(alloc: Global, text: &str) -> Result<Link<Item>, Fail> {
     let faults = Faults::new(alloc, rows_of(alloc, text)?)?;
     Ok(Link::new(alloc, faults))
 }
 
-// What an outbox has, each number after a space.
-fn drained(alloc: Global, out: &mut Outbox<u32>) -> Result<String, Fail> {
+// What an outbox has, each number after a space, and behind it how many bytes are left where some are not.
+fn drained(alloc: Global, out: &mut Outbox<Item>) -> Result<String, Fail> {
     let mut text = String::new(alloc);
     for _ in 0..out.len() {
         if let Some(item) = out.take_first() {
-            text.push_str(format!(in alloc; " {item}")?.as_str())?;
+            text.push_str(format!(in alloc; " {}", item.number)?.as_str())?;
+            if item.left < 4 {
+                text.push_str(format!(in alloc; "/{}", item.left)?.as_str())?;
+            }
         }
     }
     Ok(text)
@@ -108,7 +140,7 @@ fn through(rt: &impl Abort, alloc: Global, rows: &str) -> Result<String, Fail> {
     let mut link = link_of(alloc, rows)?;
     let mut out = Outbox::new(alloc);
     for number in 1..=3 {
-        assert!(rt; link.pass(number, &mut out).is_ok());
+        assert!(rt; link.pass(make_item(number), &mut out).is_ok());
     }
     assert!(rt; link.finish(&mut out).is_ok());
     drained(alloc, &mut out)
@@ -116,7 +148,7 @@ fn through(rt: &impl Abort, alloc: Global, rows: &str) -> Result<String, Fail> {
 
 // The messages go in order but for the rows. Then held ones come after the own output of the place where they are due:
 // past a held, a lost and a repeated message; two at one place; and those that are never due at the end, in the order of
-// their numbers.
+// their numbers. A cut message stands in its place, and one that has no more bytes than are kept is whole.
 const PASSES: &str = "= 1 2 3
 lose 2= 1 3
 dup 2= 1 2 2 3
@@ -129,7 +161,11 @@ hold 1 1,lose 2= 1 3
 hold 1 1,dup 2= 2 2 1 3
 hold 2 1,hold 1 2= 3 1 2
 hold 1 9,hold 2 3= 3 1 2
-hold 3 1,hold 1 1= 2 1 3";
+hold 3 1,hold 1 1= 2 1 3
+cut 2 3= 1 2/3 3
+cut 2 0,dup 3= 1 2/0 3 3
+cut 1 4,cut 2 65535= 1 2 3
+hold 1 1,cut 2 1= 2/1 1 3";
 
 #[test]
 fn messages_pass_in_order_but_for_the_rows(rt: HostRuntime) -> Result<(), Fail> {
@@ -145,7 +181,7 @@ fn what_was_prepared_passes(rt: HostRuntime) -> Result<(), Fail> {
     let mut link = link_of(rt.alloc(), "hold 1 2,hold 2 1,dup 3")?;
     let mut out = Outbox::new(rt.alloc());
     for (number, len, held) in [(1, 0, 1), (2, 0, 2), (3, 4, 0), (4, 1, 0)] {
-        let prepared = link.prepare(&number)?;
+        let prepared = link.prepare(&make_item(number))?;
         assert_eq!(rt; (prepared.len(), prepared.is_empty()), (len, len == 0));
         out.reserve(prepared.len())?;
         link.pass_prepared(prepared, &mut out);
@@ -156,11 +192,11 @@ fn what_was_prepared_passes(rt: HostRuntime) -> Result<(), Fail> {
 }
 
 // The sum of the numbers that an outbox has.
-fn sum(out: &mut Outbox<u32>) -> u64 {
+fn sum(out: &mut Outbox<Item>) -> u64 {
     let mut sum = 0u64;
     for _ in 0..out.len() {
         if let Some(item) = out.take_first() {
-            sum = sum.wrapping_add(u64::from(item));
+            sum = sum.wrapping_add(u64::from(item.number));
         }
     }
     sum
@@ -178,7 +214,7 @@ fn many_messages_pass_by_many_rows(rt: HostRuntime) -> Result<(), Fail> {
     let mut link = Link::new(rt.alloc(), Faults::new(rt.alloc(), rows)?);
     let mut out = Outbox::new(rt.alloc());
     for number in 1..=100_000u32 {
-        assert!(rt; link.pass(number, &mut out).is_ok());
+        assert!(rt; link.pass(make_item(number), &mut out).is_ok());
     }
     assert!(rt; link.finish(&mut out).is_ok());
     assert_eq!(rt; sum(&mut out), 5_000_050_000);

@@ -14,4 +14,6 @@ mod scripts;
 #[cfg(test)]
 mod soaks;
 #[cfg(test)]
+mod storm;
+#[cfg(test)]
 mod words;

@@ -10,8 +10,8 @@ use std::sync::Wait;
 use std::test::Fail;
 use std::thread::Threads;
 
-// Room for what a command writes.
-const ROOM: usize = 1_000_000;
+// Room for what a command writes. A storm's log has at most 25,000,000 bytes, where each subscription hears each update.
+const ROOM: usize = 30_000_000;
 
 // The words of a command line; none are in an empty text.
 fn words_of(alloc: Global, text: &str) -> Result<Vec<String>, AllocError> {

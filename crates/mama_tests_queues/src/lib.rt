@@ -1,6 +1,9 @@
-//! The tests of what queues do: the strategy of a subscription, listeners and their plans, and the serving of a queue.
+//! The tests of what queues do: the strategy of a subscription, listeners and their plans, and the serving of a queue,
+//! with bytes that spell no message among what it takes.
 #![tactic(auto)]
 
+#[cfg(test)]
+mod broken;
 #[cfg(test)]
 mod notes;
 // not of the tests alone, since specs/ names its struct

@@ -1,6 +1,6 @@
 use crate::orderer::Orderer;
 use mama_dispatch::{Listener, ObjectId, Order, QueueNote, Serving, ToQueue, ToService, Turn};
-use mama_event::{Make, MarketMsg, MsgKind, Strategy, SubId, SubKind};
+use mama_event::{Make, MarketMsg, MsgKind, Strategy, SubId, SubKind, WireMsg};
 use mama_memory::Outbox;
 use mama_msg::Msg;
 use std::alloc::Global;
@@ -32,17 +32,18 @@ fn made(number: u32, kind: SubKind) -> ToQueue<Orderer> {
 }
 
 // A message with no fields.
-fn message<L>(alloc: Global, number: u32, kind: MsgKind, seq: u32) -> ToQueue<L> {
-    ToQueue::Deliver {
+fn message<L>(alloc: Global, number: u32, kind: MsgKind, seq: u32) -> Result<ToQueue<L>, Fail> {
+    let msg = MarketMsg {
+        kind,
+        sender: 1,
+        seq,
+        body: Msg::new(alloc),
+    };
+    Ok(ToQueue::Deliver {
         slot: number,
         sub: sub(number),
-        msg: MarketMsg {
-            kind,
-            sender: 1,
-            seq,
-            body: Msg::new(alloc),
-        },
-    }
+        msg: WireMsg::of(alloc, &msg)?.into_piece(),
+    })
 }
 
 fn gone<L>(number: u32) -> ToQueue<L> {
@@ -92,10 +93,10 @@ fn four(alloc: Global) -> Result<Serving<Orderer>, Fail> {
     let _turn = take(&mut serving, 1, made(2, SubKind::Basic), &mut out)?;
     let _turn = take(&mut serving, 1, made(3, SubKind::Market), &mut out)?;
     for (number, seq) in [(0, 7), (1, 9), (2, 5)] {
-        let image = message(alloc, number, MsgKind::Initial, seq);
+        let image = message(alloc, number, MsgKind::Initial, seq)?;
         let _turn = take(&mut serving, 1, image, &mut out)?;
     }
-    let update = message(alloc, 0, MsgKind::Update, 9);
+    let update = message(alloc, 0, MsgKind::Update, 9)?;
     let _turn = take(&mut serving, 1, update, &mut out)?;
     for number in [1, 2, 0, 3] {
         let _turn = take(&mut serving, 1, gone(number), &mut out)?;

@@ -4,8 +4,8 @@ use mama_dispatch::{
     ImageHead, Listener, ObjectId, Order, Orders, Serving, ToQueue, ToService, Turn,
 };
 use mama_event::{
-    Make, MarketMsg, MsgKind, PlanRow, Quality, Strategy, SubId, SubKind, Tagged, TimerId,
-    ToBridge, ToTimers,
+    Make, MarketMsg, MsgKind, Piece, PieceMsg, PlanRow, Quality, Strategy, SubId, SubKind, Tagged,
+    TimerId, ToBridge, ToTimers, WireMsg,
 };
 use mama_listener::{PlanListener, has_few_rows};
 use mama_memory::Outbox;
@@ -52,17 +52,33 @@ fn create(
 }
 
 // A message with no fields for the subscription.
-fn deliver<L>(alloc: Global, kind: MsgKind, seq: u32) -> ToQueue<L> {
-    ToQueue::Deliver {
+fn deliver<L>(alloc: Global, kind: MsgKind, seq: u32) -> Result<ToQueue<L>, Fail> {
+    let msg = MarketMsg {
+        kind,
+        sender: 1,
+        seq,
+        body: Msg::new(alloc),
+    };
+    Ok(ToQueue::Deliver {
         slot: 0,
         sub: SUB,
-        msg: MarketMsg {
-            kind,
-            sender: 1,
-            seq,
-            body: Msg::new(alloc),
-        },
-    }
+        msg: WireMsg::of(alloc, &msg)?.into_piece(),
+    })
+}
+
+// A message for the subscription of which a cut left one byte.
+fn broken<L>(alloc: Global, seq: u32) -> Result<ToQueue<L>, Fail> {
+    let msg = PieceMsg {
+        kind: MsgKind::Update,
+        sender: 1,
+        seq,
+        body: Piece::of_bytes(alloc, &[1])?,
+    };
+    Ok(ToQueue::Deliver {
+        slot: 0,
+        sub: SUB,
+        msg,
+    })
 }
 
 // Takes an event that may come. What the turn was comes as a letter and a number.
@@ -107,10 +123,12 @@ fn a_muted_subscription_gets_its_notice_alone(rt: HostRuntime) -> Result<(), Fai
     let mut out = Outbox::new(alloc);
     let event = create(&rt, alloc, SubKind::Basic, 2)?;
     assert_eq!(rt; took(&rt, &mut serving, event, &mut out)?, ('c', 1));
-    let first = deliver(alloc, MsgKind::Initial, 0);
+    let first = deliver(alloc, MsgKind::Initial, 0)?;
     assert_eq!(rt; took(&rt, &mut serving, first, &mut out)?, ('c', 1));
-    let second = deliver(alloc, MsgKind::Update, 1);
+    let second = deliver(alloc, MsgKind::Update, 1)?;
     assert_eq!(rt; took(&rt, &mut serving, second, &mut out)?, ('m', 0));
+    let third = broken(alloc, 2)?;
+    assert_eq!(rt; took(&rt, &mut serving, third, &mut out)?, ('m', 0));
     let gone = ToQueue::Gone {
         slot: 0,
         object: OBJECT,
@@ -119,7 +137,7 @@ fn a_muted_subscription_gets_its_notice_alone(rt: HostRuntime) -> Result<(), Fai
     assert_eq!(rt; put_letter(out.take_first()), 'l');
     assert!(rt; out.is_empty());
     assert_eq!(rt; serving.calls_of(&OBJECT)?.len(), 3);
-    assert_eq!(rt; serving.into_journal().len(), 4);
+    assert_eq!(rt; serving.into_journal().len(), 5);
     Ok(())
 }
 
@@ -146,7 +164,7 @@ fn a_live_market_subscription_has_an_image(rt: HostRuntime) -> Result<(), Fail> 
     let event = create(&rt, alloc, SubKind::Market, 9)?;
     let _made = took(&rt, &mut serving, event, &mut out)?;
     assert!(rt; serving.row(SUB).is_none());
-    let first = deliver(alloc, MsgKind::Initial, 7);
+    let first = deliver(alloc, MsgKind::Initial, 7)?;
     let _first = took(&rt, &mut serving, first, &mut out)?;
     let wanted = ImageHead {
         sender: 1,
@@ -230,7 +248,7 @@ fn one_that_lives_is_stopped_by_another(rt: HostRuntime) -> Result<(), Fail> {
     let mut out = Outbox::new(alloc);
     let _live = took(&rt, &mut serving, quiet(), &mut out)?;
     let _armed = took(&rt, &mut serving, arm(Order::Stop(SUB), 2, 8), &mut out)?;
-    let first = deliver(alloc, MsgKind::Initial, 0);
+    let first = deliver(alloc, MsgKind::Initial, 0)?;
     assert_eq!(rt; took(&rt, &mut serving, first, &mut out)?, ('c', 1));
     assert!(rt; out.is_empty());
     assert_eq!(rt; took(&rt, &mut serving, tick(), &mut out)?, ('c', 1));
@@ -238,7 +256,7 @@ fn one_that_lives_is_stopped_by_another(rt: HostRuntime) -> Result<(), Fail> {
         assert_eq!(rt; put_letter(out.take_first()), 'l');
     }
     assert!(rt; out.is_empty());
-    let second = deliver(alloc, MsgKind::Update, 1);
+    let second = deliver(alloc, MsgKind::Update, 1)?;
     assert_eq!(rt; took(&rt, &mut serving, second, &mut out)?, ('m', 0));
     Ok(())
 }
@@ -250,7 +268,7 @@ fn one_that_comes_later_is_not_stopped(rt: HostRuntime) -> Result<(), Fail> {
     let mut out = Outbox::new(alloc);
     let _armed = took(&rt, &mut serving, arm(Order::Stop(SUB), 1, 1), &mut out)?;
     let _live = took(&rt, &mut serving, quiet(), &mut out)?;
-    let first = deliver(alloc, MsgKind::Initial, 0);
+    let first = deliver(alloc, MsgKind::Initial, 0)?;
     assert_eq!(rt; took(&rt, &mut serving, first, &mut out)?, ('c', 1));
     Ok(())
 }

@@ -1,6 +1,6 @@
-//! One log, damaged in one line at a time: which rule is broken first, and by whom.
+//! Logs, damaged in one line at a time: which rule is broken first, and by whom.
 
-use crate::played::{add_row, is_causal, is_judged};
+use crate::played::{ROOM, add_row, is_causal, is_judged, log_of};
 use mama_check::Actor;
 use mama_event::{InboxId, ObjectId, SubId, TimerId};
 use mama_plain::Status;
@@ -176,11 +176,11 @@ fn status_of(rule: &str, word: &str) -> Result<Status, Fail> {
     })
 }
 
-// Whether a log is told to break this rule first, by this actor.
-fn breaks(alloc: Global, log: &[u8], rule: &str, word: &str) -> Result<bool, Fail> {
+// Whether a log of a script is told to break this rule first, by this actor.
+fn breaks(alloc: Global, script: &[u8], log: &[u8], rule: &str, word: &str) -> Result<bool, Fail> {
     let verdict = format!(in alloc; "not legal L{rule} {word}\n")?;
     let status = status_of(rule, word)?;
-    is_judged(alloc, SCRIPT.as_bytes(), log, status, verdict.as_str())
+    is_judged(alloc, script, log, status, verdict.as_str())
 }
 
 // Whether a damage is told with its rule and its actor.
@@ -189,7 +189,7 @@ fn is_told(alloc: Global, row: &str) -> Result<bool, Fail> {
     let (place, rest) = head.split_once(' ').ok_or("a place")?;
     let (rule, word) = rest.split_once(' ').ok_or("a rule")?;
     let log = log_with(alloc, place.parse::<usize>().unwrap_or(0), lines)?;
-    breaks(alloc, &log, rule, word)
+    breaks(alloc, SCRIPT.as_bytes(), &log, rule, word)
 }
 
 fn is_whole(alloc: Global) -> Result<bool, Fail> {
@@ -202,6 +202,65 @@ fn each_damage_is_told_with_its_rule_and_its_actor(rt: HostRuntime) -> Result<()
     assert!(rt; is_whole(rt.alloc())?);
     for row in DAMAGES.lines() {
         assert!(rt; is_told(rt.alloc(), row)?, "{row}");
+    }
+    Ok(())
+}
+
+// A subscription whose link cuts an update, and an inbox whose link cuts a reply.
+const CUT_SUB: &str =
+    r#"mama script 1|queues 1|topic "T"|publisher 0 22:bid:u32:100|update 22:bid:u32:101|update 25:ask:u32:103|update 22:bid:u32:102|client|sub 0 market 0 10 1000|fault cut 3 5|"#;
+
+const CUT_INBOX: &str =
+    r#"mama script 1|queues 1|topic "T"|publisher 0 22:bid:u32:100|client|inbox 0|fault cut 1 2|ask i0.0 0 22|"#;
+
+// The rule that is broken first and by whom, a line that the log has once, and what stands in its place, which may be
+// nothing or several lines. In order: an error with another code, none, and one that is told twice; bytes that another cut
+// leaves, and the message whole, behind which no queue asks for the recap that the bridge took.
+const SUB_DAMAGES: &str = "5 s0.0@error 1@error 2|
+5 s0.0@error 1@
+5 s0.0@error 1@error 1|error 1|
+3 q0@b bad 0 s0.0 update 1 2 x0101090019@b bad 0 s0.0 update 1 2 x01010900|
+3 b@b bad 0 s0.0 update 1 2 x0101090019@b data 0 s0.0 update 1 2 25:ask:u32:103|";
+
+// The same of the inbox.
+const INBOX_DAMAGES: &str = "7 i0.0@error 1@error 2|
+7 i0.0@error 1@
+7 i0.0@error 1@reply|
+3 q0@b badreply 0 i0.0 x0101@b badreply 0 i0.0 x01|
+3 q0@b badreply 0 i0.0 x0101@b reply 0 i0.0 22:bid:u32:100|";
+
+// A log with another text in place of each line like this.
+fn log_damaged(alloc: Global, whole: &[u8], damaged: &str, row: &str) -> Result<Vec<u8>, Fail> {
+    let mut log = Vec::new(alloc);
+    for line in str::from_utf8(whole).ok().ok_or("a text")?.lines() {
+        if line == damaged {
+            add_row(&mut log, row)?;
+        } else {
+            add_line(&mut log, line)?;
+        }
+    }
+    Ok(log)
+}
+
+// Whether a damage of what a script writes is told with its rule and its actor. That is legal where nothing is damaged.
+fn is_told_of(alloc: Global, lines: &str, row: &str) -> Result<bool, Fail> {
+    let (head, rest) = row.split_once('@').ok_or("a line")?;
+    let (rule, word) = head.split_once(' ').ok_or("a rule")?;
+    let (damaged, other) = rest.split_once('@').ok_or("another line")?;
+    let mut script = Vec::new(alloc);
+    add_row(&mut script, lines)?;
+    let whole = log_of(alloc, &script, Vec::new(alloc), ROOM)?;
+    let log = log_damaged(alloc, &whole, damaged, other)?;
+    Ok(is_causal(alloc, &script, &whole)? && breaks(alloc, &script, &log, rule, word)?)
+}
+
+#[test]
+fn each_damage_of_what_was_cut_is_told(rt: HostRuntime) -> Result<(), Fail> {
+    for row in SUB_DAMAGES.lines() {
+        assert!(rt; is_told_of(rt.alloc(), CUT_SUB, row)?, "{row}");
+    }
+    for row in INBOX_DAMAGES.lines() {
+        assert!(rt; is_told_of(rt.alloc(), CUT_INBOX, row)?, "{row}");
     }
     Ok(())
 }

@@ -1,7 +1,7 @@
 use crate::lanes::Lanes;
 use crate::rows::{is_log, names_in, parted, record_of, script_of, with_word, worded};
 use mama_bridge::{Bridge, BridgeOut, MemoryBridge};
-use mama_event::{BridgeNote, ObjectId, Shape, ToBridge, Took};
+use mama_event::{BridgeNote, ObjectId, Packet, Shape, ToBridge, Took, WireMsg};
 use mama_log_line::{Names, bridge_entry_in};
 use mama_memory::{OutOfMemory, Outbox};
 use mama_record::RunRecord;
@@ -253,6 +253,45 @@ images
 end
 ";
 
+// A link cuts what passes it, and a payload that is as long as the cut is whole. The payload of the first message is
+// 01 01 07 0001 01 61 01.
+const CUTS: &str = "mama script 1
+queues 1
+topic \"A\"
+#publisher 0 1:a:u8:1
+client
+sub 0 market 0 10 2
+fault cut 1 8
+fault cut 2 7
+fault hold 3 1
+inbox 0
+fault cut 1 0
+fault dup 2
+#c0 join s0.0
+c0 open i0.0
+p0 image s0.0 initial 1 0 1:a:u8:1
+p0 publish update 1 1 1:a:u8:2
+p0 publish update 1 2 1:a:u8:3
+p0 publish update 1 3 1:a:u8:4
+p0 reply i0.0 1:a:u8:1
+p0 reply i0.0 1:a:u8:2
+#publisher 0
+want s0.0 initial
+#timers
+queue 0
+b create 0 s0.0
+b create 1 i0.0
+b data 0 s0.0 initial 1 0 1:a:u8:1
+b bad 0 s0.0 update 1 1 x01010700010161
+b data 0 s0.0 update 1 3 1:a:u8:4
+b data 0 s0.0 update 1 2 1:a:u8:3
+b badreply 1 i0.0 x
+b reply 1 i0.0 1:a:u8:2
+b reply 1 i0.0 1:a:u8:2
+images
+end
+";
+
 // An event that its kind of port never puts does nothing, nor does a client's for an object of another.
 const NO_EVENTS: &str = "mama script 1
 queues 1
@@ -289,8 +328,8 @@ end
 ";
 
 // The event that has this note, with a listener of its tag.
-fn event_of(note: BridgeNote) -> ToBridge<ObjectId> {
-    match note {
+fn event_of(alloc: Global, note: BridgeNote) -> Result<ToBridge<ObjectId>, Fail> {
+    let event = match note {
         BridgeNote::Join { sub, terms, tag } => ToBridge::Join {
             sub,
             terms,
@@ -301,9 +340,17 @@ fn event_of(note: BridgeNote) -> ToBridge<ObjectId> {
             terms,
             listener: tag,
         },
-        BridgeNote::Publish { msg } => ToBridge::Publish { msg },
-        BridgeNote::Image { sub, msg } => ToBridge::Image { sub, msg },
-        BridgeNote::Reply { inbox, body } => ToBridge::Reply { inbox, body },
+        BridgeNote::Publish { msg } => ToBridge::Publish {
+            msg: WireMsg::of(alloc, &msg)?,
+        },
+        BridgeNote::Image { sub, msg } => ToBridge::Image {
+            sub,
+            msg: WireMsg::of(alloc, &msg)?,
+        },
+        BridgeNote::Reply { inbox, body } => ToBridge::Reply {
+            inbox,
+            body: Packet::pack(alloc, &body)?,
+        },
         BridgeNote::Leave { sub } => ToBridge::Leave { sub },
         BridgeNote::CloseInbox { inbox } => ToBridge::CloseInbox { inbox },
         BridgeNote::Ask { inbox, topic, fids } => ToBridge::Ask { inbox, topic, fids },
@@ -312,7 +359,8 @@ fn event_of(note: BridgeNote) -> ToBridge<ObjectId> {
         BridgeNote::SendsDone => ToBridge::SendsDone,
         BridgeNote::Settled => ToBridge::Settled,
         BridgeNote::Bye => ToBridge::Bye,
-    }
+    };
+    Ok(event)
 }
 
 type Entry = Option<(u32, BridgeNote)>;
@@ -401,13 +449,14 @@ fn offered(
 
 // Takes an event. It tells whether that was the last.
 fn take(
+    alloc: Global,
     bridge: &mut MemoryBridge<ObjectId>,
     entry: (u32, BridgeNote),
     out: &mut Out,
-) -> Result<bool, OutOfMemory> {
-    match offered(bridge, entry.0, event_of(entry.1), out) {
+) -> Result<bool, Fail> {
+    match offered(bridge, entry.0, event_of(alloc, entry.1)?, out) {
         Ok(took) => Ok(took == Took::Ended),
-        Err(_) => Err(OutOfMemory),
+        Err(_) => Err(Fail::new("no memory")),
     }
 }
 
@@ -424,7 +473,7 @@ fn deal(lanes: &mut Lanes, out: &mut Out) -> Result<(), OutOfMemory> {
 fn take_line(alloc: Global, world: &mut World, line: &str) -> Result<bool, Fail> {
     let entry = entry_of(alloc, &world.names, line)?;
     let mut out = Outbox::new(alloc);
-    let ended = take(&mut world.bridge, entry, &mut out)?;
+    let ended = take(alloc, &mut world.bridge, entry, &mut out)?;
     deal(&mut world.lanes, &mut out)?;
     Ok(ended)
 }
@@ -523,6 +572,12 @@ fn the_least_slot_of_a_queue_is_given(rt: HostRuntime) -> Result<(), Fail> {
 #[test]
 fn what_a_link_holds_comes_before_the_notice(rt: HostRuntime) -> Result<(), Fail> {
     assert!(rt; is_so(rt.alloc(), LINKS)?);
+    Ok(())
+}
+
+#[test]
+fn a_link_cuts_what_passes_it(rt: HostRuntime) -> Result<(), Fail> {
+    assert!(rt; is_so(rt.alloc(), CUTS)?);
     Ok(())
 }
 

@@ -1,4 +1,4 @@
-//! Each limit of a script, reached and passed by one more.
+//! Limits of a script that its clients have, and of plans, reached and passed by one more.
 
 use crate::rows::{numbered, text_of};
 use mama_script::{ScriptFault, parse};
@@ -8,11 +8,6 @@ use std::test::Fail;
 // The line at which the limit is passed, or 0; the limit; and a text, whose third part is a line that stands as often as
 // the second says.
 const LIMITS: &str = "0 0 mama script 1|queues 64|#64#client|#
-2 2 mama script 1|queues 65|#1#client|#
-0 0 mama script 1|queues 1|#1024#topic \"A\"|#client|
-1027 3 mama script 1|queues 1|#1025#topic \"A\"|#client|
-0 0 mama script 1|queues 1|topic \"A\"|#1024#publisher 0|#client|
-1028 4 mama script 1|queues 1|topic \"A\"|#1025#publisher 0|#client|
 67 5 mama script 1|queues 1|#65#client|#
 0 0 mama script 1|queues 1|topic \"T\"|client|#10000#sub 0 market 0 10 1000|#
 10005 6 mama script 1|queues 1|topic \"T\"|client|#10001#sub 0 market 0 10 1000|#

@@ -209,6 +209,7 @@ fn timers_are_armed_with_the_terms_of_the_script(rt: HostRuntime) -> Result<(), 
     Ok(())
 }
 
+// Of what spells no message a line tells the bytes: as many as there are, none among them, but none that spell one.
 const QUEUES: &str = "1 b create 0 s0.0
 1 b create 4294967295 i1.0
 1 b data 0 s1.0 update 1 1
@@ -219,6 +220,19 @@ const QUEUES: &str = "1 b create 0 s0.0
 1 t tick 0 t0.0 5
 1 t gone 0 t0.0
 1 t fin
+1 b bad 0 s0.0 update 1 2 x0101090019
+1 b bad 0 s0.0 initial 1 0 x
+1 b badreply 1 i1.0 x0141
+0 b bad 0 s0.0 update 1 2 x0100
+0 b bad 0 s0.0 update 1 2 0100
+0 b bad 0 s0.0 update 1 2 x0
+0 b bad 0 s0.0 update 1 2 xAA
+0 b bad 0 s0.0 update 1 2
+0 b bad 0 i1.0 update 1 2 x
+0 b badreply 1 i1.0 x0100
+0 b badreply 1 i1.0 x01000
+0 b badreply 1 s0.0 x
+0 t bad 0 s0.0 update 1 2 x
 0 b create 0 t0.0
 0 t create 0 s0.0
 0 b tick 0 t0.0 5
@@ -278,10 +292,14 @@ const SUB_CALLS: &str = "1 create
 0 create 1";
 
 const TIMER_CALLS: &str = "1 tick 0
+0 error 1
 0 reply";
 
 const INBOX_CALLS: &str = "1 reply
 1 reply 1:p:u32:6
+1 error 1
+0 error 256
+0 error
 0 gap 2 3";
 
 // Whether each row says rightly whether the object may hear the call.

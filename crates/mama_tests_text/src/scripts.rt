@@ -6,7 +6,7 @@ use std::test::Fail;
 
 // A script with each kind of line, its numbers at the ends of their ranges, and smaller ones.
 const ACCEPTED: &str =
-    r#"mama script 1|queues 2|topic "A \"b\" \\"|topic "B"|publisher 1 1:bid:u32:7 0:n:text:"x y"|update|update 1:bid:u32:8|recap|pause 1000000|publisher 0|client|sub 0 market any 4096 1000000|fault lose 1|fault dup 2|fault hold 3 4294967295|at 1 ask i1.0 1 1 2 65535|at 1 stop s0.1|sub 1 snapshot 1 0 0|timer 0 4294967295|at 4294967295 disarm t0.0|inbox any|at 2 close i1.0|now 9223372036854775807|now clock|pause 1|stop s0.0|client|inbox 1|fault hold 1 1|ask i0.0 0 5|
+    r#"mama script 1|queues 2|topic "A \"b\" \\"|topic "B"|publisher 1 1:bid:u32:7 0:n:text:"x y"|update|update 1:bid:u32:8|recap|pause 1000000|publisher 0|client|sub 0 market any 4096 1000000|fault lose 1|fault dup 2|fault hold 3 4294967295|fault cut 4 0|fault cut 5 65535|at 1 ask i1.0 1 1 2 65535|at 1 stop s0.1|sub 1 snapshot 1 0 0|timer 0 4294967295|at 4294967295 disarm t0.0|inbox any|at 2 close i1.0|now 9223372036854775807|now clock|pause 1|stop s0.0|client|inbox 1|fault hold 1 1|ask i0.0 0 5|
 mama script 1|queues 1|topic "EQ.ABC"|publisher 0 22:bid:u32:100|update 22:bid:u32:101|update 25:ask:u32:103|update 22:bid:u32:102|client|sub 0 market 0 10 1000|
 mama script 1|queues 64|client|
 mama script 1|queues 1|client|client|pause 3|"#;
@@ -64,7 +64,7 @@ fn is_first_sub(line: &ClientLine) -> bool {
                 && *queue == QueueWord::Any
                 && *cache == 4096
                 && *recaps == 1_000_000
-                && faults.rows().len() == 3
+                && faults.rows().len() == 5
                 && plan.rows().len() == 2
         }
         _ => false,
@@ -110,6 +110,13 @@ const REFUSED: &str = r#"1 1
 4 9 mama script 1|queues 1|client|timer 1 0|
 5 3 mama script 1|queues 1|client|timer 0 1|fault lose 1|
 6 11 mama script 1|queues 1|client|inbox 0|fault lose 1|fault dup 1|
+6 11 mama script 1|queues 1|client|inbox 0|fault cut 1 0|fault lose 1|
+5 3 mama script 1|queues 1|client|timer 0 1|fault cut 1 0|
+5 4 mama script 1|queues 1|client|inbox 0|fault cut 1|
+5 4 mama script 1|queues 1|client|inbox 0|fault lose 1 1|
+5 5 mama script 1|queues 1|client|inbox 0|fault cut 0 1|
+5 5 mama script 1|queues 1|client|inbox 0|fault cut 1 01|
+5 5 mama script 1|queues 1|client|inbox 0|fault cut 1 65536|
 5 4 mama script 1|queues 1|client|inbox 0|at 0 halt|
 5 5 mama script 1|queues 1|client|inbox 0|at 0 stop s0.0|
 5 5 mama script 1|queues 1|client|stop s0.0|pause 0|

@@ -3,8 +3,8 @@ use mama_event::{MsgKind, ObjectId, Order, Quality, SubId, SubKind};
 use mama_memory::OutOfMemory;
 use mama_msg::Msg;
 use mama_words::{
-    Nums, ReadError, parted, print_fields, print_msg_kind, print_object_id, print_order,
-    print_quality, print_sub_kind, read_message, read_order,
+    Nums, ReadError, parted, print_block, print_fields, print_msg_kind, print_object_id,
+    print_order, print_quality, print_sub_kind, read_block, read_message, read_order,
 };
 use std::alloc::Global;
 use std::test::Fail;
@@ -157,6 +157,33 @@ fn fields_are_printed_as_they_were_read(rt: HostRuntime) -> Result<(), Fail> {
     Ok(())
 }
 
+// Bytes in their one spelling, of any number.
+const BLOCKS: &str = "x
+x00
+x0101090019ff
+x000102030405060708090a0b0c0d0e0f101112131415161718191a1b1c1d1e1f202122232425262728292a2b2c2d2e2f303132333435363738393a3b3c3d3e3f";
+
+fn block_again(alloc: Global, word: &str) -> Result<Vec<u8>, Fail> {
+    let block = read_block(alloc, word.as_bytes())?;
+    let mut out = Vec::new(alloc);
+    print_block(&block, &mut out)?;
+    Ok(out)
+}
+
+#[test]
+fn blocks_are_printed_as_they_were_read(rt: HostRuntime) -> Result<(), Fail> {
+    for word in BLOCKS.lines() {
+        let out = block_again(rt.alloc(), word)?;
+        assert!(rt; out.as_slice() == word.as_bytes(), "{word}");
+    }
+    for word in ["", "00", "x0", "xFF", "x0g", "X00", "x00 "] {
+        assert_eq!(rt; told(read_block(rt.alloc(), word.as_bytes()))?, 7, "{word}");
+    }
+    let block = read_block(rt.alloc(), b"x0a10ff")?;
+    assert_eq!(rt; block.as_slice(), [10, 16, 255].as_slice());
+    Ok(())
+}
+
 #[test]
 fn printers_append(rt: HostRuntime) -> Result<(), Fail> {
     let mut out = Vec::new(rt.alloc());
@@ -170,9 +197,10 @@ fn printers_append(rt: HostRuntime) -> Result<(), Fail> {
     print_object_id(ObjectId::Sub(id), &mut out)?;
     print_order(&Order::Stop(id), &mut out)?;
     print_fields(&Msg::new(rt.alloc()), &mut out)?;
+    print_block(&[1], &mut out)?;
     assert_eq!(rt;
         out.as_slice(),
-        b"basicrecapstales3.4294967295stop s3.4294967295".as_slice()
+        b"basicrecapstales3.4294967295stop s3.4294967295x01".as_slice()
     );
     Ok(())
 }

@@ -194,6 +194,9 @@ value_piece (values.Price p) h = piece_append (int_decimal p.mantissa) (47 ∷ d
 value_piece (values.Moment n) h = decimal_piece n h
 value_piece (values.Numbers zs) h = piece_cons 91 (with_commas zs ++ 93 ∷ []) refl (piece_append (with_commas zs) (93 ∷ []) (list_piece zs h.within) (piece_simple (93 ∷ []) refl))
 
+pub block_word : (bs : List ℕ) → list_all (λ b. nat_lt b (2 ^ 8)) bs ≡ true → IsWord (bytes_text bs)
+block_word bs h = word_cons 120 (flat_map hex_pair bs) refl (hex_piece bs h)
+
 type_piece : (t : ValueType) → IsPiece (type_text t)
 type_piece types.Bool = piece_simple _ refl
 type_piece types.Char = piece_simple _ refl

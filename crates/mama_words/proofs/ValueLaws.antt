@@ -16,7 +16,7 @@ use Rattle.mama_words.specs.Parting.{cut_at}
 use Rattle.mama_words.specs.Number.{number_in, below_in, int_in, is_within}
 use Rattle.mama_words.specs.Quote.{quoted_in}
 use Rattle.mama_words.specs.NumberList.{numbers_in}
-use Rattle.mama_words.specs.Value.{type_of, value_text, value_in, IsValue, bool_in, bool_text, hex_pair, bytes_text, price_text, digit_in, pair_in, onto, hex_in, if_short, bytes_in, if_text, text_in, price_of, price_in}
+use Rattle.mama_words.specs.Value.{type_of, value_text, value_in, IsValue, bool_in, bool_text, hex_pair, bytes_text, price_text, digit_in, pair_in, onto, hex_in, if_short, bytes_in, block_in, if_text, text_in, price_of, price_in}
 use Rattle.mama_edge.specs.Quoted.{quoted}
 use Rattle.mama_words.proofs.Choices.{some_is, chosen, chosen_some, chosen_other, map_some, and_then_some, same_text}
 use Rattle.mama_words.proofs.Numbers.{number_in_again, number_in_found, below_in_again, below_in_found, int_in_again, int_in_found}
@@ -144,6 +144,20 @@ bytes_found (b ∷ rest) bs e =
     let r = if_short_is (hex_in rest) bs q.1 in
     let h = hex_found rest bs r.1 in
     (r.0, h.0, ap (λ (x : ℕ). x ∷ rest) head ∙ ap (λ (t : List ℕ). 120 ∷ t) h.1)
+
+pub block_again : (bs : List ℕ) → are_bytes bs ≡ true → block_in (bytes_text bs) ≡ Some bs
+unfolding block_in
+block_again bs fits = hex_again bs fits
+
+pub block_found : (text bs : List ℕ) → block_in text ≡ Some bs → (are_bytes bs ≡ true) × (text ≡ bytes_text bs)
+unfolding block_in
+block_found [] bs e = absurd cc
+block_found (b ∷ rest) bs e =
+    let p = chosen_other (ltb b 120) (cond (ltb 120 b) None (hex_in rest)) bs e in
+    let q = chosen_other (ltb 120 b) (hex_in rest) bs p.1 in
+    let head : b ≡ 120 = omega (arith, ltb-false b 120 p.0, ltb-false 120 b q.0) in
+    let h = hex_found rest bs q.1 in
+    (h.0, ap (λ (x : ℕ). x ∷ rest) head ∙ ap (λ (t : List ℕ). 120 ∷ t) h.1)
 
 -- ---- texts
 

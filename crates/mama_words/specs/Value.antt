@@ -154,6 +154,11 @@ unfoldable pub bytes_in : List ℕ → Option (List ℕ)
 bytes_in [] = None
 bytes_in (b ∷ bs) = if nat_lt b 120 then None else (if nat_lt 120 b then None else if_short (hex_in bs))
 
+-- bytes of any number
+unfoldable pub block_in : List ℕ → Option (List ℕ)
+block_in [] = None
+block_in (b ∷ bs) = if nat_lt b 120 then None else (if nat_lt 120 b then None else hex_in bs)
+
 -- a text of at most 255 printable characters
 abbrev pub if_text : Option (List ℕ) → Option (List ℕ)
 if_text None = None

@@ -50,6 +50,6 @@ pub use nums::Nums;
 pub use order::{OrderKind, OrderWord, print_order, read_order};
 pub use parting::{Place, cut_at, parted, words};
 pub use quote::read_quoted_word;
-pub use value::{read_text, read_value, type_of};
+pub use value::{print_block, read_block, read_text, read_value, type_of};
 pub use value_type::ValueType;
 pub use version::Version;

@@ -156,6 +156,17 @@ fn read_bytes(alloc: Global, word: &[u8]) -> Result<BytesValue, ReadError>
     }
 }
 
+/// Bytes of any number, as `x` and a pair of lower-case hexadecimal digits for each.
+#[tactic(auto, unfolding(crate::specs::Value::block_in))]
+pub fn read_block(alloc: Global, word: &[u8]) -> Result<Vec<u8>, ReadError>
+    ensures { Gives (λ v. v.items) result (or_fault 7 (values.block_in word.now)) }
+{
+    match word {
+        [b'x', rest @ ..] => read_hex(alloc, rest)?.ok_or(ReadError::Fault(7)),
+        _ => Err(ReadError::Fault(7)),
+    }
+}
+
 fn read_price(text: &[u8]) -> Option<Price>
     ensures { result ≡ values.price_in text.now }
 {
@@ -249,11 +260,28 @@ fn put_bool(value: bool, out: &mut Vec<u8>) -> Result<(), OutOfMemory>
     Ok(())
 }
 
+fn put_block(bytes: &[u8], out: &mut Vec<u8>) -> Result<(), OutOfMemory>
+    ensures { OnOk result (out.new.items ≡ out.old.items ++ values.bytes_text bytes.now) }
+{
+    out.push(b'x')?;
+    put_hex(bytes, out)
+}
+
+/// Appends bytes of any number, as `x` and a pair of hexadecimal digits for each. Where no memory is found, nothing is appended.
+pub fn print_block(bytes: &[u8], out: &mut Vec<u8>) -> Result<(), OutOfMemory>
+    ensures ok { OnOk result (out.new.items ≡ out.old.items ++ values.bytes_text bytes.now) }
+    ensures err { OnErr result (out.new.items ≡ out.old.items) }
+{
+    let mut piece = Vec::new(*out.allocator());
+    put_block(bytes, &mut piece)?;
+    out.extend_from_slice(&piece)?;
+    Ok(())
+}
+
 fn put_bytes(value: &BytesValue, out: &mut Vec<u8>) -> Result<(), OutOfMemory>
     ensures { OnOk result (out.new.items ≡ out.old.items ++ values.bytes_text value.now) }
 {
-    out.push(b'x')?;
-    put_hex(value.bytes(), out)
+    put_block(value.bytes(), out)
 }
 
 fn put_price(value: &Price, out: &mut Vec<u8>) -> Result<(), OutOfMemory>

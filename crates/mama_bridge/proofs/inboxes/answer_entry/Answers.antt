@@ -12,14 +12,14 @@ use Rattle.mama_bridge.proofs.inboxes.answer_entry.Goals as goal
 pub returns-in-Some-clause-ok : goal.returns-in-Some-clause-ok
 returns-in-Some-clause-ok g c =
     on_ok_weaker c.answer.result
-    (λ step. subst (λ (e : Option InboxLink). EntryAnswers {L = g.row.L.Denot} c.args.body.now e (Some c.answer.new.link) c.args.out.now.items c.answer.new.out.items) (sym c.in-Some.is)
-    (one_answers (inbox_passed c.args.body.now) (inbox_emit_outs c.args.body.now) c.in-Some.link c.answer.new.link c.args.out.now.items c.answer.new.out.items step))
+    (λ step. λ fields same. subst (λ (e : Option InboxLink). EntryAnswers {L = g.row.L.Denot} fields e (Some c.answer.new.link) c.args.out.now.items c.answer.new.out.items) (sym c.in-Some.is)
+    (one_answers (inbox_passed fields) (inbox_emit_outs fields) c.in-Some.link c.answer.new.link c.args.out.now.items c.answer.new.out.items (λ row seen. step fields row same seen)))
     c.answer.ensures.ok
 
 pub returns-in-None-clause-ok : goal.returns-in-None-clause-ok
-returns-in-None-clause-ok g c =
-    subst (λ (e : Option InboxLink). EntryAnswers {L = g.row.L.Denot} c.args.body.now e e c.args.out.now.items c.args.out.now.items) (sym c.in-None.is)
-    (none_answers (inbox_passed c.args.body.now) (inbox_emit_outs c.args.body.now) c.args.out.now.items)
+returns-in-None-clause-ok g c fields same =
+    subst (λ (e : Option InboxLink). EntryAnswers {L = g.row.L.Denot} fields e e c.args.out.now.items c.args.out.now.items) (sym c.in-None.is)
+    (none_answers (inbox_passed fields) (inbox_emit_outs fields) c.args.out.now.items)
 
 pub returns-in-Some-clause-named : goal.returns-in-Some-clause-named
 returns-in-Some-clause-named g c =

@@ -12,7 +12,7 @@ use Rattle.mama_bridge.proofs.routes.image.Goals as goal
 pub returns-in-Some-clause-ok : goal.returns-in-Some-clause-ok
 returns-in-Some-clause-ok g c =
     on_ok_weaker c.send.result
-    (λ step. sub_done (sub_passed c.args.msg.now) (emit_outs c.args.msg.now) c.args.sub c.args.links.now.items c.in-Some.i c.index_mut.result.now c.send.new.link c.args.out.now.items c.send.new.out.items (sym c.in-Some.ensures) c.index_mut.ensures.value step)
+    (λ step. λ m same. sub_done (sub_passed m) (emit_outs m) c.args.sub c.args.links.now.items c.in-Some.i c.index_mut.result.now c.send.new.link c.args.out.now.items c.send.new.out.items (sym c.in-Some.ensures) c.index_mut.ensures.value (step m same))
     c.send.ensures.ok
 
 pub returns-in-Some-clause-seen : goal.returns-in-Some-clause-seen
@@ -21,4 +21,4 @@ returns-in-Some-clause-seen g c =
     on_err_weaker c.send.result (λ same. seen_turn sub_seen c.args.links.now.items c.in-Some.i c.index_mut.result.now c.send.new.link place.0 c.index_mut.ensures.value same) c.send.ensures.seen
 
 pub returns-in-None-clause-ok : goal.returns-in-None-clause-ok
-returns-in-None-clause-ok g c = sub_not_done (sub_passed c.args.msg.now) (emit_outs c.args.msg.now) c.args.sub c.args.links.now.items c.args.out.now.items (sym c.in-None.ensures)
+returns-in-None-clause-ok g c m same = sub_not_done (sub_passed m) (emit_outs m) c.args.sub c.args.links.now.items c.args.out.now.items (sym c.in-None.ensures)

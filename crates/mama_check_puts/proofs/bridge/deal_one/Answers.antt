@@ -18,11 +18,11 @@ returns-in-Publisher c = rw c.in-Publisher.is
     (subst (λ (note : PublisherNote). Grow (publishers_in c.args.puts.now) (map (λ list. list.items) c.deal.new.lists.items) (λ p. from_entry c.args.entry (one_for c.in-Publisher.number note p))) c.publisher_note.ensures grow) refl refl)
     c.deal.ensures)
 
-pub returns-in-Queue : goal.returns-in-Queue
-returns-in-Queue c = rw c.in-Queue.is
+pub returns-in_ok-note-in-Queue : goal.returns-in_ok-note-in-Queue
+returns-in_ok-note-in-Queue c = rw c.in-Queue.is
     (on_ok c.deal-in-Queue.result
     (λ grow. to_queue_dealt c.args.puts.now _ c.args.entry c.in-Queue.number (queue_note_of own_tag c.in-Queue.event)
-    (subst (λ (note : QueueNote). Grow (queues_in c.args.puts.now) (map (λ list. list.items) c.deal-in-Queue.new.lists.items) (λ q. from_entry c.args.entry (one_for c.in-Queue.number note q))) c.queue_note.ensures grow) refl refl)
+    (subst (λ (note : QueueNote). Grow (queues_in c.args.puts.now) (map (λ list. list.items) c.deal-in-Queue.new.lists.items) (λ q. from_entry c.args.entry (one_for c.in-Queue.number note q))) c.in_ok-note-in-Queue.ensures grow) refl refl)
     c.deal-in-Queue.ensures)
 
 pub returns-in_ok-push-in-Timers : goal.returns-in_ok-push-in-Timers

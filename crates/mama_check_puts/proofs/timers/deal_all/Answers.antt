@@ -15,7 +15,7 @@ loop-put-preserved c =
     dealt_more tick_part c.args.entry _ (map (λ list. list.items) c.loop-put.lists.items) (map (λ list. list.items) c.deal.new.lists.items) (map (out_note own_tag) c.loop-put.out.items) (map (out_note own_tag) c.take_first.new.self.items)
     (out_note own_tag c.in-Some.put) _ c.loop-put.invariant (ap (map (out_note own_tag)) c.in-Some.ensures.some)
     (subst (λ (note : QueueNote). Grow (map (λ list. list.items) c.loop-put.lists.items) (map (λ list. list.items) c.deal.new.lists.items) (λ n. from_entry c.args.entry (one_for c.in-Some.put.queue note n)))
-    c.queue_note.ensures c.in_ok-deal.ensures)
+    c.in_ok-note.ensures c.in_ok-deal.ensures)
 
 pub returns : goal.returns
 returns c =

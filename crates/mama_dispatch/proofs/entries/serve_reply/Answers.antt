@@ -1,19 +1,22 @@
-use Rattle.mama_event.specs.Listener.{told}
-use Rattle.std.proofs.Common.{refl}
+use Rattle.std.proofs.lemmas.Result.{IfOk-weaker}
 use Rattle.mama_event.specs.declared.ids.ObjectId.TheVariants.{Inbox}
 use Rattle.mama_event.specs.declared.callback.Callback.TheVariants as on
 use Rattle.mama_event.specs.declared.to_queue.QueueNote.TheVariants as q
-use Rattle.mama_dispatch.proofs.ServeLemmas.{serves_told}
-use Rattle.mama_dispatch.proofs.AnswerLemmas.{answers_replied}
-use Rattle.mama_dispatch.proofs.KeepLemmas.{kept_with}
+use Rattle.mama_dispatch.proofs.ServeLemmas.{telling_reply, serves_what_was_told}
+use Rattle.mama_dispatch.proofs.AnswerLemmas.{answers_what_was_told}
+use Rattle.mama_dispatch.proofs.KeepLemmas.{kept_each_told}
 use Rattle.mama_dispatch.proofs.entries.serve_reply.Goals as goal
 
-pub returns-in-Ok-clause-ok : goal.returns-in-Ok-clause-ok
-returns-in-Ok-clause-ok g c = serves_told (q.Reply c.args.slot c.args.inbox c.args.body) (Inbox c.args.inbox) (on.Reply c.args.body) c.args.seats.now c.tell.new.self _ _ 1
-    (record { middle = record { none = refl; lives = λ x live. refl }; serves = λ orders journal ds. refl; plain = refl }) c.requires.here c.in-Ok.ensures.called.fits c.in-Ok.ensures.called.made
+pub returns-clause-ok : goal.returns-clause-ok
+returns-clause-ok g c = IfOk-weaker c.tell_unmuted.result _ _
+    (λ answer was slot. serves_what_was_told (q.Reply slot c.args.inbox c.args.body.now) (Inbox c.args.inbox) (on.Reply c.in_ok-body.body) c.args.seats.now c.tell_unmuted.new.seats _ _ answer (telling_reply slot c.args.inbox c.args.body.now c.in_ok-body.body c.in_ok-body.ensures.equal) c.requires was)
+    c.tell_unmuted.ensures.ok
 
-pub returns-in-Ok-clause-kept : goal.returns-in-Ok-clause-kept
-returns-in-Ok-clause-kept g c = kept_with c.args.seats.now c.tell.new.self c.in-Ok.ensures.called.kept
+pub returns-clause-kept : goal.returns-clause-kept
+returns-clause-kept g c = kept_each_told c.tell_unmuted.result (Inbox c.args.inbox) (on.Reply c.in_ok-body.body) c.args.seats.now c.tell_unmuted.new.seats _ _ c.tell_unmuted.ensures.ok
 
-pub returns-in-Ok-clause-answer : goal.returns-in-Ok-clause-answer
-returns-in-Ok-clause-answer g c = answers_replied (told g.L.Tagged.tagged g.L.Listener.calls g.L.Listener.heard g.L.Listener.given g.L.Listener.plan) c.args.slot c.args.inbox c.args.body c.args.seats.now c.tell.new.self c.requires.here c.requires.unmuted
+pub returns-clause-answer : goal.returns-clause-answer
+returns-clause-answer g c = IfOk-weaker c.tell_unmuted.result _ _
+    (λ answer was slot orders journal ds middle apart fits stands.
+    answers_what_was_told (q.Reply slot c.args.inbox c.args.body.now) (Inbox c.args.inbox) (on.Reply c.in_ok-body.body) c.args.seats.now c.tell_unmuted.new.seats _ _ answer (telling_reply slot c.args.inbox c.args.body.now c.in_ok-body.body c.in_ok-body.ensures.equal) c.requires was orders journal ds stands)
+    c.tell_unmuted.ensures.ok

@@ -1,22 +1,22 @@
-use Rattle.mama_event.specs.Listener.{told}
-use Rattle.std.proofs.Common.{refl, sym, ◌∙◌}
-use Rattle.mama_dispatch.proofs.PlaceLemmas.{on_ok}
+use Rattle.std.proofs.lemmas.Result.{IfOk-weaker}
 use Rattle.mama_event.specs.declared.ids.ObjectId.TheVariants.{Timer}
 use Rattle.mama_event.specs.declared.callback.Callback.TheVariants as on
 use Rattle.mama_event.specs.declared.to_queue.QueueNote.TheVariants as q
-use Rattle.mama_dispatch.proofs.ServeLemmas.{serves_told}
-use Rattle.mama_dispatch.proofs.AnswerLemmas.{answers_ticked}
-use Rattle.mama_dispatch.proofs.KeepLemmas.{kept_with}
+use Rattle.mama_dispatch.proofs.ServeLemmas.{telling_tick, serves_what_was_told}
+use Rattle.mama_dispatch.proofs.AnswerLemmas.{answers_what_was_told}
+use Rattle.mama_dispatch.proofs.KeepLemmas.{kept_each_told}
 use Rattle.mama_dispatch.proofs.entries.serve_tick.Goals as goal
 
-pub returns-then-is_ok-clause-ok : goal.returns-then-is_ok-clause-ok
-returns-then-is_ok-clause-ok g c =
-    let went = sym c.is_ok.ensures.value ∙ c.if-is_ok.true in
-    serves_told (q.Tick c.args.slot c.args.timer c.args.moment) (Timer c.args.timer) (on.Tick c.args.moment) c.args.seats.now c.tell-told.new.self _ _ 1
-    (record { middle = record { none = refl; lives = λ x live. refl }; serves = λ orders journal ds. refl; plain = refl }) c.requires.here (on_ok c.tell-told.result went c.tell-told.ensures.called).fits (on_ok c.tell-told.result went c.tell-told.ensures.called).made
+pub returns-clause-ok : goal.returns-clause-ok
+returns-clause-ok g c = IfOk-weaker c.tell_unmuted.result _ _
+    (λ answer was slot. serves_what_was_told (q.Tick slot c.args.timer c.args.moment) (Timer c.args.timer) (on.Tick c.args.moment) c.args.seats.now c.tell_unmuted.new.seats _ _ answer (telling_tick slot c.args.timer c.args.moment) c.requires was)
+    c.tell_unmuted.ensures.ok
 
-pub returns-then-is_ok-clause-kept : goal.returns-then-is_ok-clause-kept
-returns-then-is_ok-clause-kept g c = kept_with c.args.seats.now c.tell-told.new.self (on_ok c.tell-told.result (sym c.is_ok.ensures.value ∙ c.if-is_ok.true) c.tell-told.ensures.called).kept
+pub returns-clause-kept : goal.returns-clause-kept
+returns-clause-kept g c = kept_each_told c.tell_unmuted.result (Timer c.args.timer) (on.Tick c.args.moment) c.args.seats.now c.tell_unmuted.new.seats _ _ c.tell_unmuted.ensures.ok
 
-pub returns-then-is_ok-clause-answer : goal.returns-then-is_ok-clause-answer
-returns-then-is_ok-clause-answer g c = answers_ticked (told g.L.Tagged.tagged g.L.Listener.calls g.L.Listener.heard g.L.Listener.given g.L.Listener.plan) c.args.slot c.args.timer c.args.moment c.args.seats.now c.tell-told.new.self c.requires.here c.requires.unmuted
+pub returns-clause-answer : goal.returns-clause-answer
+returns-clause-answer g c = IfOk-weaker c.tell_unmuted.result _ _
+    (λ answer was slot orders journal ds middle apart fits stands.
+    answers_what_was_told (q.Tick slot c.args.timer c.args.moment) (Timer c.args.timer) (on.Tick c.args.moment) c.args.seats.now c.tell_unmuted.new.seats _ _ answer (telling_tick slot c.args.timer c.args.moment) c.requires was orders journal ds stands)
+    c.tell_unmuted.ensures.ok

@@ -14,6 +14,12 @@ returns-clause-inbox c = equality.same_inbox-Decides
 pub returns-clause-market_msg : goal.returns-clause-market_msg
 returns-clause-market_msg c = equality.same_market_msg-Decides
 
+pub returns-clause-wire_msg : goal.returns-clause-wire_msg
+returns-clause-wire_msg c = equality.same_wire_msg-Decides
+
+pub returns-clause-piece_msg : goal.returns-clause-piece_msg
+returns-clause-piece_msg c = equality.same_piece_msg-Decides
+
 pub returns-clause-order : goal.returns-clause-order
 returns-clause-order c = equality.same_order-Decides
 

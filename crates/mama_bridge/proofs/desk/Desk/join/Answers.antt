@@ -9,7 +9,7 @@ use Rattle.mama_event.specs.declared.to_queue.Make.TheVariants as make
 use Rattle.mama_event.specs.declared.to_queue.ToQueue.TheVariants as queued
 use Rattle.mama_event.specs.declared.shape.Strategy.{Strategy}
 use Rattle.mama_bridge.specs.declared.out.BridgeOut.TheVariants as out
-use Rattle.mama_rules_services.specs.Bridge.{wants_image}
+use Rattle.mama_rules_services.specs.Bridge.{joins, wants_image}
 use Rattle.mama_laws_bridge.specs.Table.{has_joined, slot_for, sub_slots, inbox_slots, ended_now, new_sub}
 use Rattle.mama_slots.specs.Slots.{SlotData, in_use, IsNext}
 use Rattle.mama_bridge.specs.Ids.{is_sub_among, is_inbox_among}
@@ -18,6 +18,7 @@ use Rattle.mama_bridge.specs.Live.{Awaits, Gains}
 use Rattle.mama_bridge.specs.declared.places.Place.{Place}
 use Rattle.mama_bridge.proofs.HeldLemmas.{used_is, held_with_sub, held_next, next_free, held_same}
 use Rattle.mama_bridge.proofs.Joining.{ended_same, adds_created, says_image}
+use Rattle.mama_bridge.proofs.Spellings.{spelled_next}
 use Rattle.mama_bridge.proofs.desk.Desk.join.Goals as goal
 
 pub returns-clause-ok : goal.returns-clause-ok
@@ -51,6 +52,8 @@ returns-clause-ok g c table s sound =
         sends = last.sends ∙ rest.sends ∙ s.sends;
         settled = last.settled ∙ rest.settled ∙ s.settled;
         byes = last.byes ∙ rest.byes ∙ s.byes;
+        spelled = spelled_next c.args.shape.now table (joins c.args.sub c.args.terms (g.L.Tagged.tagged c.args.listener)) tt s.spelled;
+        replies_spelled = s.replies_spelled;
       };
       adds = rw new (adds_created g.L.Tagged.tagged c.args.out.now.items c.ready_sub.new.out.items c.push_reserved.new.self.items c.want_image.new.out.items c.args.terms.queue c.in-Ok.slot (slot_for c.args.terms.queue table) (Sub c.args.sub) (make.Sub c.args.terms.kind c.args.terms.cache c.args.shape.now.strategy) c.args.listener outs (wants_image c.args.shape.now c.args.sub c.args.terms.kind c.args.terms.topic)
           slot c.ready_sub.ensures.out
@@ -73,4 +76,6 @@ returns-in-Err-clause-same g c table s =
       sends = rest.sends ∙ s.sends;
       settled = rest.settled ∙ s.settled;
       byes = rest.byes ∙ s.byes;
+      spelled = s.spelled;
+      replies_spelled = s.replies_spelled;
     }

@@ -2,6 +2,7 @@ use Rattle.std.proofs.Common.{ℕ, ◌++◌, ◌≡◌, ◌∙◌, sym, ap, fals
 use Rattle.mama_link.specs.Link.{standing_after}
 use Rattle.mama_event.specs.declared.ids.ObjectId.TheVariants.{Inbox}
 use Rattle.mama_event.specs.declared.to_queue.Make.TheVariants as make
+use Rattle.mama_rules_services.specs.Bridge.{opens}
 use Rattle.mama_laws_bridge.specs.Table.{has_opened, slot_for, sub_slots, inbox_slots, ended_now, new_inbox}
 use Rattle.mama_bridge.specs.Ids.{is_inbox_among}
 use Rattle.mama_bridge.specs.Links.{InboxView, inbox_view, inbox_seen}
@@ -10,6 +11,7 @@ use Rattle.mama_bridge.proofs.HeldLemmas.{used_is, held_with_inbox, held_next, n
 use Rattle.mama_bridge.proofs.Adding.{says_none}
 use Rattle.mama_bridge.proofs.Known.{inbox_opened}
 use Rattle.mama_bridge.proofs.Joining.{ended_same, seen_more, adds_created}
+use Rattle.mama_bridge.proofs.Spellings.{replies_next}
 use Rattle.mama_bridge.proofs.desk.Desk.open_inbox.Goals as goal
 
 pub returns-clause-ok : goal.returns-clause-ok
@@ -34,13 +36,15 @@ returns-clause-ok g c shape table s sound =
         sends = s.sends;
         settled = s.settled;
         byes = s.byes;
+        spelled = s.spelled;
+        replies_spelled = replies_next table (opens c.args.inbox c.args.terms (g.L.Tagged.tagged c.args.listener)) tt s.replies_spelled;
       };
       adds = rw new (adds_created g.L.Tagged.tagged c.args.out.now.items c.ready_slot.new.out.items c.push_reserved.new.self.items c.push_reserved.new.self.items c.args.terms.queue c.in-Ok.slot (slot_for c.args.terms.queue table) (Inbox c.args.inbox) make.Inbox c.args.listener [] []
           slot c.ready_slot.ensures.out c.push_reserved.ensures.items (sym (append-nil c.push_reserved.new.self.items)) (says_none g.L.Tagged.tagged));
     })
 
 pub returns-in-Err-clause-same : goal.returns-in-Err-clause-same
-returns-in-Err-clause-same g c table s = record { opened = s.opened; subs = s.subs; inboxes = s.inboxes; slots = held_same table.subs table.inboxes c.args.self.now.slots c.ready_slot.new.slots s.slots c.ready_slot.ensures.held; clients = s.clients; sends = s.sends; settled = s.settled; byes = s.byes }
+returns-in-Err-clause-same g c table s = record { opened = s.opened; subs = s.subs; inboxes = s.inboxes; slots = held_same table.subs table.inboxes c.args.self.now.slots c.ready_slot.new.slots s.slots c.ready_slot.ensures.held; clients = s.clients; sends = s.sends; settled = s.settled; byes = s.byes; spelled = s.spelled; replies_spelled = s.replies_spelled }
 
 pub returns-in-Err-open-clause-same : goal.returns-in-Err-open-clause-same
 returns-in-Err-open-clause-same g c table s =
@@ -54,4 +58,6 @@ returns-in-Err-open-clause-same g c table s =
       sends = s.sends;
       settled = s.settled;
       byes = s.byes;
+      spelled = s.spelled;
+      replies_spelled = s.replies_spelled;
     }

@@ -17,8 +17,8 @@ returns-in-Some-clause-ok g c =
     let entries = c.self.inside.entries.items in
     let read = read_at entries c.in-Some.i c.index_mut.result.now c.in-Some.ensures.within c.index_mut.ensures.value in
     on_ok_weaker c.answer_entry.result
-    (λ step. subst (λ (p : Opened). InboxPass {L = g.row.L.Denot} c.args.inbox c.args.body.now p.links (present (set entries c.in-Some.i c.answer_entry.new.entry)) c.args.out.now.items c.answer_entry.new.out.items) c.self.view_is
-    (entry_done (inbox_passed c.args.body.now) (inbox_emit_outs c.args.body.now) c.args.inbox entries c.in-Some.i c.index_mut.result.now c.answer_entry.new.entry c.args.out.now.items c.answer_entry.new.out.items c.in-Some.ensures read c.answer_entry.ensures.named step))
+    (λ step. λ fields same. subst (λ (p : Opened). InboxPass {L = g.row.L.Denot} c.args.inbox fields p.links (present (set entries c.in-Some.i c.answer_entry.new.entry)) c.args.out.now.items c.answer_entry.new.out.items) c.self.view_is
+    (entry_done (inbox_passed fields) (inbox_emit_outs fields) c.args.inbox entries c.in-Some.i c.index_mut.result.now c.answer_entry.new.entry c.args.out.now.items c.answer_entry.new.out.items c.in-Some.ensures read c.answer_entry.ensures.named (step fields same)))
     c.answer_entry.ensures.ok
 
 pub returns-in-Some-clause-seen : goal.returns-in-Some-clause-seen
@@ -30,6 +30,6 @@ returns-in-Some-clause-seen g c =
     c.answer_entry.ensures.seen
 
 pub returns-in-None-clause-ok : goal.returns-in-None-clause-ok
-returns-in-None-clause-ok g c =
-    subst (λ (p : Opened). InboxPass {L = g.row.L.Denot} c.args.inbox c.args.body.now p.links p.links c.args.out.now.items c.args.out.now.items) c.self.view_is
-    (none_done (inbox_passed c.args.body.now) (inbox_emit_outs c.args.body.now) c.args.inbox (present c.self.inside.entries.items) c.args.out.now.items c.in-None.ensures)
+returns-in-None-clause-ok g c fields same =
+    subst (λ (p : Opened). InboxPass {L = g.row.L.Denot} c.args.inbox fields p.links p.links c.args.out.now.items c.args.out.now.items) c.self.view_is
+    (none_done (inbox_passed fields) (inbox_emit_outs fields) c.args.inbox (present c.self.inside.entries.items) c.args.out.now.items c.in-None.ensures)

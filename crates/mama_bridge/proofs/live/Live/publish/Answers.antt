@@ -8,7 +8,7 @@ use Rattle.mama_bridge.proofs.live.Live.publish.Goals as goal
 pub returns-clause-ok : goal.returns-clause-ok
 returns-clause-ok g c =
     on_ok_weaker c.publish_on.result
-    (λ done. λ joined rows live alone. live_does (row_is_on c.args.topic) (sub_passed c.args.msg.now) (emit_outs c.args.msg.now) (λ row. refl) c.args.topic c.args.self.now _ c.args.out.now.items c.publish_on.new.out.items refl done joined rows (each_filter (row_is_on c.args.topic) rows) live alone)
+    (λ done. λ m same joined rows live alone. live_does (row_is_on c.args.topic) (sub_passed m) (emit_outs m) (λ row. refl) c.args.topic c.args.self.now _ c.args.out.now.items c.publish_on.new.out.items refl (done m same) joined rows (each_filter (row_is_on c.args.topic) rows) live alone)
     c.publish_on.ensures.ok
 
 pub returns-clause-same : goal.returns-clause-same

@@ -2,7 +2,8 @@ use Rattle.std.specs.Result.{OnOk}
 use Rattle.std.proofs.Common.{List, [], ◌∷◌, sym, refl, subst}
 use Rattle.std.proofs.lemmas.Result.{on_ok_weaker}
 use Rattle.mama_msg.specs.Field.{FieldData}
-use Rattle.mama_event.specs.declared.ids.ObjectId.TheVariants.{Timer, Inbox}
+use Rattle.mama_event.specs.Wire.{code_of}
+use Rattle.mama_event.specs.declared.ids.ObjectId.TheVariants.{Sub, Timer, Inbox}
 use Rattle.mama_event.specs.declared.callback.Callback.TheVariants as on
 use Rattle.mama_event.specs.declared.to_queue.QueueNote.{QueueNote}
 use Rattle.mama_event.specs.declared.to_queue.QueueNote.TheVariants as q
@@ -24,6 +25,30 @@ returns-in_ok-body-in-Reply c =
     serves_call orders c.args.entry (q.Reply c.in-Reply.slot inbox c.in-Reply.body) (Inbox inbox) (on.Reply c.in-Reply.body) s t p r (λ x. refl) (λ journal ds. refl)
     (subst (λ (body : List FieldData). Makes orders (Inbox inbox) (on.Reply body ∷ []) c.args.entry s t p r) c.in_ok-body-in-Reply.ensures.equal makes))
     c.call.ensures)
+
+pub returns-in-Bad : goal.returns-in-Bad
+returns-in-Bad c =
+    let orders = orders_in c.args.book.now in
+    let s = c.args.self.now.objects in
+    let t = c.fail.new.self.objects in
+    let p = c.args.self.now.puts in
+    let r = c.fail.new.self.puts in
+    subst (λ (n : QueueNote). OnOk c.fail.result (Serves orders n c.args.entry s t p r)) (sym c.in-Bad.is)
+    (on_ok_weaker c.fail.result (λ makes.
+    serves_call orders c.args.entry (q.Bad c.in-Bad.slot c.in-Bad.sub c.in-Bad.kind c.in-Bad.sender c.in-Bad.seq c.in-Bad.bytes) (Sub c.in-Bad.sub) (on.Error (code_of c.in-Bad.bytes)) s t p r (λ x. refl) (λ journal ds. refl) makes)
+    c.fail.ensures)
+
+pub returns-in-BadReply : goal.returns-in-BadReply
+returns-in-BadReply c =
+    let orders = orders_in c.args.book.now in
+    let s = c.args.self.now.objects in
+    let t = c.fail-in-BadReply.new.self.objects in
+    let p = c.args.self.now.puts in
+    let r = c.fail-in-BadReply.new.self.puts in
+    subst (λ (n : QueueNote). OnOk c.fail-in-BadReply.result (Serves orders n c.args.entry s t p r)) (sym c.in-BadReply.is)
+    (on_ok_weaker c.fail-in-BadReply.result (λ makes.
+    serves_call orders c.args.entry (q.BadReply c.in-BadReply.slot c.in-BadReply.inbox c.in-BadReply.bytes) (Inbox c.in-BadReply.inbox) (on.Error (code_of c.in-BadReply.bytes)) s t p r (λ x. refl) (λ journal ds. refl) makes)
+    c.fail-in-BadReply.ensures)
 
 pub returns-in-Tick : goal.returns-in-Tick
 returns-in-Tick c =

@@ -10,17 +10,18 @@ use Rattle.mama_event.specs.ToQueue.{note_of}
 use Rattle.mama_event.specs.Listener.{told}
 use Rattle.mama_rules_queue.specs.Queue.{deeds, is_fin, queue_puts_at}
 use Rattle.mama_dispatch.specs.Journals.{may_come}
-use Rattle.mama_dispatch.specs.Seats.{Fits}
+use Rattle.mama_dispatch.specs.Seats.{SeatData, Fits}
 use Rattle.mama_dispatch.specs.Answering.{AnswersTo}
 use Rattle.mama_dispatch.specs.Hearing.{brought, HeardAt, PlannedAt}
-use Rattle.mama_dispatch.specs.Served.{Served, IsServed}
+use Rattle.mama_dispatch.specs.Served.{Served, told_seats, IsServed}
 use Rattle.mama_dispatch.specs.Turns.{put_note}
 use Rattle.mama_dispatch.proofs.ServingLemmas.{answers_told, calls_served, heard_told, heard_untold, fits_told, fits_untold, planned_told, planned_untold, puts_next, may_serve, not_fin}
 use Rattle.mama_dispatch.proofs.NoteLemmas.{serving_as, serving_roomy}
 use Rattle.mama_dispatch.proofs.serving.Serving.turn.Goals as goal
+use Rattle.mama_dispatch.proofs.serving.Serving.turn.Goals.{in-Deliver+in-Some-4, in-Deliver+in-None-4, in-Reply+in-Some-4, in-Reply+in-None-4, in-Bad-4, in-BadReply-4, in-Create-4}
 
-pub serve-requires : goal.serve-requires
-serve-requires g c =
+pub serve-requires-clause-may : goal.serve-requires-clause-may
+serve-requires-clause-may g c =
     may_serve c.self.inside.journal.items c.self.inside.fins c.self.inside.seats (note_of g.L.Tagged.tagged c.args.event) c.self.invariant.served c.apart.ensures
     (ap (λ (s : Served). may_come s.journal (note_of g.L.Tagged.tagged c.args.event)) c.self.view_is ∙ c.requires)
 
@@ -30,7 +31,7 @@ invariant_of-self-in-Ok-serve g c =
     c.push_reserved.ensures.items ∙ ap (λ (es : List (ℕ × QueueNote)). es ++ (c.args.port, c.in-Ok.note) ∷ []) c.reserve.ensures.items in
     serving_as c.self.inside.journal.items c.push_reserved.new.self.items c.self.inside.fins (brought (told g.L.Tagged.tagged g.L.Listener.calls g.L.Listener.heard g.L.Listener.given g.L.Listener.plan) c.args.event)
     c.args.port c.in-Ok.note (note_of g.L.Tagged.tagged c.args.event) c.self.inside.seats c.serve.new.self c.self.inside.room c.prepare.new.room c.self.inside.images.items c.add_image.new.images.items (option_to_list c.in-Ok-prepare.left) _ _
-    grown c.in-Ok.ensures c.self.invariant c.apart.ensures c.apart-in-Ok-serve.ensures (ap (λ (n : QueueNote). is_fin (c.args.port, n)) c.in-Ok.ensures ∙ not_fin g.L.Tagged.tagged c.args.event c.args.port c.in_default-event.not-Fin) c.in-Ok-serve.ensures.ok c.in-Ok-serve.ensures.kept
+    grown c.in-Ok.ensures.note c.self.invariant c.apart.ensures c.apart-in-Ok-serve.ensures (ap (λ (n : QueueNote). is_fin (c.args.port, n)) c.in-Ok.ensures.note ∙ not_fin g.L.Tagged.tagged c.args.event c.args.port c.in_default-event.not-Fin) c.in-Ok-serve.ensures.ok c.in-Ok-serve.ensures.kept
     c.prepare.ensures.none c.in-Ok-prepare.ensures.enough c.in-Ok-prepare.ensures.left (c.add_image.ensures ∙ ap (λ (xs : List (SubId × ImageHead × List FieldData)). xs ++ option_to_list c.in-Ok-prepare.left) c.prepare.ensures.images)
 
 pub invariant_of-self-in-Err : goal.invariant_of-self-in-Err
@@ -57,6 +58,46 @@ pub invariant_of-self-in-Err-5 : goal.invariant_of-self-in-Err-5
 invariant_of-self-in-Err-5 g c =
     serving_roomy c.self.inside.journal.items c.reserve.new.self.items c.self.inside.fins c.self.inside.seats c.serve.new.self c.self.inside.room c.prepare.new.room c.self.inside.images.items c.prepare.new.images.items
     c.reserve.ensures.items c.in-Err.ensures.err c.prepare.ensures.none c.prepare.ensures.capacity c.prepare.ensures.images c.self.invariant
+
+pub invariant_of-self-in-Err-6 : goal.invariant_of-self-in-Err-6
+invariant_of-self-in-Err-6 g c =
+    serving_roomy c.self.inside.journal.items c.reserve.new.self.items c.self.inside.fins c.self.inside.seats c.serve.new.self c.self.inside.room c.prepare.new.room c.self.inside.images.items c.prepare.new.images.items
+    c.reserve.ensures.items c.in-Err.ensures.err c.prepare.ensures.none c.prepare.ensures.capacity c.prepare.ensures.images c.self.invariant
+
+pub invariant_of-self-in-Err-7 : goal.invariant_of-self-in-Err-7
+invariant_of-self-in-Err-7 g c =
+    serving_roomy c.self.inside.journal.items c.reserve.new.self.items c.self.inside.fins c.self.inside.seats c.serve.new.self c.self.inside.room c.prepare.new.room c.self.inside.images.items c.prepare.new.images.items
+    c.reserve.ensures.items c.in-Err.ensures.err c.prepare.ensures.none c.prepare.ensures.capacity c.prepare.ensures.images c.self.invariant
+
+-- the note is let go by cases, after which all is as before
+pub returns-in-Err : goal.returns-in-Err
+returns-in-Err g c =
+    let noted : List (ℕ × QueueNote) → Served = λ (es : List (ℕ × QueueNote)). record { queue = c.self.inside.queue; journal = es; seats = told_seats c.serve.new.self } in
+    let seated : List SeatData → Served = λ (ss : List SeatData). record { queue = c.self.inside.queue; journal = c.self.inside.journal.items; seats = ss } in
+    let left : c.match-note-10.self ≡ noted c.reserve.new.self.items = elim c.match-note-10.branch [
+      | in-Deliver+in-Some-4 w ↦ w.self-is
+      | in-Deliver+in-None-4 w ↦ w.self-is
+      | in-Reply+in-Some-4 w ↦ w.self-is
+      | in-Reply+in-None-4 w ↦ w.self-is
+      | in-Bad-4 w ↦ w.self-is
+      | in-BadReply-4 w ↦ w.self-is
+      | in-Create-4 w ↦ w.self-is
+    ] in
+    let same : c.match-note-10.self ≡ c.args.self.now = left ∙ ap noted c.reserve.ensures.items ∙ ap seated c.in-Err.ensures.err ∙ c.self.view_is in
+    record {
+      journal = tt;
+      queue = ap (λ (s : Served). s.queue) same;
+      puts = tt;
+      fits = tt;
+      answer = tt;
+      calls = tt;
+      heard = tt;
+      planned = tt;
+      err = same;
+      appended = tt;
+      puts_err = c.in-Err.ensures.puts_err;
+      back = c.in-Err.ensures.back;
+    }
 
 pub returns-in-Ok-serve-clause-puts : goal.returns-in-Ok-serve-clause-puts
 returns-in-Ok-serve-clause-puts g c = λ orders fits.

@@ -8,19 +8,19 @@ use Rattle.mama_link.proofs.link.Link.pass_prepared.Goals as goal
 
 pub returns-clause-out : goal.returns-clause-out
 returns-clause-out g c x stands =
-    let e = prepared_ends _ _ _ _ _ _ c.self.view_is c.due_at.ensures.entries c.self.invariant c.args.prepared c.requires.prepared in
+    let e = prepared_ends _ _ _ _ _ _ _ c.self.view_is c.due_at.ensures.entries c.self.invariant c.args.prepared c.requires.prepared in
     let slots = c.self.inside.slots.items in
     let table = table_of c.self.inside.faults in
     let dues : c.due_at.result.now ≡ slots_due c.args.prepared.place 0 table = c.due_at.ensures.due ∙ ap (λ (n : ℕ). slots_due n 0 table) c.place-place.ensures in
     let taken = ap (λ (ds : List ℕ). length (taken_at ds slots)) dues in
     let puts = ap (λ (ds : List ℕ). taken_at ds slots) dues in
-    let own = copies c.args.prepared.fault c.args.prepared.message in
+    let own = copies g.T.Cuttable.cut_to c.args.prepared.fault c.args.prepared.message in
     let items = c.args.out.now.items in
     c.release-released.ensures.out ∙ rw (c.put_own-own.ensures.out, puts) (append_assoc items own (taken_at (slots_due c.args.prepared.place 0 table) slots) ∙ ap (λ (ends : List _). items ++ ends) (e.out x stands))
 
 pub returns-clause-standing : goal.returns-clause-standing
 returns-clause-standing g c x stands =
-    let e = prepared_ends _ _ _ _ _ _ c.self.view_is c.due_at.ensures.entries c.self.invariant c.args.prepared c.requires.prepared in
+    let e = prepared_ends _ _ _ _ _ _ _ c.self.view_is c.due_at.ensures.entries c.self.invariant c.args.prepared c.requires.prepared in
     let slots = c.self.inside.slots.items in
     let table = table_of c.self.inside.faults in
     let dues : c.due_at.result.now ≡ slots_due c.args.prepared.place 0 table = c.due_at.ensures.due ∙ ap (λ (n : ℕ). slots_due n 0 table) c.place-place.ensures in
@@ -33,7 +33,7 @@ returns-clause-standing g c x stands =
 
 pub returns-clause-spare : goal.returns-clause-spare
 returns-clause-spare g c =
-    let e = prepared_ends _ _ _ _ _ _ c.self.view_is c.due_at.ensures.entries c.self.invariant c.args.prepared c.requires.prepared in
+    let e = prepared_ends _ _ _ _ _ _ _ c.self.view_is c.due_at.ensures.entries c.self.invariant c.args.prepared c.requires.prepared in
     let slots = c.self.inside.slots.items in
     let table = table_of c.self.inside.faults in
     let dues : c.due_at.result.now ≡ slots_due c.args.prepared.place 0 table = c.due_at.ensures.due ∙ ap (λ (n : ℕ). slots_due n 0 table) c.place-place.ensures in
@@ -42,7 +42,7 @@ returns-clause-spare g c =
 
 pub release-released-requires : goal.release-released-requires
 release-released-requires g c =
-    let e = prepared_ends _ _ _ _ _ _ c.self.view_is c.due_at.ensures.entries c.self.invariant c.args.prepared c.requires.prepared in
+    let e = prepared_ends _ _ _ _ _ _ _ c.self.view_is c.due_at.ensures.entries c.self.invariant c.args.prepared c.requires.prepared in
     let slots = c.self.inside.slots.items in
     let table = table_of c.self.inside.faults in
     let dues : c.due_at.result.now ≡ slots_due c.args.prepared.place 0 table = c.due_at.ensures.due ∙ ap (λ (n : ℕ). slots_due n 0 table) c.place-place.ensures in
@@ -51,7 +51,7 @@ release-released-requires g c =
 
 pub overflow_sub-self : goal.overflow_sub-self
 overflow_sub-self g c =
-    let e = prepared_ends _ _ _ _ _ _ c.self.view_is c.due_at.ensures.entries c.self.invariant c.args.prepared c.requires.prepared in
+    let e = prepared_ends _ _ _ _ _ _ _ c.self.view_is c.due_at.ensures.entries c.self.invariant c.args.prepared c.requires.prepared in
     let slots = c.self.inside.slots.items in
     let table = table_of c.self.inside.faults in
     let dues : c.due_at.result.now ≡ slots_due c.args.prepared.place 0 table = c.due_at.ensures.due ∙ ap (λ (n : ℕ). slots_due n 0 table) c.place-place.ensures in
@@ -60,7 +60,7 @@ overflow_sub-self g c =
 
 pub overflow_add-self : goal.overflow_add-self
 overflow_add-self g c =
-    let e = prepared_ends _ _ _ _ _ _ c.self.view_is c.due_at.ensures.entries c.self.invariant c.args.prepared c.requires.prepared in
+    let e = prepared_ends _ _ _ _ _ _ _ c.self.view_is c.due_at.ensures.entries c.self.invariant c.args.prepared c.requires.prepared in
     let slots = c.self.inside.slots.items in
     let table = table_of c.self.inside.faults in
     let dues : c.due_at.result.now ≡ slots_due c.args.prepared.place 0 table = c.due_at.ensures.due ∙ ap (λ (n : ℕ). slots_due n 0 table) c.place-place.ensures in
@@ -71,7 +71,7 @@ overflow_add-self g c =
 
 pub keep-requires : goal.keep-requires
 keep-requires g c =
-    let e = prepared_ends _ _ _ _ _ _ c.self.view_is c.due_at.ensures.entries c.self.invariant c.args.prepared c.requires.prepared in
+    let e = prepared_ends _ _ _ _ _ _ _ c.self.view_is c.due_at.ensures.entries c.self.invariant c.args.prepared c.requires.prepared in
     let slots = c.self.inside.slots.items in
     let table = table_of c.self.inside.faults in
     let dues : c.due_at.result.now ≡ slots_due c.args.prepared.place 0 table = c.due_at.ensures.due ∙ ap (λ (n : ℕ). slots_due n 0 table) c.place-place.ensures in
@@ -83,7 +83,7 @@ keep-requires g c =
 
 pub invariant_of-self : goal.invariant_of-self
 invariant_of-self g c =
-    let e = prepared_ends _ _ _ _ _ _ c.self.view_is c.due_at.ensures.entries c.self.invariant c.args.prepared c.requires.prepared in
+    let e = prepared_ends _ _ _ _ _ _ _ c.self.view_is c.due_at.ensures.entries c.self.invariant c.args.prepared c.requires.prepared in
     let slots = c.self.inside.slots.items in
     let table = table_of c.self.inside.faults in
     let dues : c.due_at.result.now ≡ slots_due c.args.prepared.place 0 table = c.due_at.ensures.due ∙ ap (λ (n : ℕ). slots_due n 0 table) c.place-place.ensures in

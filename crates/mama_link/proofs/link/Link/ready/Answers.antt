@@ -29,9 +29,9 @@ returns-clause-prepared g c =
     let room : IsTrue c.is_some.result → vec_len slots < vec_capacity slots = search rules in
     let more = room faulty in
     omega (arith, more) in
-    let ready = is_prepared c.self.inside.faults c.self.inside.passed c.self.inside.held (vec_capacity slots - vec_len slots) slots.items c.due_at.ensures.entries kept
+    let ready = is_prepared g.T.Cuttable.cut_to c.self.inside.faults c.self.inside.passed c.self.inside.held (vec_capacity slots - vec_len slots) slots.items c.due_at.ensures.entries kept
     c.fault_at_cursor-fault.result c.args.message c.count_found-due.result here due room_for in
-    IfOk-weaker c.new.result _ _ (λ prepared same. subst (IsPreparedFor (seen c.self.inside.faults c.self.inside.passed (vec_capacity slots - vec_len slots) slots.items)) (sym same) ready) c.new.ensures.prepared
+    IfOk-weaker c.new.result _ _ (λ prepared same. subst (IsPreparedFor g.T.Cuttable.cut_to (seen c.self.inside.faults c.self.inside.passed (vec_capacity slots - vec_len slots) slots.items)) (sym same) ready) c.new.ensures.prepared
 
 pub returns-clause-len : goal.returns-clause-len
 returns-clause-len g c =
@@ -52,7 +52,7 @@ returns-clause-len g c =
     let room : IsTrue c.is_some.result → vec_len slots < vec_capacity slots = search rules in
     let more = room faulty in
     omega (arith, more) in
-    let ready = is_prepared c.self.inside.faults c.self.inside.passed c.self.inside.held (vec_capacity slots - vec_len slots) slots.items c.due_at.ensures.entries kept
+    let ready = is_prepared g.T.Cuttable.cut_to c.self.inside.faults c.self.inside.passed c.self.inside.held (vec_capacity slots - vec_len slots) slots.items c.due_at.ensures.entries kept
     c.fault_at_cursor-fault.result c.args.message c.count_found-due.result here due room_for in
     let rows = ap (λ (l : LinkData _). l.standing.rows) c.self.view_is in
     let same_slots = ap (λ (ss : List (Option _)). (seen c.self.inside.faults c.self.inside.passed (vec_capacity slots - vec_len slots) ss).standing) c.make_room.ensures.slots in
@@ -62,6 +62,6 @@ returns-clause-len g c =
     let stands_here = subst (StandsFor x) (sym same_link) stands in
     let stands_now = subst (StandsFor x) (sym same_slots) stands_here in
     ap (λ (p : Readied _). p.len) same
-    ∙ prepared_len c.self.inside.faults c.self.inside.passed (vec_capacity slots - vec_len slots) slots.items c.due_at.ensures.entries _ ready x stands_now
-    ∙ ap (λ (rs : List FaultRow). length (emit rs (x ++ c.args.message ∷ []) (length x + 1))) rows)
+    ∙ prepared_len g.T.Cuttable.cut_to c.self.inside.faults c.self.inside.passed (vec_capacity slots - vec_len slots) slots.items c.due_at.ensures.entries _ ready x stands_now
+    ∙ ap (λ (rs : List FaultRow). length (emit g.T.Cuttable.cut_to rs (x ++ c.args.message ∷ []) (length x + 1))) rows)
     c.new.ensures.prepared

@@ -1,4 +1,6 @@
 use Rattle.std.proofs.Common.{◌≡◌, arith, drop, refl, sym, subst, ◌∙◌, ap, ◌++◌, ◌∷◌, []}
+use Rattle.mama_event.specs.Wire.{market_of}
+use Rattle.mama_event.specs.declared.market.MarketMsg.{MarketMsg}
 use Rattle.mama_event.specs.declared.publisher_entry.PublisherEntry.TheVariants as entry
 use Rattle.mama_seats.specs.Past.{is_empty_send}
 use Rattle.mama_seats.specs.Sender.{Progress, sender_in, IsSeatedIn}
@@ -27,9 +29,9 @@ returns-in-Ok-clause-step c =
     let seated = seated_past_all _ c.self.inside.journal.items c.self.inside.publisher _ (drop c.next_at-line.result c.args.lines.now) before c.next_at-line.ensures in
     let awake : c.self.inside.pause ≡ 0 = ap (λ (w : Progress). w.pause) c.self.view_is ∙ c.requires.awake in
     sender_step_past (sender_in c.args.base.now c.args.lines.now c.args.self.now) _ _
-    (update_steps c.sending_an_update.ensures _ _ c.args.base.now c.args.lines.now c.self.inside.publisher _ c.next_at-line.result c.index-lines-line.result c.in-Update.body c.in-Ok.msg _ _
+    (update_steps c.sending_an_update.ensures _ _ c.args.base.now c.args.lines.now c.self.inside.publisher _ c.next_at-line.result c.index-lines-line.result c.in-Update.body (market_of c.with_body-msg.result) _ _
     (senders_past c.args.base.now c.args.lines.now _ c.args.self.now c.next_at-line.result c.self.view_is c.next_at-line.ensures) refl (ap (λ (w : Progress). w.over) c.self.view_is ∙ c.requires.going) (omega (arith, awake)) refl c.if-line-lines.false c.index-lines-line.is c.in-Update.is
-    seated c.in-Ok.ensures.ok c.in-Ok.ensures.sent
+    seated c.in-Ok.ensures.ok (c.with_body-msg.ensures (c.in_ok-packet-in-Update.ensures ∙ sym (ap (λ (m : MarketMsg). m.body) c.in-Ok.ensures.sent)) ∙ c.in-Ok.ensures.sent)
     (c.note_send.ensures ∙ ap (λ j. j ++ entry.Send ∷ []) c.reserve.ensures.items) refl)
 
 pub returns-in-Ok-clause-seated : goal.returns-in-Ok-clause-seated
@@ -45,9 +47,9 @@ returns-in_ok-msg-in-Recap-clause-step c =
     let seated = seated_past_all _ c.self.inside.journal.items c.self.inside.publisher _ (drop c.next_at-line.result c.args.lines.now) before c.next_at-line.ensures in
     let awake : c.self.inside.pause ≡ 0 = ap (λ (w : Progress). w.pause) c.self.view_is ∙ c.requires.awake in
     sender_step_past (sender_in c.args.base.now c.args.lines.now c.args.self.now) _ _
-    (recap_steps c.sending_a_recap.ensures _ _ c.self.inside.publisher c.args.lines.now c.next_at-line.result c.index-lines-line.result c.in_ok-msg-in-Recap.msg _ _
+    (recap_steps c.sending_a_recap.ensures _ _ c.self.inside.publisher c.args.lines.now c.next_at-line.result c.index-lines-line.result (market_of c.in_ok-msg-in-Recap.msg) _ _
     (senders_past c.args.base.now c.args.lines.now _ c.args.self.now c.next_at-line.result c.self.view_is c.next_at-line.ensures) (ap (λ (w : Progress). w.over) c.self.view_is ∙ c.requires.going) (omega (arith, awake)) refl c.if-line-lines.false c.index-lines-line.is c.in-Recap.is
-    seated c.in_ok-msg-in-Recap.ensures
+    seated (c.in_ok-msg-in-Recap.ensures ∙ c.in_ok-image-in-Recap.ensures)
     (c.note_send-in-Recap.ensures ∙ ap (λ j. j ++ entry.Send ∷ []) c.reserve.ensures.items) refl)
 
 pub returns-in_ok-msg-in-Recap-clause-seated : goal.returns-in_ok-msg-in-Recap-clause-seated

@@ -1,0 +1,10 @@
+pub mod Closings
+pub mod Deals
+pub mod Joins
+pub mod Kept
+pub mod Openings
+pub mod Pools
+pub mod Shares
+pub mod Tallies
+pub mod Totals
+pub mod Taken

@@ -1,0 +1,5 @@
+pub mod Deal
+pub mod Hand
+pub mod Rule
+pub mod Steps
+pub mod Values

@@ -1,0 +1,8 @@
+//! The tests of a pool: two hands that share their items, in one thread and in two, and four of which each takes from the
+//! next.
+#![tactic(auto)]
+
+#[cfg(test)]
+mod hands;
+#[cfg(test)]
+mod threads;
