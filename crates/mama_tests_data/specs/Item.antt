@@ -1,6 +1,6 @@
 -- inner: messages of a test, of which a cut leaves some bytes.
 use Rattle.std.specs.Prelude.{ℕ, min}
-use Rattle.mama_tests_data.specs.declared.links.Item.{Item}
+use Rattle.mama_tests_data.specs.declared.item.Item.{Item}
 
 -- a cut leaves no more bytes than it keeps
 abbrev pub with_left : ℕ → Item → Item

@@ -4,6 +4,9 @@
 //! Each table is one text, and each of its lines a row.
 #![tactic(auto)]
 
+// Definitions speak of it, so that it stands in each build.
+pub mod item;
+
 #[cfg(test)]
 mod clients;
 #[cfg(test)]

@@ -1,8 +1,9 @@
 //! Outboxes, the rows of links, and what links let through.
 
+use crate::item::Item;
 use crate::rows::{number, numbered};
-use mama_link::{Cuttable, Fault, FaultRow, Faults, FaultsFault, Link};
-use mama_memory::{Duplicate, OutOfMemory, Outbox};
+use mama_link::{Fault, FaultRow, Faults, FaultsFault, Link};
+use mama_memory::{OutOfMemory, Outbox};
 use std::alloc::Global;
 use std::process::Abort;
 use std::test::Fail;
@@ -89,31 +90,8 @@ fn the_rows_stay_in_their_order(rt: HostRuntime) -> Result<(), Fail> {
     Ok(())
 }
 
-// A message of four bytes, of which some may be left.
-#[derive(Clone, Copy, Drop)]
-struct Item {
-    number: u32,
-    left: u32,
-}
-
 fn make_item(number: u32) -> Item {
     Item { number, left: 4 }
-}
-
-impl Duplicate for Item {
-    fn try_clone(&self) -> Result<Item, OutOfMemory> {
-        Ok(*self)
-    }
-}
-
-impl Cuttable for Item {
-    ghost use Rattle.mama_tests_data.specs.Item.{with_left};
-
-    ghost cut_to = { with_left };
-
-    fn cut(&mut self, keep: u32) {
-        self.left = self.left.min(keep);
-    }
 }
 
 fn link_of(alloc: Global, text: &str) -> Result<Link<Item>, Fail> {
