@@ -14,7 +14,7 @@ looks=${1:-1000000}
 . "$(dirname "$0")/scratch.sh"
 cp "$top/HANDLES" "$scratch/"
 new_program board_bench 'board_bench may_wait=12: mama_memory mama_msg mama_event mama_board left_right indexmap anyhow' \
-    mama_memory mama_journal mama_msg mama_link mama_event mama_board
+    mama_memory mama_journal mama_msg mama_payload mama_link mama_packet mama_event mama_board
 sed "s/LOOKS_OF_EACH_READER/$looks/" > "$bench/src/main.rt" <<'PROGRAM'
 //! Looks and sets per second of image boards.
 #![tactic(auto)]

@@ -10,7 +10,7 @@ events=${1:-1000000}
 . "$(dirname "$0")/scratch.sh"
 cp "$top/HANDLES" "$scratch/"
 new_program lane_bench 'lane_bench may_wait=7: mama_event mama_lane crossbeam_queue anyhow' \
-    mama_memory mama_journal mama_msg mama_link mama_event mama_lane
+    mama_memory mama_journal mama_msg mama_payload mama_link mama_packet mama_event mama_lane
 mkdir "$bench/proofs/put_on_lane" "$bench/proofs/take_from_lane"
 cat > "$bench/proofs/put_on_lane/Invariants.antt" <<'PROOF'
 use Rattle.std.proofs.Common.{◌≡◌}

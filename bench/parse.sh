@@ -12,7 +12,7 @@ rows=${2:-400000}
 mib=${3:-64}
 . "$(dirname "$0")/scratch.sh"
 new_program parse_bench 'parse_bench: mama_script anyhow' \
-    mama_memory mama_journal mama_edge mama_msg mama_link mama_event mama_words mama_script
+    mama_memory mama_journal mama_edge mama_msg mama_payload mama_link mama_packet mama_event mama_words mama_script
 cat > "$bench/src/main.rt" <<'PROGRAM'
 //! Reads the script in the file `input`, and says how long that took and what came of it.
 #![tactic(auto)]

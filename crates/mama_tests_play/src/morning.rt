@@ -108,5 +108,6 @@ fn gaps_by<R: Threads + Wait + Copy + Sync>(
 fn a_morning_is_played_and_its_logs_are_legal(rt: HostRuntime) -> Result<(), Fail> {
     assert!(rt; gaps_by(&rt, rt.alloc(), "serial")? == 5);
     gaps_by(&rt, rt.alloc(), "play 4")?;
+    gaps_by(&rt, rt.alloc(), "play 8")?;
     Ok(())
 }

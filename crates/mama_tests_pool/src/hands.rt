@@ -95,6 +95,30 @@ fn two_hands_share_their_items(rt: HostRuntime) -> Result<(), Fail> {
     Ok(())
 }
 
+// A look needs no word of what was pushed.
+#[test]
+fn an_item_is_stolen_before_any_word_of_it(rt: HostRuntime) -> Result<(), Fail> {
+    let mut hands = open_pool::<Item, HostRuntime>(rt, rt.alloc(), 2)?;
+    assert!(rt; push(rt, &mut hands, 0, 5));
+    assert_eq!(rt; steal(rt, &mut hands, 1, 0), 5);
+    close_pool(rt, hands);
+    Ok(())
+}
+
+#[test]
+fn the_least_and_the_greatest_pool(rt: HostRuntime) -> Result<(), Fail> {
+    let mut one = open_pool::<Item, HostRuntime>(rt, rt.alloc(), 1)?;
+    assert!(rt; push(rt, &mut one, 0, 5));
+    assert_eq!(rt; pop(rt, &mut one, 0), 5);
+    close_pool(rt, one);
+    let mut most = open_pool::<Item, HostRuntime>(rt, rt.alloc(), 64)?;
+    assert!(rt; push(rt, &mut most, 63, 7));
+    assert_eq!(rt; steal(rt, &mut most, 0, 63), 7);
+    assert_eq!(rt; steal(rt, &mut most, 62, 63), 0);
+    close_pool(rt, most);
+    Ok(())
+}
+
 // Each of four hands pushes as many items, all with numbers of their own.
 fn push_all<R: Wait + Copy>(rt: R, hands: &mut Vec<Hand<Item>>) -> bool
     requires pool { IsPool hands.old.items }
