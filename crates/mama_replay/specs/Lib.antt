@@ -1,0 +1,6 @@
+pub mod Followed
+pub mod Passes
+pub mod Needs
+pub mod Order
+pub mod Ranks
+pub mod Dealt
