@@ -1,4 +1,4 @@
-//! What links carry in their tests.
+//! What links carry in their tests. Definitions speak of it, so that it stands in each build.
 
 use mama_link::Cuttable;
 use mama_memory::{Duplicate, OutOfMemory};

@@ -4,15 +4,13 @@
 //! Each table is one text, and each of its lines a row.
 #![tactic(auto)]
 
-// Definitions speak of it, so that it stands in each build.
-pub mod item;
-
 #[cfg(test)]
 mod clients;
 #[cfg(test)]
 mod edges;
 #[cfg(test)]
 mod events;
+pub mod item;
 #[cfg(test)]
 mod links;
 #[cfg(test)]
