@@ -26,7 +26,7 @@ many_publishers() {
     print "client"; for (s = 0; s < topics * 4; s++) print "sub " s % topics " market any 10 1000" }'
 }
 
-# Subscriptions of one topic, each of which is stopped by its client.
+# Subscriptions of one topic, each of which is stopped by its client. A script has 10,000 at most.
 many_stops() {
   awk -v n="$1" 'BEGIN {
     print "mama script 1"; print "queues 4"; print "topic \"T\""; print "publisher 0 1:bid:u32:0"
@@ -102,6 +102,6 @@ echo '|---|---|---|---|---|'
 measure '200,000 updates of one publisher' one_publisher 200000 2.0 3.0 8
 measure '1,000 publishers of 50 updates' many_publishers 1000 2.0 3.0 8
 measure '10,000 subscriptions of one topic, each stopped' many_stops 10000 3.0 3.0 12
-grows '10,000 subscriptions of one topic, each stopped' many_stops 10000 2.3
+grows '5,000 subscriptions of one topic, each stopped' many_stops 5000 2.3
 measure '8,192 inboxes that ask' many_inboxes 8192 3.0 3.0 12
 exit $above
