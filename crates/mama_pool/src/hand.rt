@@ -77,8 +77,8 @@ impl<D: Numbered> Hand<D> {
         )
     }
 
-    /// Takes the first item of the own deque. The answer is `None` only where all that this hand pushed was taken. It takes no
-    /// memory.
+    /// Takes the first item of the own deque. The answer is `None` only where all that this hand pushed was taken, or counted
+    /// as taken by a call under way. It takes no memory.
     pub fn pop<Rt: Wait + Copy>(&mut self, rt: Rt) -> Option<D>
         ensures some { IfSome result (λ item. self.new ≡ after_take self.old self.old.number (D.numbered item)) }
         ensures none { IfNone result (KnowsAll self.old self.new) }
@@ -87,8 +87,9 @@ impl<D: Numbered> Hand<D> {
         take_at(&rt, &mut self.shares, self.number as usize)
     }
 
-    /// Takes the first item of the deque of the hand with this number. The answer is `None` only where all was taken that the
-    /// notes of that hand name which this hand learnt. It takes no memory.
+    /// Takes the first item of the deque of the hand with this number. The answer is `None` only where all was taken, or counted
+    /// as taken by a call under way, that the notes of that hand name which this hand learnt. Where it learnt none, no clause
+    /// says that it looked. It takes no memory.
     pub fn steal<Rt: Wait + Copy>(&mut self, rt: Rt, from: u32) -> Option<D>
         requires { (from ≢ self.old.number) × (from < length self.old.shares) }
         ensures some { IfSome result (λ item. self.new ≡ after_take self.old from (D.numbered item)) }

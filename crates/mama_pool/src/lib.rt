@@ -6,8 +6,8 @@
 //! number ([`Numbered`]) alone. For every schedule of the threads:
 //!
 //! - What a hand pushed grows by the item's number, and so does what a hand took from a deque.
-//! - A hand finds nothing only by a look of that call. By then all that it pushed was taken, if it looked at its own deque, and
-//!   all that the notes name which it learnt, if at another's ([`Hand::tell`], [`Hand::learn`]).
+//! - A hand finds nothing only where all that it pushed was taken, if it took from its own deque, or all that the notes name
+//!   which it learnt, if from another's ([`Hand::tell`], [`Hand::learn`]): taken, or counted as taken by a call under way.
 //! - At the end, of each deque what was pushed is what is gone and then what was left; of each number as many are gone as all
 //!   hands took; and what a hand knows to be taken is gone ([`close_pool`]). So nothing is left in the deque of a hand that found
 //!   nothing there and pushed no more ([`nothing_is_left`]); and where that is so of all hands, of each number as many were
