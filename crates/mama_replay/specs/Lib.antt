@@ -1,6 +1,0 @@
-pub mod Followed
-pub mod Passes
-pub mod Needs
-pub mod Order
-pub mod Ranks
-pub mod Dealt
