@@ -1,6 +1,7 @@
 #!/bin/bash
 # Plays scripts on threads, and has each log judged: the scripts that `gen` writes of the seeds 1, 2, 3 and so on, each by 1, 2, 4,
-# 8 and 64 workers in turn, and each script in the folders that follow the number. Each log has to be legal; causal it need not be.
+# 8 and 64 workers in turn, a tenth as many plays of scripts whose queues have unlike loads, and each script in the folders that
+# follow the number. Each log has to be legal; causal it need not be.
 # Wants the proved program (./mama --version builds it). Ends with 1 where a log is not legal, or a play ends with another status.
 #
 #   bench/play-soak.sh RUNS [FOLDER..]     RUNS plays of generated scripts; of a FOLDER every file that `serial` accepts
@@ -32,11 +33,25 @@ judge() {
     esac
 }
 
+# uneven RUN: sixteen queues, of which one or each second, fourth or eighth has all the subscriptions.
+uneven() {
+    awk -v step=$((2 << $1 % 4)) -v updates=$((50 + $1 * 37 % 400)) 'BEGIN {
+        print "mama script 1"; print "queues 16"
+        for (t = 0; t < 4; t++) print "topic \"T" t "\""
+        for (t = 0; t < 4; t++) { print "publisher " t " 1:bid:u32:0"; for (i = 1; i <= updates; i++) print "update 1:bid:u32:" i }
+        print "client"
+        for (q = 0; q < 16; q += step) for (t = 0; t < 4; t++) print "sub " t " market " q " 10 1000" }'
+}
+
 began=$SECONDS
 for ((run = 0; run < runs; run++)); do
     seed=$((run / ${#workers[@]} + 1)) w=${workers[run % ${#workers[@]}]}
     [ "$w" != 1 ] || "$program" gen "$seed" > "$scratch/script"
     judge "seed $seed" "$scratch/script" "$w"
+done
+for ((run = 0; run < runs / 10; run++)); do
+    uneven "$run" > "$scratch/script"
+    judge "uneven $run" "$scratch/script" "${workers[run % ${#workers[@]}]}"
 done
 for folder; do
     for file in "$folder"/*; do

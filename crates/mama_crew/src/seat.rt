@@ -104,6 +104,8 @@ impl<L: Listener> mama_work::Seat for Seat<L> {
 
     ghost sits = { IsSeatOf };
 
+    ghost acts = { actor_of };
+
     ghost is_over = { HasEnded };
 
     fn actor(&self) -> GateActor {

@@ -1,5 +1,5 @@
-//! The groups of seats that are turned by one thread each.
-ghost use Rattle.std.specs.Prelude.{◌≤◌, IfOk, OnOk};
+//! The groups of seats that are turned by one thread each, and the seats of queues, which move among threads.
+ghost use Rattle.std.specs.Prelude.{◌≤◌, ◌<◌, IfOk, OnOk};
 ghost use Rattle.std.specs.List.{All};
 ghost use Rattle.mama_crew.specs.Seat.{IsSeatOf};
 
@@ -9,34 +9,38 @@ use mama_event::Shape;
 use mama_memory::OutOfMemory;
 use std::alloc::Global;
 
-// How many threads there are for queues, and how many for clients and publishers: at most `workers` of each, and no more than
-// there are queues, or numbers of clients and publishers.
-#[derive(Clone, Copy)]
-struct Workers {
-    queues: u32,
-    others: u32,
+/// How many threads there are for queues: at most `workers`, no more than there are queues, and at least one.
+pub fn queue_threads(shape: &Shape, workers: u32) -> u32
+    requires { (1 ≤ workers) × (workers ≤ 64) }
+    ensures { (0 < result) × (result ≤ 64) }
+{
+    workers.min(shape.bounds.queues).max(1)
 }
 
-fn workers_for(shape: &Shape, workers: u32) -> Workers {
+// How many threads there are for clients and publishers: at most `workers`, and no more than the larger of their numbers.
+fn other_threads(shape: &Shape, workers: u32) -> u32 {
     let publishers = u32::try_from(shape.publisher_topics.len()).unwrap_or(u32::MAX);
-    Workers {
-        queues: workers.min(shape.bounds.queues),
-        others: workers.min(shape.clients.max(publishers)),
-    }
+    workers.min(shape.clients.max(publishers))
 }
 
-// Which thread turns an actor's seat: the bridge and the timer service have one each, then come those for queues, and then those
-// for clients and publishers.
-fn group_of(workers: Workers, actor: GateActor) -> usize {
+// Which thread turns an actor's seat: the bridge and the timer service have one each, then come those for clients and publishers.
+// The seat of a queue has none of its own.
+fn group_of(others: u32, actor: GateActor) -> Option<usize> {
     match actor {
-        GateActor::Bridge => 0,
-        GateActor::Timers => 1,
-        GateActor::Queue(number) => 2 + number.checked_rem(workers.queues).unwrap_or(0) as usize,
+        GateActor::Bridge => Some(0),
+        GateActor::Timers => Some(1),
+        GateActor::Queue(_) => None,
         GateActor::Client(number) | GateActor::Publisher(number) => {
-            let other = number.checked_rem(workers.others).unwrap_or(0);
-            2 + workers.queues as usize + other as usize
+            Some(2 + number.checked_rem(others).unwrap_or(0) as usize)
         }
     }
+}
+
+/// The seats of a crew in groups, for one thread each, and the seats of its queues.
+#[derive(Drop)]
+pub struct Groups<L: Listener> {
+    pub groups: Vec<Vec<Seat<L>>>,
+    pub queues: Vec<Seat<L>>,
 }
 
 // So many groups without seats.
@@ -56,7 +60,7 @@ fn empty_groups<L: Listener>(
 }
 
 // Adds a seat to its group.
-fn add<L: Listener>(
+fn add_to_group<L: Listener>(
     _script: &Script,
     _hall: &Hall<L>,
     groups: &mut Vec<Vec<Seat<L>>>,
@@ -74,24 +78,61 @@ fn add<L: Listener>(
     Ok(())
 }
 
-/// The seats of a crew in groups, for one thread each: the bridge's, the timer service's, those of the queues by their number
-/// modulo the number of threads for queues, and those of clients and publishers likewise. The error is want of memory.
+// Adds the seat of a queue.
+fn add_to_queues<L: Listener>(
+    _script: &Script,
+    _hall: &Hall<L>,
+    queues: &mut Vec<Seat<L>>,
+    seat: Seat<L>,
+) -> Result<(), OutOfMemory>
+    requires seats { All (IsSeatOf _script.now _hall.now) queues.old.items }
+    requires seat { IsSeatOf _script.now _hall.now seat }
+    ensures seats { OnOk result (All (IsSeatOf _script.now _hall.now) queues.new.items) }
+{
+    queues.push(seat)?;
+    Ok(())
+}
+
+// Adds a seat to the group of this number, or to the queues.
+fn add<L: Listener>(
+    script: &Script,
+    hall: &Hall<L>,
+    made: &mut Groups<L>,
+    number: Option<usize>,
+    seat: Seat<L>,
+) -> Result<(), OutOfMemory>
+    requires groups { All (λ group. All (IsSeatOf script.now hall.now) group.items) made.old.groups.items }
+    requires queues { All (IsSeatOf script.now hall.now) made.old.queues.items }
+    requires seat { IsSeatOf script.now hall.now seat }
+    ensures groups { OnOk result (All (λ group. All (IsSeatOf script.now hall.now) group.items) made.new.groups.items) }
+    ensures queues { OnOk result (All (IsSeatOf script.now hall.now) made.new.queues.items) }
+{
+    match number {
+        Some(number) => add_to_group(script, hall, &mut made.groups, number, seat),
+        None => add_to_queues(script, hall, &mut made.queues, seat),
+    }
+}
+
+/// The seats of a crew in groups, for one thread each: the bridge's, the timer service's, and those of clients and publishers by
+/// their numbers modulo the number of threads for them; and apart from these the seats of the queues. The error is want of memory.
 pub fn in_groups<L: Listener>(
     alloc: Global,
     script: &Script,
     hall: &Hall<L>,
     workers: u32,
     seats: Vec<Seat<L>>,
-) -> Result<Vec<Vec<Seat<L>>>, OutOfMemory>
+) -> Result<Groups<L>, OutOfMemory>
     requires { All (IsSeatOf script.now hall.now) seats.items }
-    ensures { IfOk result (λ groups. All (λ group. All (IsSeatOf script.now hall.now) group.items) groups.items) }
+    ensures groups { IfOk result (λ r. All (λ group. All (IsSeatOf script.now hall.now) group.items) r.groups.items) }
+    ensures queues { IfOk result (λ r. All (IsSeatOf script.now hall.now) r.queues.items) }
 {
-    let workers = workers_for(script.shape(), workers);
-    let number = 2 + workers.queues as usize + workers.others as usize;
-    let mut groups = empty_groups(alloc, script, hall, number)?;
+    let others = other_threads(script.shape(), workers);
+    let groups = empty_groups(alloc, script, hall, 2 + others as usize)?;
+    let queues = Vec::new(alloc);
+    let mut made = Groups { groups, queues };
     for seat in seats {
-        let number = group_of(workers, seat.actor());
-        add(script, hall, &mut groups, number, seat)?;
+        let number = group_of(others, seat.actor());
+        add(script, hall, &mut made, number, seat)?;
     }
-    Ok(groups)
+    Ok(made)
 }

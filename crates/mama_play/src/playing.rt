@@ -7,7 +7,7 @@ ghost use Rattle.mama_crew.specs.Crew.{actors_of};
 ghost use Rattle.mama_crew.specs.Seat.{actor_of, IsSeatOf, HasEnded};
 ghost use Rattle.mama_close.specs.Back.{AreBack};
 
-use crate::groups::in_groups;
+use crate::groups::{Groups, in_groups, queue_threads};
 use crate::order::in_order;
 use mama_carry::{Listener, Maker};
 use mama_check::legal_records_are_true;
@@ -23,8 +23,8 @@ use std::sync::Wait;
 use std::thread::Threads;
 
 /// Plays a script on threads: one turns the bridge, one the timer service, at most `workers` the queues, and at most as many
-/// the clients and publishers. It returns when all have ended, or when one of them found no memory; that it returns is not
-/// promised.
+/// the clients and publishers. A queue begins with the thread of its number modulo those for queues, and moves to one that has
+/// nothing to do. It returns when all have ended, or when one of them found no memory; that it returns is not promised.
 ///
 /// The record is legal for the script, whichever thread turned which actor when. So what is promised of legal records is
 /// true of it: each object is told what is meant for it, and nothing after its destroy notice; and an image that is ok is its
@@ -76,15 +76,25 @@ fn all_turned<
     workers: u32,
     seats: Vec<Seat<L>>,
 ) -> Result<Vec<Seat<L>>, OutOfMemory>
-    requires { All (IsSeatOf script.now hall.now) seats.items }
+    requires workers { (1 ≤ workers) × (workers ≤ 64) }
+    requires seats { All (IsSeatOf script.now hall.now) seats.items }
     ensures actors { IfOk result (λ r. map actor_of r.items ≡ actors_of script.now.shape) }
     ensures seats { IfOk result (λ r. All (IsSeatOf script.now hall.now) r.items) }
     ensures ended { IfOk result (λ r. All HasEnded r.items) }
 {
-    let groups = in_groups(alloc, script, hall, workers, seats)?;
-    let Turned { seats, ended } = turn_groups(rt, alloc, script, hall, clock, gate, groups)?;
+    let Groups { groups, queues } = in_groups(alloc, script, hall, workers, seats)?;
+    let threads = queue_threads(script.shape(), workers);
+    let Turned {
+        mut seats,
+        mut queues,
+        ended,
+        stolen: _,
+    } = turn_groups(
+        rt, alloc, script, hall, clock, gate, threads, groups, queues,
+    )?;
     if !ended {
         return Err(OutOfMemory);
     }
+    seats.append(&mut queues)?;
     in_order(script, hall, seats)
 }

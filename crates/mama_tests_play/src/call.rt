@@ -86,7 +86,7 @@ fn the_listener_comes_back_with_its_callbacks(rt: HostRuntime) -> Result<(), Fai
 #[test]
 fn callbacks_of_two_queues_run_at_the_same_time(rt: HostRuntime) -> Result<(), Fail> {
     let script = parsed(rt.alloc(), TWO_QUEUES)?;
-    let meeting = Arc::new(rt.alloc(), Meeting::new())?;
+    let meeting = Arc::new(rt.alloc(), Meeting::of(0, 1))?;
     let mut host = Host {
         meeting: Arc::try_clone(&meeting)?,
     };

@@ -9,9 +9,10 @@ use std::alloc::Global;
 use std::sync::Arc;
 use std::sync::atomic::AtomicBool;
 use std::sync::atomic::Ordering::SeqCst;
+use std::thread;
 
-// The most looks at the other.
-const MOST_LOOKS: u32 = 50_000_000;
+// The most looks at the other. After each, other threads may run.
+const MOST_LOOKS: u32 = 1_000_000;
 
 /// One of two: whether it has begun, and whether it saw that the other has.
 #[derive(Drop)]
@@ -38,20 +39,24 @@ impl Side {
                 self.met.store(true, SeqCst);
                 return;
             }
+            thread::yield_now();
         }
     }
 }
 
-/// Two that meet. On one thread neither sees the other.
+/// Two that meet, as the queues of these numbers do in their first turns. On one thread neither sees the other.
 #[derive(Drop)]
 pub struct Meeting {
+    queues: (u32, u32),
     first: Side,
     second: Side,
 }
 
 impl Meeting {
-    pub fn new() -> Meeting {
+    /// Two queues that are to meet.
+    pub fn of(first: u32, second: u32) -> Meeting {
         Meeting {
+            queues: (first, second),
             first: Side::new(),
             second: Side::new(),
         }
@@ -63,13 +68,15 @@ impl Meeting {
     }
 }
 
-// The first turns of queues 0 and 1 meet.
 impl Gate for Meeting {
     fn turn(&self, actor: GateActor) {
-        match actor {
-            GateActor::Queue(0) => self.first.meet(&self.second),
-            GateActor::Queue(1) => self.second.meet(&self.first),
-            _ => {}
+        let GateActor::Queue(number) = actor else {
+            return;
+        };
+        if number == self.queues.0 {
+            self.first.meet(&self.second);
+        } else if number == self.queues.1 {
+            self.second.meet(&self.first);
         }
     }
 }

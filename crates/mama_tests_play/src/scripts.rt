@@ -25,3 +25,22 @@ client
 sub 0 market 0 10 1000
 sub 0 market 1 10 1000
 "#;
+
+/// Four queues, of which the first and the third have all subscriptions.
+pub const UNEVEN: &str = r#"mama script 1
+queues 4
+topic "EQ.ABC"
+topic "EQ.XYZ"
+publisher 0 22:bid:u32:100
+update 22:bid:u32:101
+update 22:bid:u32:102
+update 22:bid:u32:103
+publisher 1 22:bid:u32:200
+update 22:bid:u32:201
+update 22:bid:u32:202
+client
+sub 0 market 0 10 1000
+sub 1 market 0 10 1000
+sub 0 market 2 10 1000
+sub 1 market 2 10 1000
+"#;

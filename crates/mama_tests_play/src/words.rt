@@ -1,7 +1,7 @@
 //! The top call with the words of play, and with others.
 
 use crate::meeting::Meeting;
-use crate::scripts::{FIRST, FIRST_IMAGE, TWO_QUEUES};
+use crate::scripts::{FIRST, FIRST_IMAGE, TWO_QUEUES, UNEVEN};
 use mama_commands::run;
 use mama_edge::{Gate, MemoryClock, MemorySink, MemorySource, OpenGate};
 use mama_plain::Status;
@@ -113,9 +113,31 @@ fn each_number_of_workers_writes_a_legal_log(rt: HostRuntime) -> Result<(), Fail
 
 #[test]
 fn turns_of_two_queues_run_at_the_same_time(rt: HostRuntime) -> Result<(), Fail> {
-    let meeting = Meeting::new();
+    let meeting = Meeting::of(0, 1);
     let log = log_of(&rt, rt.alloc(), "play 2", TWO_QUEUES.as_bytes(), &meeting)?;
     assert!(rt; is_causal(&rt, rt.alloc(), TWO_QUEUES, &log)?);
+    assert!(rt; meeting.is_held());
+    Ok(())
+}
+
+// Fewer threads than queues, as many, and more.
+#[test]
+fn queues_with_unlike_loads_are_served_by_any_number_of_threads(
+    rt: HostRuntime,
+) -> Result<(), Fail> {
+    for words in ["play 1", "play 3", "play 4", "play 8"] {
+        let log = log_of(&rt, rt.alloc(), words, UNEVEN.as_bytes(), &OpenGate)?;
+        assert!(rt; is_causal(&rt, rt.alloc(), UNEVEN, &log)?, "{words}");
+    }
+    Ok(())
+}
+
+// Queues 0 and 2 begin with one thread. They meet only where the other thread, whose queues have ended, takes one of them.
+#[test]
+fn a_thread_whose_queues_have_ended_takes_those_of_another(rt: HostRuntime) -> Result<(), Fail> {
+    let meeting = Meeting::of(0, 2);
+    let log = log_of(&rt, rt.alloc(), "play 2", UNEVEN.as_bytes(), &meeting)?;
+    assert!(rt; is_causal(&rt, rt.alloc(), UNEVEN, &log)?);
     assert!(rt; meeting.is_held());
     Ok(())
 }

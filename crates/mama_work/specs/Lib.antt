@@ -1,1 +1,3 @@
+pub mod Dispatcher
 pub mod Kept
+pub mod Serving

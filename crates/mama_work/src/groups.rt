@@ -3,28 +3,17 @@ ghost use Rattle.std.specs.List.{All};
 ghost use Rattle.mama_work.specs.Kept.{IsOf, seats_of};
 
 use crate::seat::Seat;
-use crate::worker::{Report, Shared, work, work_or_hold};
-use crossbeam_utils::CachePadded;
+use crate::worker::{Report, Shared, work_or_hold};
 use mama_edge::{Clock, Gate};
-use mama_memory::OutOfMemory;
-use std::alloc::Global;
 use std::snapshot::Snapshot;
+use std::sync::Wait;
 use std::sync::atomic::AtomicBool;
 use std::sync::atomic::Ordering::SeqCst;
-use std::sync::{Mutex, Wait};
-use std::thread;
 use std::thread::{Promise, PromisedHandle, Scope, Threads};
 
-/// The seats after all threads left off, and whether they did since all of them have ended.
+/// What a thread answers: as many seats as it was given, which are of this script and hall still.
 #[derive(Drop)]
-pub struct Turned<S: Seat> {
-    pub seats: Vec<S>,
-    pub ended: bool,
-}
-
-// What a thread answers: as many seats as it was given, which are of this script and hall still.
-#[derive(Drop)]
-struct Kept<S: Seat> {
+pub struct Kept<S: Seat> {
     script: Snapshot<S::Script>,
     hall: Snapshot<S::Hall>,
     number: usize,
@@ -77,13 +66,13 @@ where
     }
 }
 
-// Threads that were started, and the seats of those that could not be. It is short where a thread or a seat was lost, since no
+/// Threads that were started, and the seats of those that could not be. It is short where a thread or a seat was lost, since no
 // room for it was found.
 #[derive(Drop)]
-struct Started<S: Seat + Send> {
-    children: Vec<PromisedHandle<Report<S>, Kept<S>>>,
-    left: Vec<S>,
-    short: bool,
+pub struct Started<S: Seat + Send> {
+    pub children: Vec<PromisedHandle<Report<S>, Kept<S>>>,
+    pub left: Vec<S>,
+    pub short: bool,
 }
 
 // The seats of two reports. Those of the second are dropped where there is no room for them; then not all have ended.
@@ -143,8 +132,8 @@ fn join<S: Seat + Send, Rt: Threads>(
     both(script, hall, back, report)
 }
 
-// Waits for all threads.
-fn join_all<S: Seat + Send, Rt: Threads>(
+/// Waits for all threads.
+pub fn join_all<S: Seat + Send, Rt: Threads>(
     rt: &Rt,
     script: &S::Script,
     hall: &S::Hall,
@@ -229,8 +218,8 @@ where
     }
 }
 
-// Starts the threads of all groups. There is a flag for each.
-fn start_all<
+/// Starts the threads of all groups. There is a flag for each.
+pub fn start_all<
     's,
     'c: 's,
     E,
@@ -241,7 +230,6 @@ fn start_all<
 >(
     scope: &Scope<'s, E>,
     rt: &'s Rt,
-    alloc: Global,
     shared: &'s Shared<'s, 'c, S, C, G>,
     flags: &'s [AtomicBool],
     groups: Vec<Vec<S>>,
@@ -255,8 +243,8 @@ where
     ensures all { result.short ≡ false → seats_of result.children.items + length result.left.items ≡ sum_by (λ group. length group.items) groups.items }
 {
     let mut started = Started {
-        children: Vec::new(alloc),
-        left: Vec::new(alloc),
+        children: Vec::new(shared.alloc),
+        left: Vec::new(shared.alloc),
         short: false,
     };
     let mut flags = flags.iter();
@@ -265,170 +253,4 @@ where
         started = start_one(scope, rt, shared, held, group, started);
     }
     started
-}
-
-// Starts the threads, turns what is left to this one, and waits for all.
-fn turn_all<
-    's,
-    'c: 's,
-    E,
-    S: Seat + Send + 's,
-    C: Clock + Send + 'c,
-    G: Gate + Sync,
-    Rt: Threads + Wait + Copy + Sync,
->(
-    scope: &Scope<'s, E>,
-    rt: &'s Rt,
-    alloc: Global,
-    shared: &'s Shared<'s, 'c, S, C, G>,
-    flags: &'s [AtomicBool],
-    groups: Vec<Vec<S>>,
-) -> Report<S>
-where
-    S::Script: Sync,
-    S::Hall: Sync,
-    requires { All (λ group. All (S.sits shared.now.script.now shared.now.hall.now) group.items) groups.items }
-    ensures seats { All (S.sits shared.now.script.now shared.now.hall.now) result.seats.items }
-    ensures ended { result.ended ≡ true → All S.is_over result.seats.items }
-    ensures all { result.ended ≡ true → length result.seats.items ≡ sum_by (λ group. length group.items) groups.items }
-{
-    let Started {
-        children,
-        left,
-        short,
-    } = start_all(scope, rt, alloc, shared, flags, groups);
-    if short {
-        shared.stop.store(true, SeqCst);
-    }
-    let own = work(*rt, shared, left);
-    let back = join_all(rt, shared.script, shared.hall, children, own);
-    Report {
-        seats: back.seats,
-        ended: back.ended && !short,
-    }
-}
-
-// A flag that is down for each group.
-fn flags_for(alloc: Global, number: usize) -> Result<Vec<AtomicBool>, OutOfMemory> {
-    let mut flags = Vec::with_capacity(alloc, number)?;
-    for _ in 0..number {
-        flags.push(AtomicBool::new(false))?;
-    }
-    Ok(flags)
-}
-
-// Turns the groups, with what their threads share, and a flag for each group.
-fn turn_with<
-    'a,
-    'c: 'a,
-    S: Seat + Send,
-    C: Clock + Send,
-    G: Gate + Sync,
-    Rt: Threads + Wait + Copy + Sync,
->(
-    rt: &'a Rt,
-    alloc: Global,
-    shared: &'a Shared<'a, 'c, S, C, G>,
-    flags: &'a [AtomicBool],
-    groups: Vec<Vec<S>>,
-) -> Turned<S>
-where
-    S::Script: Sync,
-    S::Hall: Sync,
-    requires { All (λ group. All (S.sits shared.now.script.now shared.now.hall.now) group.items) groups.items }
-    ensures seats { All (S.sits shared.now.script.now shared.now.hall.now) result.seats.items }
-    ensures ended { result.ended ≡ true → All S.is_over result.seats.items }
-    ensures all { result.ended ≡ true → length result.seats.items ≡ sum_by (λ group. length group.items) groups.items }
-{
-    let Report { seats, ended } = thread::scope(
-        thread::scope_env(),
-        rt,
-        move |scope| -> Report<S>
-            requires { All (λ group. All (S.sits shared.now.script.now shared.now.hall.now) group.items) groups.items }
-            ensures seats { All (S.sits shared.entry.now.script.now shared.entry.now.hall.now) result.seats.items }
-            ensures ended { result.ended ≡ true → All S.is_over result.seats.items }
-            ensures all { result.ended ≡ true → length result.seats.items ≡ sum_by (λ group. length group.items) groups.items }
-        { turn_all(scope, rt, alloc, shared, flags, groups) },
-    );
-    Turned { seats, ended }
-}
-
-// Turns the groups, with what their threads share.
-fn turn_under<
-    'a,
-    'c: 'a,
-    S: Seat + Send,
-    C: Clock + Send,
-    G: Gate + Sync,
-    Rt: Threads + Wait + Copy + Sync,
->(
-    rt: &'a Rt,
-    alloc: Global,
-    script: &'a S::Script,
-    hall: &'a S::Hall,
-    clock: &'a Mutex<&'c mut C>,
-    gate: &'a G,
-    stop: &'a AtomicBool,
-    flags: &'a [AtomicBool],
-    groups: Vec<Vec<S>>,
-) -> Turned<S>
-where
-    S::Script: Sync,
-    S::Hall: Sync,
-    requires { All (λ group. All (S.sits script.now hall.now) group.items) groups.items }
-    ensures seats { All (S.sits script.now hall.now) result.seats.items }
-    ensures ended { result.ended ≡ true → All S.is_over result.seats.items }
-    ensures all { result.ended ≡ true → length result.seats.items ≡ sum_by (λ group. length group.items) groups.items }
-{
-    let shared = Shared {
-        script,
-        hall,
-        clock,
-        gate,
-        stop,
-    };
-    turn_with(rt, alloc, &shared, flags, groups)
-}
-
-/// Turns the seats of each group in a thread of its own until all have ended, or until one finds no memory; the seats of a
-/// group whose thread could not be started are turned by the calling thread. Each turn of a seat begins with a call of the
-/// gate, and a seat that reads the clock is handed the clock's next moment.
-///
-/// The error is want of memory before any seat was turned. It starts a thread for each group.
-pub fn turn_groups<
-    S: Seat + Send,
-    C: Clock + Send,
-    G: Gate + Sync,
-    Rt: Threads + Wait + Copy + Sync,
->(
-    rt: &Rt,
-    alloc: Global,
-    script: &S::Script,
-    hall: &S::Hall,
-    clock: &mut C,
-    gate: &G,
-    groups: Vec<Vec<S>>,
-) -> Result<Turned<S>, OutOfMemory>
-where
-    S::Script: Sync,
-    S::Hall: Sync,
-    requires { All (λ group. All (S.sits script.now hall.now) group.items) groups.items }
-    ensures seats { IfOk result (λ turned. All (S.sits script.now hall.now) turned.seats.items) }
-    ensures ended { IfOk result (λ turned. turned.ended ≡ true → All S.is_over turned.seats.items) }
-    ensures all { IfOk result (λ turned. turned.ended ≡ true → length turned.seats.items ≡ sum_by (λ group. length group.items) groups.items) }
-{
-    let flags = flags_for(alloc, groups.len())?;
-    let stop = CachePadded::new(AtomicBool::new(false));
-    let clock = Mutex::new(&mut *clock);
-    Ok(turn_under(
-        rt,
-        alloc,
-        script,
-        hall,
-        &clock,
-        gate,
-        &stop,
-        flags.as_slice(),
-        groups,
-    ))
 }

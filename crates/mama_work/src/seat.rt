@@ -1,4 +1,5 @@
 ghost use Rattle.std.specs.Prelude.{◌≡◌, true};
+ghost use Rattle.mama_edge.specs.declared.gate.GateActor.{GateActor as Actor};
 
 use mama_edge::GateActor;
 use mama_memory::OutOfMemory;
@@ -14,11 +15,15 @@ pub trait Seat: Drop {
     // It is a seat of this script and this hall, and keeps what it promises of what it took and put so far.
     ghost sits: { Self.Script → Self.Hall → Self → Type 0 };
 
+    // Whose seat it is. That never changes.
+    ghost acts: { Self → Actor };
+
     // All that it has to do is done.
     ghost is_over: { Self → Type 0 };
 
     /// Whose seat it is.
-    fn actor(&self) -> GateActor;
+    fn actor(&self) -> GateActor
+        ensures { result ≡ acts self.now };
 
     /// Whether its next turn uses the moment that it is handed.
     fn reads_clock(&self) -> bool;
@@ -37,5 +42,6 @@ pub trait Seat: Drop {
         moment: u64,
     ) -> Result<bool, OutOfMemory>
         requires { sits script.now hall.now self.old }
-        ensures { sits script.now hall.now self.new };
+        ensures sits { sits script.now hall.now self.new }
+        ensures actor { acts self.new ≡ acts self.old };
 }

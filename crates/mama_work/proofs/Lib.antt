@@ -1,0 +1,3 @@
+pub mod AllHands
+pub mod Lists
+pub mod Weights
