@@ -81,6 +81,7 @@ SCRIPTS = {
     "timers": HEAD + "client|timer 0 10|at 2 disarm t0.0|timer any 5|now 12|now clock|disarm t0.1|",
     "inboxes": HEAD + 'topic "A"|publisher 0 22:bid:u32:100 1:n:text:"x" 2:b:bytes:x00ff 3:p:price:5/2|client|inbox 0|fault dup 1|at 1 ask i0.0 0 22|at 2 close i0.0|inbox any|ask i0.1 0 1 2 3|close i0.1|',
     "lists of numbers": MARKET.replace("script 1|", "script 2|strategy 2|").replace("22:bid:u32:102", "5:dp:nums:[1,-2]"),
+    "a group and a watch": MARKET.replace("script 1|", "script 2|strategy 1|") + "fault lose 1|timer 0 10|now 10|now 20|group s0.0|watch s0.0 t0.0 1|",
     "two publishers and two clients": HEAD + 'topic "A"|topic "B"|publisher 0 1:a:u8:1|recap|publisher 1 1:a:i64:-1|update 1:a:i64:2 2::bool:true|client|sub 0 market 0 10 1000|sub 1 market 0 10 1000|client|sub 0 market 0 0 0|fault hold 1 2|',
 }
 OUT_OF_MEMORY = (8, b"", b"mama_run: out of memory\n")

@@ -2,6 +2,7 @@
 use Rattle.std.specs.Prelude.{◌↔◌, Option, None, Some}
 use Rattle.std.proofs.Common.{◌≡◌, ℕ, Bool, true, sym, subst, refl}
 use Rattle.mama_script.specs.Script.{ScriptData}
+use Rattle.mama_script.specs.Tree.{IsScript}
 use Rattle.mama_record.specs.RunData.{RunData}
 use Rattle.mama_laws_legal.specs.Laws.{IsOrderly}
 use Rattle.mama_rules_legal.specs.Form.{IsFormed}
@@ -10,7 +11,7 @@ use Rattle.mama_check.specs.Causal.{IsCausal}
 use Rattle.mama_check.specs.declared.verdict.Actor.{Actor}
 use Rattle.mama_check.specs.declared.verdict.Verdict.{Verdict}
 use Rattle.mama_check.specs.declared.verdict.Verdict.TheVariants.{Legal, NotLegal}
-use Rattle.mama_check.specs.Verdict.{Finds, IsBroken, Judges, IsTrue, LegalIsTrue, KeepAllLines, KeepEdges, KeepObjects}
+use Rattle.mama_check.specs.Verdict.{Finds, IsBroken, Judges, IsTrue, LegalIsTrue, KeepAllLines, KeepEdges, KeepObjects, KeepLists}
 use Rattle.mama_check.proofs.VerdictLemmas.{is_legal, not_legal}
 
 module _ (script : ScriptData) (run : RunData) where
@@ -26,8 +27,8 @@ module _ (script : ScriptData) (run : RunData) where
     judged_broken broken verdict is breaks =
         subst (λ (v : Verdict). Judges script run v) (sym is) (not_legal script run broken.0 broken.1 law orderly formed breaks, breaks)
 
-    pub judged_legal : KeepAllLines script run → KeepEdges script run → KeepObjects script run → (causal : Bool) → (causal ≡ true) ↔ IsCausal script run → Judges script run (Legal causal)
-    judged_legal done whole told causal tells = (is_legal script run law orderly formed done whole told, tells)
+    pub judged_legal : KeepAllLines script run → KeepEdges script run → KeepObjects script run → KeepLists script run → (causal : Bool) → (causal ≡ true) ↔ IsCausal script run → Judges script run (Legal causal)
+    judged_legal done whole told lists causal tells = (is_legal script run law orderly formed done whole told lists, tells)
 
-    pub true_of_legal : LegalIsTrue → KeepAllLines script run → KeepEdges script run → KeepObjects script run → IsTrue script run
-    true_of_legal truth done whole told = truth script run orderly (is_legal script run law orderly formed done whole told)
+    pub true_of_legal : IsScript script → LegalIsTrue → KeepAllLines script run → KeepEdges script run → KeepObjects script run → KeepLists script run → IsTrue script run
+    true_of_legal is truth done whole told lists = truth script run is (is_legal script run law orderly formed done whole told lists)

@@ -9,15 +9,16 @@ use Rattle.mama_event.specs.declared.ids.ObjectId.TheVariants.{Sub, Timer, Inbox
 use Rattle.mama_event.specs.declared.market.ImageHead.{ImageHead}
 use Rattle.mama_event.specs.declared.to_queue.QueueNote.{QueueNote}
 use Rattle.mama_msg.specs.Field.{FieldData}
-use Rattle.mama_record.specs.RunData.{LastImage, ObjectCalls}
+use Rattle.mama_record.specs.RunData.{LastImage, ObjectCalls, GroupNotes, WatchNotes}
 use Rattle.mama_rules_rounds.specs.Client.{Planned, clock_lines}
 use Rattle.mama_rules_rounds.specs.World.{Setting}
-use Rattle.mama_rules_rounds.specs.Round.{setting_of, object_calls, last_image}
+use Rattle.mama_rules_rounds.specs.Round.{setting_of, planned_in, object_calls, last_image, group_told, watch_told}
 use Rattle.mama_rules_legal.specs.Form.{objects_of, in_order}
 use Rattle.mama_check.specs.Images.{images_for}
 use Rattle.mama_check.specs.Kept.{LegalIsFormed}
 use Rattle.mama_check.proofs.Alone.{AreAlone, alone_rest, alone_here, objects_alone}
 use Rattle.mama_check.proofs.ImageLemmas.{object_of, sub_of, Stand, is_same, absent}
+use Rattle.mama_check.proofs.ListLemmas.{groups_numbered, watches_numbered}
 use Rattle.mama_check.proofs.VerdictLemmas.{image_cases, context}
 
 -- ---- images
@@ -73,6 +74,8 @@ legal_is_formed script run legal =
         publishers = legal.shaped.publishers;
         queues = legal.shaped.queues;
         objects = ap (map (λ (c : ObjectCalls). c.object)) legal.calls.calls ∙ calls_of_each setting run.queues setting.objects;
+        groups = ap (map (λ (g : GroupNotes). g.group)) legal.lists.groups ∙ groups_numbered (planned_in script) script.groups (group_told setting run.queues) (λ g. refl);
+        watches = ap (map (λ (w : WatchNotes). w.watch)) legal.lists.watches ∙ watches_numbered (planned_in script) script.watches (watch_told setting run.queues) (λ w. refl);
       };
       images = subst (λ (images : List LastImage). in_order (objects_of script) (map sub_of images) ≡ true) (sym legal.calls.images)
           (all_stand setting run.queues setting.objects (objects_alone script)).stands;

@@ -2,12 +2,13 @@
 use Rattle.std.proofs.Common.{◌≡◌, ℕ, suc, ◌<◌, List, [], ◌∷◌, length, map, get_or, refl, ap, sym, subst, ◌∙◌, arith}
 use Rattle.std.specs.Prelude.{slice_get, Some}
 use Rattle.std.proofs.lemmas.List.{get_or-map, length-map}
-use Rattle.mama_record.specs.RunData.{ObjectCalls}
+use Rattle.mama_record.specs.RunData.{ObjectCalls, GroupNotes, WatchNotes}
 use Rattle.mama_rules_rounds.specs.Client.{clock_lines}
-use Rattle.mama_rules_rounds.specs.Round.{setting_of, object_calls}
+use Rattle.mama_rules_rounds.specs.Round.{setting_of, planned_in, object_calls, group_told, watch_told}
 use Rattle.mama_rules_legal.specs.Legal.{IsLegal}
 use Rattle.mama_check.specs.Kept.{AreKept, KeptIsLegal}
 use Rattle.mama_check.proofs.CallLemmas.{as_many}
+use Rattle.mama_check.proofs.ListLemmas.{numbered_len, groups_len, watches_len}
 
 -- two lists of which each item says the same
 pub same_said : {X Y Z : Type 0} (f : X → Z) (g : Y → Z) (dx : X) (dy : Y) (xs : List X) (ys : List Y) → length xs ≡ length ys
@@ -48,6 +49,12 @@ kept_is_legal script run orderly counted = (forward, back)
     length_of : List ℕ → ℕ
     length_of ms = length ms
 
+    as_groups : length (map (group_told (setting_of script) run.queues) (setting_of script).groups) ≡ length script.groups
+    as_groups = length-map (setting_of script).groups (group_told (setting_of script) run.queues) ∙ groups_len (planned_in script) 0 script.groups
+
+    as_watches : length (map (watch_told (setting_of script) run.queues) (setting_of script).watches) ≡ length script.watches
+    as_watches = length-map (setting_of script).watches (watch_told (setting_of script) run.queues) ∙ watches_len (planned_in script) 0 script.watches
+
     forward : AreKept script run → IsLegal script run
     forward kept =
         let moments : map length run.clients ≡ map clock_lines script.clients = same_said length clock_lines [] [] run.clients script.clients counted.clients kept.moments in
@@ -59,6 +66,12 @@ kept_is_legal script run orderly counted = (forward, back)
           lines = record { clients = moments; publishers = kept.lines };
           edges = record { bridge = kept.bridge; timers = kept.timers; publishers = kept.publishers; queues = kept.queues };
           calls = record { calls = same_items run.calls wanted many (λ k low. kept.calls k (subst (λ (n : ℕ). k < n) as_wanted low)); images = kept.images };
+          lists = record {
+            groups = same_items run.groups (map (group_told (setting_of script) run.queues) (setting_of script).groups)
+                (numbered_len (λ (g : GroupNotes). g.group) run.groups (length script.groups) counted.groups ∙ sym as_groups) (λ k low. kept.groups k (subst (λ (n : ℕ). k < n) as_groups low));
+            watches = same_items run.watches (map (watch_told (setting_of script) run.queues) (setting_of script).watches)
+                (numbered_len (λ (w : WatchNotes). w.watch) run.watches (length script.watches) counted.watches ∙ sym as_watches) (λ k low. kept.watches k (subst (λ (n : ℕ). k < n) as_watches low));
+          };
         }
 
     back : IsLegal script run → AreKept script run
@@ -71,4 +84,6 @@ kept_is_legal script run orderly counted = (forward, back)
       queues = legal.edges.queues;
       calls = λ k low. ap (λ (cs : List ObjectCalls). slice_get cs k) legal.calls.calls;
       images = legal.calls.images;
+      groups = λ k low. ap (λ (gs : List GroupNotes). slice_get gs k) legal.lists.groups;
+      watches = λ k low. ap (λ (ws : List WatchNotes). slice_get ws k) legal.lists.watches;
     }

@@ -1,6 +1,6 @@
 -- What was put on each lane, by all who put there.
 use Rattle.std.proofs.Common.{◌≡◌, ℕ, zero, suc, ◌+◌, ◌<◌, ◌≤◌, inl, inr, List, [], ◌∷◌, ◌++◌, length, map, get_or, refl, ap, sym, subst, ◌∙◌, arith}
-use Rattle.std.specs.Prelude.{◌==◌, slice_index_or}
+use Rattle.std.specs.Prelude.{◌==◌, filter, slice_index_or}
 use Rattle.std.specs.List.{flat_map}
 use Rattle.std.proofs.lemmas.Bool.{cond-true, cond-false, cases_Bool}
 use Rattle.std.proofs.lemmas.List.{length-map, length-append, get_or-map, get_or_past, get_or_append_left, get_or-append-add}
@@ -19,13 +19,13 @@ use Rattle.mama_rules_services.specs.Bridge as bridge
 use Rattle.mama_rules_services.specs.Timers.{timers_puts_at}
 use Rattle.mama_rules_services.specs.Timers as timing
 use Rattle.mama_rules_services.specs.Ports.{Putter, bridge_putter, timers_putter, queue_putter}
-use Rattle.mama_rules_queue.specs.Queue.{QueuePut, queue_puts_at}
+use Rattle.mama_rules_queue.specs.Queue.{QueuePut}
 use Rattle.mama_script.specs.declared.client.ClientLine.{ClientLine}
 use Rattle.mama_script.specs.Script.{ScriptData}
 use Rattle.mama_script.specs.Tree.{IsShaped, topic_of_part}
 use Rattle.mama_record.specs.RunData.{RunData}
 use Rattle.mama_rules_rounds.specs.Client.{Planned, at_first, client_steps, bridge_part, timers_part}
-use Rattle.mama_rules_rounds.specs.World.{no_section, orders_by, queue_part, timer_part}
+use Rattle.mama_rules_rounds.specs.World.{Setting, Watched, no_section, is_on, rows_on, puts_on, queue_part, timer_part}
 use Rattle.mama_rules_rounds.specs.Round.{all_client_steps, setting_of}
 use Rattle.mama_rules_legal.specs.Edges.{all_steps, client_puts, queue_puts, put_on_bridge, put_on_timers, put_on_queue}
 use Rattle.mama_journal.specs.EntryLaws.{by_entries, puts-push}
@@ -34,8 +34,11 @@ use Rattle.mama_check_order.specs.Taken.{put_by}
 use Rattle.mama_check_puts.specs.Puts.{AreLists, tick_part, timers_put_to, bridge_put_to_queue, bridge_put_to_timers}
 use Rattle.mama_check_puts.specs.Client.{line_puts}
 use Rattle.mama_check_puts.specs.declared.client.ClientPuts.{ClientPuts}
-use Rattle.mama_check_queue.specs.Served.{ServedData, puts_in, bridge_puts, timers_puts}
+use Rattle.mama_check_queue.specs.Served.{ServedData, rows_in, puts_in, bridge_puts, timers_puts}
 use Rattle.mama_check.specs.Puts.{to_bridge_in, to_timers_in, client_to_bridge, client_to_timers, publisher_to_bridge, AreClientPuts, AreServed}
+use Rattle.mama_event.specs.declared.watch.WatchRow.{WatchRow}
+use Rattle.mama_plans.specs.Lists.{watch_row, watches_on}
+use Rattle.mama_check.proofs.NumberLemmas.{on_at}
 use Rattle.mama_check.proofs.PutLists.{lines_are_steps}
 
 -- ---- three groups of lists, one after another
@@ -143,17 +146,22 @@ timers_way shape journal q =
 -- ---- queues that were served again
 
 abbrev pub way_of : {V : Type 0} → (QueuePut → List V) → ServedData → List (ℕ × V)
-way_of part s = parted part (puts_in s.objects s.journal)
+way_of part s = parted part (puts_in s.objects (rows_in s) s.journal)
 
 abbrev pub queue_way : {V : Type 0} → (QueuePut → List V) → ScriptData → RunData → ℕ → List (ℕ × V)
-queue_way part script run q = parted part (puts_in (setting_of script).objects (slice_index_or run.queues q []))
+queue_way part script run q = parted part (puts_in (setting_of script).objects (rows_on q (setting_of script).watches) (slice_index_or run.queues q []))
+
+rows_are : (ws : List Watched) → map (λ (w : ℕ × WatchRow). w.1) (map watch_row ws) ≡ map (λ (w : Watched). w.row) ws
+rows_are [] = refl
+rows_are (w ∷ ws) = ap (λ (rows : List WatchRow). w.row ∷ rows) (rows_are ws)
 
 pub served_lists : {V : Type 0} (part : QueuePut → List V) (script : ScriptData) (run : RunData) (served : List ServedData) → AreServed script run served → length run.queues ≡ queues_of script.shape
     → AreLists (map (way_of part) served) (queues_of script.shape) (queue_way part script run)
 served_lists {V} part script run served are many =
     let js : ServedData → List (ℕ × QueueNote) = λ s. s.journal in
-    let objects : List Planned = (setting_of script).objects in
-    let nobody : ServedData = record { objects = objects; journal = [] } in
+    let setting : Setting = setting_of script in
+    let objects : List Planned = setting.objects in
+    let nobody : ServedData = record { objects = objects; groups = []; watches = []; journal = [] } in
     let as_journals : length (map js served) ≡ length served = length-map served js in
     let as_lists : length (map (way_of part) served) ≡ length served = length-map served (way_of part) in
     let is_many : length (map js served) ≡ length run.queues = ap (λ (xs : List (List (ℕ × QueueNote))). length xs) are.journals in
@@ -163,16 +171,21 @@ served_lists {V} part script run served are many =
           let inside : q < length served = omega arith in
           let own : (get_or served q nobody).objects ≡ objects = are.objects q nobody inside in
           let journal : (get_or served q nobody).journal ≡ slice_index_or run.queues q [] = sym (get_or-map js served q nobody [] inside) ∙ ap (λ (xs : List (List (ℕ × QueueNote))). slice_index_or xs q []) are.journals in
+          let watches : (get_or served q nobody).watches ≡ watches_on setting.watches q =
+          sym (get_or-map (λ (s : ServedData). s.watches) served q nobody [] inside) ∙ ap (λ (ls : List (List (ℕ × WatchRow))). slice_index_or ls q []) are.watches
+          ∙ on_at (watches_on setting.watches) (queues_of script.shape) q low in
+          let rows : rows_in (get_or served q nobody) ≡ rows_on q setting.watches = ap (map (λ (w : ℕ × WatchRow). w.1)) watches ∙ rows_are (filter (is_on q) setting.watches) in
           get_or-map (way_of part) served q nobody [] inside
-          ∙ ap (λ (os : List Planned). parted part (puts_in os (get_or served q nobody).journal)) own
-          ∙ ap (λ (j : List (ℕ × QueueNote)). parted part (puts_in objects j)) journal;
+          ∙ ap (λ (os : List Planned). parted part (puts_in os (rows_in (get_or served q nobody)) (get_or served q nobody).journal)) own
+          ∙ ap (λ (rs : List WatchRow). parted part (puts_in objects rs (get_or served q nobody).journal)) rows
+          ∙ ap (λ (j : List (ℕ × QueueNote)). parted part (puts_in objects (rows_on q setting.watches) j)) journal;
     }
 
 pub queue_part_put : {V : Type 0} (part : QueuePut → List V) (script : ScriptData) (run : RunData) (q : ℕ)
-    → map second (queue_way part script run q) ≡ flat_map part (queue_puts (setting_of script) (slice_index_or run.queues q []))
+    → map second (queue_way part script run q) ≡ flat_map part (queue_puts (setting_of script) q (slice_index_or run.queues q []))
 queue_part_put part script run q =
-    parted_puts part (puts_in (setting_of script).objects (slice_index_or run.queues q []))
-    ∙ ap (λ (ps : List QueuePut). flat_map part ps) (numbered_puts (queue_puts_at (orders_by (setting_of script))) (slice_index_or run.queues q []))
+    parted_puts part (puts_in (setting_of script).objects (rows_on q (setting_of script).watches) (slice_index_or run.queues q []))
+    ∙ ap (λ (ps : List QueuePut). flat_map part ps) (numbered_puts (puts_on (setting_of script) q) (slice_index_or run.queues q []))
 
 -- ---- the lanes
 

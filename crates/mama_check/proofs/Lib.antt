@@ -2,6 +2,10 @@ pub mod LineLemmas
 pub mod PutLists
 pub mod Lanes
 pub mod CallLemmas
+pub mod NumberLemmas
+pub mod Listed
+pub mod NextLemmas
+pub mod ListLemmas
 pub mod KeptLaw
 pub mod Alone
 pub mod ImageLemmas

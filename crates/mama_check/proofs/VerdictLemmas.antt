@@ -15,6 +15,7 @@ use Rattle.mama_dq.specs.Context.{ContextData}
 use Rattle.mama_dq.specs.declared.table.Phase.{Phase}
 use Rattle.mama_dq.specs.declared.table.Phase.TheVariants.{Await, LiveOk, LiveStale, LiveKept}
 use Rattle.mama_script.specs.Script.{ScriptData}
+use Rattle.mama_script.proofs.Keeping.{script_within}
 use Rattle.mama_record.specs.RunData.{RunData, LastImage}
 use Rattle.mama_rules_rounds.specs.Client.{Planned}
 use Rattle.mama_journal.specs.Journal.{first_said}
@@ -23,6 +24,8 @@ use Rattle.mama_rules_rounds.specs.World.{Setting, orders_by}
 use Rattle.mama_rules_rounds.specs.Round.{setting_of, last_image, image_in}
 use Rattle.mama_laws_callbacks.specs.Told.{LegalRecordsTellAll}
 use Rattle.mama_laws_callbacks.specs.Plain.{LegalRecordsTellPlainly}
+use Rattle.mama_laws_callbacks.specs.Grouped.{LegalGroupsAreTrue}
+use Rattle.mama_laws_callbacks.specs.Watched.{LegalWatchesAreTrue}
 use Rattle.mama_laws_genuine.specs.CalmLinks.{LegalLinksAreCalm}
 use Rattle.mama_laws_genuine.specs.GivenAll.{LegalUpdatesAreGiven}
 use Rattle.mama_laws_genuine.specs.Sent.{DeliveredMessagesAreSent, GivenMessagesAreSent}
@@ -35,7 +38,7 @@ use Rattle.mama_check.specs.Rules.{KeepsImages}
 use Rattle.mama_check.specs.Kept.{AreKept, KeptIsLegal}
 use Rattle.mama_check.specs.Images.{images_for}
 use Rattle.mama_check.specs.declared.verdict.Actor.{Actor}
-use Rattle.mama_check.specs.Verdict.{KeepImages, KeepAllLines, KeepEdges, KeepObjects, LegalIsTrue, IsBroken, moments, lines, publishers, bridge, timers, queues, calls, images}
+use Rattle.mama_check.specs.Verdict.{KeepImages, KeepAllLines, KeepEdges, KeepObjects, KeepLists, LegalIsTrue, IsBroken, moments, lines, publishers, bridge, timers, queues, calls, images, groups, watches}
 use Rattle.mama_check.proofs.Alone.{objects_alone}
 use Rattle.mama_check.proofs.ImageLemmas.{AreOwn, all_own, each_own}
 
@@ -102,8 +105,8 @@ images_each script run whole k low p there =
 
 -- ---- the verdict
 
-pub all_kept : (script : ScriptData) (run : RunData) → IsFormed script run → KeepAllLines script run → KeepEdges script run → KeepObjects script run → AreKept script run
-all_kept script run formed done whole told = record {
+pub all_kept : (script : ScriptData) (run : RunData) → IsFormed script run → KeepAllLines script run → KeepEdges script run → KeepObjects script run → KeepLists script run → AreKept script run
+all_kept script run formed done whole told lists = record {
   moments = done.moments;
   lines = done.lines;
   publishers = whole.publishers;
@@ -112,10 +115,12 @@ all_kept script run formed done whole told = record {
   queues = whole.queues;
   calls = told.calls;
   images = images_kept script run formed told.images;
+  groups = lists.groups;
+  watches = lists.watches;
 }
 
-pub is_legal : (script : ScriptData) (run : RunData) → KeptIsLegal → IsOrderly script → IsFormed script run → KeepAllLines script run → KeepEdges script run → KeepObjects script run → IsLegal script run
-is_legal script run law orderly formed done whole told = (law script run orderly formed.counted).0 (all_kept script run formed done whole told)
+pub is_legal : (script : ScriptData) (run : RunData) → KeptIsLegal → IsOrderly script → IsFormed script run → KeepAllLines script run → KeepEdges script run → KeepObjects script run → KeepLists script run → IsLegal script run
+is_legal script run law orderly formed done whole told lists = (law script run orderly formed.counted).0 (all_kept script run formed done whole told lists)
 
 -- the rule that is broken is one that is not kept
 not_kept : (script : ScriptData) (run : RunData) (rule : ℕ) (of : Actor) → IsBroken script run rule of → AreKept script run → ⊥
@@ -127,13 +132,15 @@ not_kept script run rule of (timers read done took heard other) kept = other kep
 not_kept script run rule of (queues q read done took heard timed first) kept = first.1 (kept.queues q first.0)
 not_kept script run rule of (calls k p read done whole first there) kept = first.1 (kept.calls k first.0)
 not_kept script run rule of (images k p read done whole told first there) kept = first.1 (images_each script run kept.images k first.0)
+not_kept script run rule of (groups k read done whole told first) kept = first.1 (kept.groups k first.0)
+not_kept script run rule of (watches k read done whole told heard first) kept = first.1 (kept.watches k first.0)
 
 pub not_legal : (script : ScriptData) (run : RunData) (rule : ℕ) (of : Actor) → KeptIsLegal → IsOrderly script → IsFormed script run → IsBroken script run rule of → IsLegal script run → ⊥
 not_legal script run rule of law orderly formed broken legal = not_kept script run rule of broken ((law script run orderly formed.counted).1 legal)
 
 pub legal_is_true : LegalRecordsHaveStreams → LegalRecordsTellAll → DeliveredMessagesAreSent → GivenMessagesAreSent → OkImagesAreRecords → ToldGapsAreTrue
-    → LegalRecordsTellPlainly → LegalLinksAreCalm → LegalUpdatesAreGiven → LegalIsTrue
-legal_is_true streams told sent given records gaps plainly calm updates script run orderly legal = record {
+    → LegalRecordsTellPlainly → LegalLinksAreCalm → LegalUpdatesAreGiven → LegalGroupsAreTrue → LegalWatchesAreTrue → LegalIsTrue
+legal_is_true streams told sent given records gaps plainly calm updates grouped watched script run is legal = record {
   streams = streams script run orderly legal;
   told = told script run orderly legal;
   sent = sent script run legal.shaped legal.edges;
@@ -143,4 +150,9 @@ legal_is_true streams told sent given records gaps plainly calm updates script r
   plainly = plainly script run orderly legal;
   calm = calm script run orderly legal;
   updates = updates script run orderly legal;
+  groups = grouped script run is legal;
+  watches = watched script run legal;
 }
+  where
+    orderly : IsOrderly script
+    orderly = record { shaped = is.shaped; within = script_within script is }

@@ -7,7 +7,7 @@ use Rattle.mama_rules_rounds.specs.Round.{setting_of}
 use Rattle.mama_rules_legal.specs.Form.{IsCounted, IsFormed}
 use Rattle.mama_laws_legal.specs.Laws.{IsOrderly}
 use Rattle.mama_rules_legal.specs.Legal.{IsLegal}
-use Rattle.mama_check.specs.Rules.{KeepsMoments, KeepsLines, KeepsPublisherEdge, KeepsBridgeEdges, KeepsTimersEdges, KeepsQueueEdges, KeepsCalls, KeepsImages}
+use Rattle.mama_check.specs.Rules.{KeepsMoments, KeepsLines, KeepsPublisherEdge, KeepsBridgeEdges, KeepsTimersEdges, KeepsQueueEdges, KeepsCalls, KeepsImages, KeepsGroup, KeepsWatch}
 
 -- All actors keep all rules.
 pub record AreKept (script : ScriptData) (run : RunData) : Type 0 where
@@ -19,6 +19,8 @@ pub record AreKept (script : ScriptData) (run : RunData) : Type 0 where
   pub queues : (q : ℕ) → q < queues_of script.shape → KeepsQueueEdges script run q
   pub calls : (k : ℕ) → k < length (setting_of script).objects → KeepsCalls script run k
   pub images : KeepsImages script run
+  pub groups : (k : ℕ) → k < length script.groups → KeepsGroup script run k
+  pub watches : (k : ℕ) → k < length script.watches → KeepsWatch script run k
 
 -- A law: the record of a script is legal exactly where all rules are kept.
 abbrev pub KeptIsLegal : Type 0

@@ -1,6 +1,7 @@
 pub mod First
 pub mod Rules
 pub mod Puts
+pub mod Lists
 pub mod All
 pub mod Kept
 pub mod Images

@@ -8,12 +8,13 @@ use Rattle.mama_check_order.specs.Numbered.{numbered, parted}
 use Rattle.mama_script.specs.Script.{ScriptData}
 use Rattle.mama_record.specs.RunData.{RunData}
 use Rattle.mama_rules_rounds.specs.Client.{bridge_part, timers_part}
-use Rattle.mama_rules_rounds.specs.World.{no_section}
+use Rattle.mama_rules_rounds.specs.World.{no_section, rows_on}
 use Rattle.mama_rules_rounds.specs.Round.{setting_of}
 use Rattle.mama_check_puts.specs.Puts.{AreLists, bridge_put_to_publisher, bridge_put_to_queue, bridge_put_to_timers, publishers_in, queues_in}
 use Rattle.mama_check_puts.specs.Client.{client_put_to_bridge, client_put_to_timers}
 use Rattle.mama_check_puts.specs.declared.client.ClientPuts.{ClientPuts}
 use Rattle.mama_check_puts.specs.declared.bridge.BridgePuts.{BridgePuts}
+use Rattle.mama_plans.specs.Lists.{groups_on_each, watches_on_each}
 use Rattle.mama_check_queue.specs.Served.{ServedData, puts_in}
 use Rattle.mama_check_queue.specs.Recorded.{journals_of, AreOf}
 
@@ -41,10 +42,10 @@ publisher_to_bridge script run p = numbered (publisher_puts_at (slice_index_or (
 
 -- what the queue of a number put to the bridge and to the timer service, by its journal and the plans of its objects
 abbrev pub queue_to_bridge : ScriptData → RunData → ℕ → List (ℕ × BridgeNote)
-queue_to_bridge script run q = parted bridge_part (puts_in (setting_of script).objects (slice_index_or run.queues q []))
+queue_to_bridge script run q = parted bridge_part (puts_in (setting_of script).objects (rows_on q (setting_of script).watches) (slice_index_or run.queues q []))
 
 abbrev pub queue_to_timers : ScriptData → RunData → ℕ → List (ℕ × TimersNote)
-queue_to_timers script run q = parted timers_part (puts_in (setting_of script).objects (slice_index_or run.queues q []))
+queue_to_timers script run q = parted timers_part (puts_in (setting_of script).objects (rows_on q (setting_of script).watches) (slice_index_or run.queues q []))
 
 -- these are the puts of the bridge
 pub record AreBridgePuts (script : ScriptData) (run : RunData) (puts : BridgePuts) : Type 0 where
@@ -52,7 +53,9 @@ pub record AreBridgePuts (script : ScriptData) (run : RunData) (puts : BridgePut
   pub queues : AreLists (queues_in puts) (queues_of script.shape) (bridge_put_to_queue script.shape run.bridge)
   pub timers : puts.to_timers.items ≡ bridge_put_to_timers script.shape run.bridge
 
--- these are the queues of the script, served again by their journals
+-- these are the queues of the script with their groups and watches, served again by their journals
 pub record AreServed (script : ScriptData) (run : RunData) (served : List ServedData) : Type 0 where
   pub journals : journals_of served ≡ run.queues
   pub objects : AreOf (setting_of script).objects served
+  pub groups : map (λ s. s.groups) served ≡ groups_on_each (queues_of script.shape) (setting_of script).groups
+  pub watches : map (λ s. s.watches) served ≡ watches_on_each (queues_of script.shape) (setting_of script).watches

@@ -8,7 +8,7 @@ use Rattle.mama_script.specs.Script.{ScriptData}
 use Rattle.mama_record.specs.RunData.{RunData}
 use Rattle.mama_rules_rounds.specs.Client.{clock_lines}
 use Rattle.mama_rules_rounds.specs.World.{no_section}
-use Rattle.mama_rules_rounds.specs.Round.{setting_of, object_calls, last_image}
+use Rattle.mama_rules_rounds.specs.Round.{setting_of, object_calls, last_image, group_told, watch_told}
 use Rattle.mama_rules_legal.specs.Lines.{IsSentOut}
 use Rattle.mama_rules_legal.specs.Edges.{client_puts, taken_by, put_on_bridge, put_on_timers, put_to_publisher, put_on_queue}
 
@@ -51,3 +51,13 @@ KeepsCalls script run k = slice_get run.calls k ≡ slice_get (map (object_calls
 -- the images are those that the strategy leaves
 abbrev pub KeepsImages : ScriptData → RunData → Type 0
 KeepsImages script run = run.images ≡ flat_map (last_image (setting_of script) run.queues) (setting_of script).objects
+
+-- GROUPS AND WATCHES, by what the queues' journals say
+
+-- what the group of this number heard is what it hears by its queue's journal
+abbrev pub KeepsGroup : ScriptData → RunData → ℕ → Type 0
+KeepsGroup script run k = slice_get run.groups k ≡ slice_get (map (group_told (setting_of script) run.queues) (setting_of script).groups) k
+
+-- what the watch of this number noted is what it notes by its queue's journal
+abbrev pub KeepsWatch : ScriptData → RunData → ℕ → Type 0
+KeepsWatch script run k = slice_get run.watches k ≡ slice_get (map (watch_told (setting_of script) run.queues) (setting_of script).watches) k

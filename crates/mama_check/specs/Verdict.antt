@@ -5,21 +5,23 @@ use Rattle.mama_event.specs.declared.ids.ObjectId.{ObjectId}
 use Rattle.mama_event.specs.declared.ids.ObjectId.TheVariants.{Sub, Timer, Inbox}
 use Rattle.mama_event.specs.Ports.{queues_of}
 use Rattle.mama_script.specs.Script.{ScriptData}
+use Rattle.mama_script.specs.Tree.{IsScript}
 use Rattle.mama_record.specs.RunData.{RunData}
 use Rattle.mama_rules_rounds.specs.Client.{Planned}
 use Rattle.mama_rules_rounds.specs.Round.{setting_of, publishers_from}
-use Rattle.mama_laws_legal.specs.Laws.{IsOrderly}
 use Rattle.mama_rules_legal.specs.HaveStreams.{HaveStreams}
 use Rattle.mama_rules_legal.specs.Legal.{IsLegal}
 use Rattle.mama_laws_callbacks.specs.Told.{AreTold}
 use Rattle.mama_laws_callbacks.specs.Plain.{ArePlainlyTold}
+use Rattle.mama_laws_callbacks.specs.Grouped.{AreTrueGroups}
+use Rattle.mama_laws_callbacks.specs.Watched.{AreTrueWatches}
 use Rattle.mama_laws_genuine.specs.Sent.{AreSent, AreGivenSent}
 use Rattle.mama_laws_genuine.specs.Records.{AreRecords}
 use Rattle.mama_laws_genuine.specs.Gaps.{HasTrueGaps}
 use Rattle.mama_laws_genuine.specs.CalmLinks.{AreLinksCalm}
 use Rattle.mama_laws_genuine.specs.GivenAll.{AreAllGiven}
 use Rattle.mama_check.specs.First.{IsFirst}
-use Rattle.mama_check.specs.Rules.{KeepsMoments, KeepsLines, KeepsPublisherEdge, KeepsBridgeEdges, KeepsTimersEdges, KeepsQueueEdges, KeepsCalls}
+use Rattle.mama_check.specs.Rules.{KeepsMoments, KeepsLines, KeepsPublisherEdge, KeepsBridgeEdges, KeepsTimersEdges, KeepsQueueEdges, KeepsCalls, KeepsGroup, KeepsWatch}
 use Rattle.mama_check.specs.Images.{KeepsImage}
 use Rattle.mama_check.specs.Causal.{IsCausal}
 use Rattle.mama_check.specs.declared.verdict.Actor.{Actor}
@@ -57,6 +59,11 @@ pub record KeepObjects (script : ScriptData) (run : RunData) : Type 0 where
   pub calls : KeepCalls script run
   pub images : KeepImages script run
 
+-- groups heard and watches noted what the journals say
+pub record KeepLists (script : ScriptData) (run : RunData) : Type 0 where
+  pub groups : (k : ℕ) → k < length script.groups → KeepsGroup script run k
+  pub watches : (k : ℕ) → k < length script.watches → KeepsWatch script run k
+
 -- all edges are whole
 pub record KeepEdges (script : ScriptData) (run : RunData) : Type 0 where
   pub publishers : KeepPublisherEdges script run
@@ -73,7 +80,8 @@ rule_of (Timer t) = 6
 rule_of (Inbox i) = 7
 
 -- The first rule that a record breaks, and the first actor that breaks it: 1 the moments that a client read, 2 the lines
--- of a publisher, 3 the edges, under the actor that took, 5 to 7 the callbacks, 8 the images. The rules on the streams of
+-- of a publisher, 3 the edges, under the actor that took, 5 to 7 the callbacks, 8 the images, 10 what a group heard, 11 what a
+-- watch noted. The rules on the streams of
 -- objects (4) and on last events and slots (9) follow from whole edges, and are never the first.
 pub data IsBroken (script : ScriptData) (run : RunData) : ℕ → Actor → Type 0 where
   moments : (c : ℕ) → IsFirst (KeepsMoments script run) (length script.clients) (Some c) → IsBroken script run 1 (actor.Client c)
@@ -92,6 +100,11 @@ pub data IsBroken (script : ScriptData) (run : RunData) : ℕ → Actor → Type
   images : (k : ℕ) (p : Planned) → KeepMoments script run → KeepLines script run → KeepEdges script run → KeepCalls script run
       → IsFirst (KeepsImage script run) (length (setting_of script).objects) (Some k) → slice_get (setting_of script).objects k ≡ Some p
       → IsBroken script run 8 (actor.Object p.object)
+  groups : (k : ℕ) → KeepMoments script run → KeepLines script run → KeepEdges script run → KeepObjects script run
+      → IsFirst (KeepsGroup script run) (length script.groups) (Some k) → IsBroken script run 10 (actor.Group k)
+  watches : (k : ℕ) → KeepMoments script run → KeepLines script run → KeepEdges script run → KeepObjects script run
+      → ((k : ℕ) → k < length script.groups → KeepsGroup script run k)
+      → IsFirst (KeepsWatch script run) (length script.watches) (Some k) → IsBroken script run 11 (actor.Watch k)
 
 -- what a search tells that goes rule by rule: the first that is broken, or else that these are kept
 abbrev pub Finds : ScriptData → RunData → Type 0 → Option (ℕ × Actor) → Type 0
@@ -108,7 +121,9 @@ Judges script run (verdict.NotLegal rule actor) = (IsLegal script run → ⊥) �
 -- sender's record at its number; and each gap that was told is true. Where the line of a subscription has no fault rows,
 -- and exactly one publisher has its topic, it is told no gap and no change of quality; and if it is a market subscription,
 -- it is told just the messages from its first image on, each once and as ok, and so each update that the bridge took while
--- it was joined with a number above that image's, unless it was muted.
+-- it was joined with a number above that image's, unless it was muted. Each group heard its members' callbacks and was told its state, and where that is fresh
+-- each of its members that is not ended has its sender's record; and each watch told its timeout only after its retries, at a
+-- tick that found no image, and once.
 pub record IsTrue (script : ScriptData) (run : RunData) : Type 0 where
   pub streams : HaveStreams script run
   pub told : AreTold script run
@@ -119,10 +134,12 @@ pub record IsTrue (script : ScriptData) (run : RunData) : Type 0 where
   pub plainly : ArePlainlyTold script run
   pub calm : AreLinksCalm script run
   pub updates : AreAllGiven script run
+  pub groups : AreTrueGroups script run
+  pub watches : AreTrueWatches script run
 
--- A law: a legal record of a script is true.
+-- A law: a legal record of a script that a text spells is true.
 abbrev pub LegalIsTrue : Type 0
-LegalIsTrue = (script : ScriptData) (run : RunData) → IsOrderly script → IsLegal script run → IsTrue script run
+LegalIsTrue = (script : ScriptData) (run : RunData) → IsScript script → IsLegal script run → IsTrue script run
 
 -- a fact of a record that was found legal
 abbrev pub OnLegal : Verdict → Type 0 → Type 0

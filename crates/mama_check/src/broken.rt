@@ -6,7 +6,7 @@ ghost use Rattle.mama_laws_legal.specs.Laws.{IsOrderly};
 ghost use Rattle.mama_rules_legal.specs.Form.{IsCounted, IsFormed};
 ghost use Rattle.mama_check.specs.All.{AreAllPuts};
 ghost use Rattle.mama_check.specs.Puts.{AreServed};
-ghost use Rattle.mama_check.specs.Verdict.{Finds, KeepAllLines, KeepEdges, KeepObjects, rule_of};
+ghost use Rattle.mama_check.specs.Verdict.{Finds, KeepAllLines, KeepEdges, KeepObjects, KeepLists, rule_of};
 
 use crate::all::AllPuts;
 use crate::edges::{
@@ -14,6 +14,7 @@ use crate::edges::{
 };
 use crate::images::first_of_images;
 use crate::lines::{first_of_lines, first_of_moments};
+use crate::lists::{first_of_groups, first_of_watches};
 use crate::objects::first_of_calls;
 use crate::verdict::Actor;
 use mama_check_queue::ServedQueue;
@@ -46,6 +47,22 @@ fn queue_of(number: usize) -> Actor
     ensures { result ≡ Actor.Queue number }
 {
     Actor::Queue(number as u32)
+}
+
+/// The group of a number.
+fn group_of(number: usize) -> Actor
+    requires { number < 2 ^ 32 }
+    ensures { result ≡ Actor.Group number }
+{
+    Actor::Group(number as u32)
+}
+
+/// The watch of a number.
+fn watch_of(number: usize) -> Actor
+    requires { number < 2 ^ 32 }
+    ensures { result ≡ Actor.Watch number }
+{
+    Actor::Watch(number as u32)
 }
 
 /// The number of the rule on the callbacks of an object.
@@ -148,6 +165,32 @@ pub(crate) fn first_broken_object(
     }
     if let Some(k) = first_of_images(script, run, plans, served)? {
         return Ok(Some((8, Actor::Object(object_at(plans, k)))));
+    }
+    Ok(None)
+}
+
+/// The first rule on groups and watches that is broken, and the first group or watch that breaks it. All else is kept.
+pub(crate) fn first_broken_list(
+    alloc: Global,
+    script: &Script,
+    run: &RunRecord,
+    plans: &Plans,
+    served: &[ServedQueue],
+) -> Result<Option<(u8, Actor)>, OutOfMemory>
+    requires within { IsWithin script.now }
+    requires formed { IsFormed script.now run.now }
+    requires plans { plans.now ≡ (setting_of script.now).objects }
+    requires served { AreServed script.now run.now served.now }
+    requires lines { KeepAllLines script.now run.now }
+    requires edges { KeepEdges script.now run.now }
+    requires objects { KeepObjects script.now run.now }
+    ensures { IfOk result (Finds script.now run.now (KeepLists script.now run.now)) }
+{
+    if let Some(g) = first_of_groups(alloc, script, run, plans, served)? {
+        return Ok(Some((10, group_of(g))));
+    }
+    if let Some(w) = first_of_watches(alloc, script, run, plans, served)? {
+        return Ok(Some((11, watch_of(w))));
     }
     Ok(None)
 }

@@ -16,7 +16,7 @@ use mama_check_puts::{BridgePuts, ClientPuts};
 use mama_check_queue::ServedQueue;
 use mama_event::{BridgeNote, QueueNote};
 use mama_memory::OutOfMemory;
-use mama_plans::plans_of;
+use mama_plans::{groups_by_queue, plans_of, watches_by_queue};
 use mama_record::RunRecord;
 use mama_script::Script;
 use std::alloc::Global;
@@ -172,7 +172,9 @@ pub fn needs_of_run(
     legal_records_are_formed();
     kept_rules_are_legal();
     let plans = plans_of(alloc, script)?;
-    let puts = all_puts(alloc, script, run, &plans)?;
+    let groups = groups_by_queue(alloc, script, &plans)?;
+    let watches = watches_by_queue(alloc, script, &plans)?;
+    let puts = all_puts(alloc, script, run, &plans, &groups, &watches)?;
     needs_of_all(
         alloc,
         script,

@@ -3,12 +3,12 @@ ghost use Rattle.mama_rules_legal.specs.Form.{IsFormed};
 ghost use Rattle.mama_check.specs.Verdict.{Judges, IsTrue, OnLegal};
 
 use crate::all::all_puts;
-use crate::broken::{first_broken_edge, first_broken_line, first_broken_object};
+use crate::broken::{first_broken_edge, first_broken_line, first_broken_list, first_broken_object};
 use crate::causal::is_causal;
 use crate::laws::{kept_rules_are_legal, legal_records_are_true};
 use crate::verdict::{Actor, Verdict};
 use mama_memory::OutOfMemory;
-use mama_plans::plans_of;
+use mama_plans::{groups_by_queue, plans_of, watches_by_queue};
 use mama_record::RunRecord;
 use mama_script::Script;
 use std::alloc::Global;
@@ -26,7 +26,8 @@ fn not_legal(broken: (u8, Actor)) -> Verdict
 /// from a log has.
 ///
 /// It takes time by the length of the script and of the record, but for logarithms, and for what a bridge costs for the
-/// same entries: a publish, an image, a wish and a Leave cost the links of their topic. The error is want of memory.
+/// same entries: a publish, an image, a wish and a Leave cost the links of their topic. The error is want of memory, and
+/// comes always where the bridge took a message of more than 64 fields, which no lane carries and no log tells.
 pub fn check(alloc: Global, script: &Script, run: &RunRecord) -> Result<Verdict, OutOfMemory>
     requires { IsFormed script.now run.now }
     ensures exact { IfOk result (Judges script.now run.now) }
@@ -39,11 +40,16 @@ pub fn check(alloc: Global, script: &Script, run: &RunRecord) -> Result<Verdict,
         return Ok(not_legal(broken));
     }
     let plans = plans_of(alloc, script)?;
-    let puts = all_puts(alloc, script, run, &plans)?;
+    let groups = groups_by_queue(alloc, script, &plans)?;
+    let watches = watches_by_queue(alloc, script, &plans)?;
+    let puts = all_puts(alloc, script, run, &plans, &groups, &watches)?;
     if let Some(broken) = first_broken_edge(alloc, script, run, &puts)? {
         return Ok(not_legal(broken));
     }
     if let Some(broken) = first_broken_object(alloc, script, run, &plans, &puts.queues)? {
+        return Ok(not_legal(broken));
+    }
+    if let Some(broken) = first_broken_list(alloc, script, run, &plans, &puts.queues)? {
         return Ok(not_legal(broken));
     }
     let causal = is_causal(

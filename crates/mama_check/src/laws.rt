@@ -1,7 +1,10 @@
 ghost use Rattle.mama_check.specs.Kept.{KeptIsLegal, LegalIsFormed};
 ghost use Rattle.mama_check.specs.Verdict.{LegalIsTrue};
 
-use mama_laws_callbacks::{legal_records_tell_all, legal_records_tell_plainly};
+use mama_laws_callbacks::{
+    legal_groups_are_true, legal_records_tell_all, legal_records_tell_plainly,
+    legal_watches_are_true,
+};
 use mama_laws_genuine::{
     delivered_messages_are_sent, given_messages_are_sent, links_of_legal_records_are_calm,
     ok_images_are_records, told_gaps_are_true, updates_of_legal_records_are_given,
@@ -32,4 +35,6 @@ pub fn legal_records_are_true()
     legal_records_tell_plainly();
     links_of_legal_records_are_calm();
     updates_of_legal_records_are_given();
+    legal_groups_are_true();
+    legal_watches_are_true();
 }

@@ -1,9 +1,9 @@
 -- One walk over a taker's journal, with what is left of what each port put.
 use Rattle.std.proofs.Common.{◌≡◌, ◌≢◌, ℕ, zero, suc, ◌+◌, ◌<◌, inl, inr, take, List, [], ◌∷◌, ◌++◌, length, map, drop, set, get_or, refl, ap, sym, subst, ◌∙◌, append_assoc, get_or-set_same, get_or-set_other}
-use Rattle.std.specs.Prelude.{◌==◌, ◌↔◌, slice_get, slice_index_or, Option, None, Some, option_map}
+use Rattle.std.specs.Prelude.{◌==◌, ◌↔◌, slice_get, slice_index_or, Option, Some, option_map}
 use Rattle.std.proofs.lemmas.Bool.{cond-true, cond-false, eq-eqb, ne_eqb, cases_eq, cases_Bool}
 use Rattle.std.proofs.lemmas.List.{append-nil, take_more, drop_more}
-use Rattle.mama_journal.specs.Journal.{puts, puts_after}
+use Rattle.mama_journal.specs.Journal.{puts_after}
 use Rattle.mama_journal.specs.Lane.{by_port}
 use Rattle.mama_check_order.specs.declared.order.Need.{Need}
 use Rattle.mama_check_order.specs.Taken.{put_by, AreWhole, entry_of, need_at, needs_of}

@@ -1,5 +1,6 @@
 pub mod Numbered
 pub mod Orders
 pub mod Searches
+pub mod Stops
 pub mod LaneWalk
 pub mod SenderWalk

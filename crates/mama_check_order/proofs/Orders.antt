@@ -3,7 +3,7 @@ use Rattle.std.specs.Prelude.{slice_get}
 use Rattle.std.proofs.Common.{◌≡◌, ℕ, zero, suc, ◌+◌, ◌<◌, ◌≤◌, ◌==◌, Bool, true, false, cond, List, [], ◌∷◌, ◌++◌, length, get_or, set, replicate, Option, None, Some, refl, sym, ◌∙◌, ap, subst, arith, ◌⊎◌, inl, ⊎_elim, append-nil, append_assoc, get_or-set_same, get_or-set_other}
 use Rattle.std.proofs.lemmas.Bool.{cases_eq, cases_lt, eq-eqb, ne_eqb}
 use Rattle.std.proofs.lemmas.Option.{slice_get_past}
-use Rattle.mama_check_order.specs.Order.{turns_of, IsMet, MayCome, MayTakeTurn, MayFollow, HasOrder}
+use Rattle.mama_check_order.specs.Order.{turns_of, IsMet, MayCome, MayTakeTurn, MayFollow}
 use Rattle.mama_check_order.specs.Search.{entries_of, IsReached, IsMetBy, IsReady, NoneIsAsked, GoesOn}
 use Rattle.mama_check_order.specs.declared.order.Need.{Need}
 
@@ -73,59 +73,35 @@ module _ (needs : List (List (Option Need))) (limit : ℕ → ℕ) (holds : (a :
   pub within_limit : (turns : List ℕ) → MayFollow needs [] turns → (a : ℕ) → turns_of a turns ≤ limit a
   within_limit turns follow a = all_below [] turns (λ b. omega arith) follow a
 
-  -- where a limit keeps an actor from its end, there is no order
-  pub no_order : (a : ℕ) → limit a < length (entries_of needs a) → HasOrder needs → ⊥
-  no_order a short order =
-      let most = within_limit order.turns order.follow a in
-      let all = order.all a in
-      omega arith
-
 -- ---- what was reached
 
 -- no actor makes more entries than it has
-pub reached_within : (needs : List (List (Option Need))) (made : List ℕ) → IsReached needs made → (a : ℕ) → get_or made a 0 ≤ length (entries_of needs a)
-reached_within needs made r a =
-    let most = within_limit needs (λ (x : ℕ). length (entries_of needs x)) (λ x. inl (omega arith)) r.turns r.follow a in
+pub reached_within : (needs : List (List (Option Need))) (made turns : List ℕ) → IsReached needs made turns → (a : ℕ) → get_or made a 0 ≤ length (entries_of needs a)
+reached_within needs made turns r a =
+    let most = within_limit needs (λ (x : ℕ). length (entries_of needs x)) (λ x. inl (omega arith)) turns r.follow a in
     let is = r.counts a in
     omega arith
-
--- where each actor has made all its entries, that is an order of all
-pub all_reached : (needs : List (List (Option Need))) (made : List ℕ) → IsReached needs made → ((a : ℕ) → a < length needs → length (entries_of needs a) ≤ get_or made a 0) → HasOrder needs
-all_reached needs made r done = record {
-  turns = r.turns;
-  follow = r.follow;
-  all = λ a.
-      let most = reached_within needs made r a in
-      let is = r.counts a in
-      let least : length (entries_of needs a) ≤ get_or made a 0 = ⊎_elim (λ inside. done a inside) (λ past. let none = no_entries needs a past in omega arith) (cases_lt a (length needs)) in
-      omega arith;
-}
-  where
-    no_entries : (needs : List (List (Option Need))) (a : ℕ) → length needs ≤ a → length (entries_of needs a) ≡ 0
-    no_entries [] a past = refl
-    no_entries (n ∷ needs) zero past = absurd (omega arith)
-    no_entries (n ∷ needs) (suc a) past = no_entries needs a (omega arith)
 
 met_by : (turns made : List ℕ) → ((a : ℕ) → turns_of a turns ≡ get_or made a 0) → (need : Option Need) → IsMetBy made need → IsMet turns need
 met_by turns made counts None h = tt
 met_by turns made counts (Some need) h = subst (λ (n : ℕ). need.entry < n) (sym (counts need.actor)) h
 
 -- an entry that may have its turn has it
-pub reached_more : (needs : List (List (Option Need))) (made : List ℕ) (actor : ℕ) → actor < length made → IsReached needs made → IsReady needs made actor → IsReached needs (set made actor (get_or made actor 0 + 1))
-reached_more needs made actor inside r ready = record {
-  turns = r.turns ++ actor ∷ [];
-  follow = follow_push needs [] r.turns actor r.follow
-      (subst (λ (n : ℕ). MayCome r.turns (slice_get (entries_of needs actor) n)) (sym (r.counts actor))
-      (subst (λ (o : Option (Option Need)). MayCome r.turns o) (sym ready.next) (met_by r.turns made r.counts ready.need ready.met)));
+pub reached_more : (needs : List (List (Option Need))) (made turns : List ℕ) (actor : ℕ) → actor < length made → IsReached needs made turns → IsReady needs made actor
+    → IsReached needs (set made actor (get_or made actor 0 + 1)) (turns ++ actor ∷ [])
+reached_more needs made turns actor inside r ready = record {
+  follow = follow_push needs [] turns actor r.follow
+      (subst (λ (n : ℕ). MayCome turns (slice_get (entries_of needs actor) n)) (sym (r.counts actor))
+      (subst (λ (o : Option (Option Need)). MayCome turns o) (sym ready.next) (met_by turns made r.counts ready.need ready.met)));
   counts = λ a. ⊎_elim
       (λ same.
-      let more = turns_push a r.turns actor ∙ ap (λ (b : Bool). cond b (suc (turns_of a r.turns)) (turns_of a r.turns)) (eq-eqb actor a same) in
+      let more = turns_push a turns actor ∙ ap (λ (b : Bool). cond b (suc (turns_of a turns)) (turns_of a turns)) (eq-eqb actor a same) in
       let here = ap (λ (x : ℕ). get_or (set made actor (get_or made actor 0 + 1)) x 0) (sym same) ∙ get_or-set_same made actor (get_or made actor 0 + 1) 0 inside in
       let was = r.counts a in
       let which = ap (λ (x : ℕ). get_or made x 0) same in
       omega arith)
       (λ other.
-      let more = turns_push a r.turns actor ∙ ap (λ (b : Bool). cond b (suc (turns_of a r.turns)) (turns_of a r.turns)) (ne_eqb actor a other) in
+      let more = turns_push a turns actor ∙ ap (λ (b : Bool). cond b (suc (turns_of a turns)) (turns_of a turns)) (ne_eqb actor a other) in
       let apart = get_or-set_other made actor a (get_or made actor 0 + 1) 0 (λ e. other (sym e)) in
       more ∙ r.counts a ∙ sym apart)
       (cases_eq actor a);
@@ -151,12 +127,8 @@ same_everywhere (suc n) x zero = refl
 same_everywhere (suc n) x (suc i) = same_everywhere n x i
 
 -- before any turn
-pub reached_first : (needs : List (List (Option Need))) (n : ℕ) → IsReached needs (replicate n 0)
-reached_first needs n = record {
-  turns = [];
-  follow = tt;
-  counts = λ a. sym (same_everywhere n 0 a);
-}
+pub reached_first : (needs : List (List (Option Need))) (n : ℕ) → IsReached needs (replicate n 0) []
+reached_first needs n = record { follow = tt; counts = λ a. sym (same_everywhere n 0 a) }
 
 pub none_first : (n : ℕ) → NoneIsAsked (replicate n None)
 none_first n a = same_everywhere n None a

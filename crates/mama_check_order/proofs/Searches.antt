@@ -6,9 +6,10 @@ use Rattle.std.proofs.Common.{◌≡◌, ℕ, zero, suc, ◌+◌, ◌-◌, ◌^�
 use Rattle.std.proofs.lemmas.Bool.{cases_eq, cases_Bool, eq-eqb, eqb-true, or_cases, or_parts, or_left, or_right, both_ways, false_from_ne_true, cond_both}
 use Rattle.std.proofs.lemmas.List.Sums.{sum_by-set}
 use Rattle.std.proofs.lemmas.Option.{slice_get_within}
-use Rattle.mama_check_order.specs.Order.{HasOrder}
+use Rattle.mama_check_order.specs.Order.{turns_of}
 use Rattle.mama_check_order.specs.Search.{entries_of, Lacks, NoneIsAsked, CannotCome}
-use Rattle.mama_check_order.proofs.Orders.{Holds, no_order}
+use Rattle.mama_check_order.specs.Turns.{IsMost}
+use Rattle.mama_check_order.proofs.Orders.{Holds, within_limit}
 use Rattle.mama_check_order.specs.declared.order.Need.{Need}
 
 -- ---- who is among those that wait
@@ -188,6 +189,15 @@ module _ (needs : List (List (Option Need))) where
 
   -- ---- where a search is stuck
 
+  -- one that was asked is not the one whose entry is wanted
+  pub asked_apart : (made : List ℕ) (askers : List (Option ℕ)) (wanted actor a : ℕ) → IsSearch needs made askers wanted actor → get_or askers actor None ≡ Some a → actor ≡ wanted → ⊥
+  asked_apart made askers wanted actor a s is same = by_chain s.chain s.linked
+    where
+      by_chain : (chain : List ℕ) → IsChain needs made askers wanted actor chain → ⊥
+      by_chain [] linked = both_ways (is_some (get_or askers actor None)) (ap is_some linked.1) (ap is_some is)
+      by_chain (b ∷ chain) linked =
+          both_ways (among actor (b ∷ chain)) linked.2 (subst (λ (x : ℕ). among x (b ∷ chain) ≡ true) (sym same) (ends made askers wanted b chain linked.3))
+
   -- each that waits lacks an entry of one in the chain
   waits : (made : List ℕ) (askers : List (Option ℕ)) (wanted actor : ℕ) (chain : List ℕ) → IsChain needs made askers wanted actor chain
       → (x : ℕ) → among x chain ≡ true → (need : Need) × Lacks needs made x need × (among need.actor (actor ∷ chain) ≡ true)
@@ -204,9 +214,11 @@ module _ (needs : List (List (Option Need))) where
       (w.0, w.1, rest_among actor w.0.actor (a ∷ chain) w.2))
       (or_cases (a == x) (among x chain) inside)
 
-  pub search_stuck : (made : List ℕ) (askers : List (Option ℕ)) (wanted actor : ℕ) (need : Need) → IsSearch needs made askers wanted actor → Lacks needs made actor need
-      → CannotCome needs askers wanted need → HasOrder needs → ⊥
-  search_stuck made askers wanted actor need s lacks why = no_order needs limit holds actor short
+  -- the entry that was wanted comes in no order
+  pub most_stuck : (made : List ℕ) (askers : List (Option ℕ)) (wanted actor : ℕ) (need : Need) → IsSearch needs made askers wanted actor → Lacks needs made actor need
+      → CannotCome needs askers wanted need → IsMost needs wanted (get_or made wanted 0)
+  most_stuck made askers wanted actor need s lacks why = λ turns follow.
+      subst (λ (n : ℕ). turns_of wanted turns ≤ n) (inside_limit wanted (ends made askers wanted actor s.chain s.linked)) (within_limit needs limit holds turns follow wanted)
     where
       all : List ℕ
       all = actor ∷ s.chain
@@ -245,12 +257,6 @@ module _ (needs : List (List (Option Need))) where
           let is : limit x ≡ length (entries_of needs x) = ap (λ (b : Bool). cond b (get_or made x 0) (length (entries_of needs x))) outside in
           inl (omega arith))
           (cases_Bool (among x all))
-
-      short : limit actor < length (entries_of needs actor)
-      short =
-          let is = inside_limit actor (first_among actor s.chain) in
-          let inside = slice_get_within (entries_of needs actor) (get_or made actor 0) (Some need) lacks.next in
-          omega arith
 
 -- ---- bounds
 

@@ -1,5 +1,6 @@
 pub mod Numbered
 pub mod Order
 pub mod Search
+pub mod Turns
 pub mod Taken
 pub mod Step

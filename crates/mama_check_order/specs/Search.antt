@@ -9,9 +9,8 @@ use Rattle.mama_check_order.specs.declared.order.Need.{Need}
 abbrev pub entries_of : List (List (Option Need)) → ℕ → List (Option Need)
 entries_of needs actor = slice_index_or needs actor []
 
--- There is an order in which so many entries of each actor have their turn.
-pub record IsReached (needs : List (List (Option Need))) (made : List ℕ) : Type 0 where
-  pub turns : List ℕ
+-- These turns may follow one another, and so many entries of each actor have their turn in them.
+pub record IsReached (needs : List (List (Option Need))) (made turns : List ℕ) : Type 0 where
   pub follow : MayFollow needs [] turns
   pub counts : (actor : ℕ) → turns_of actor turns ≡ slice_index made actor
 

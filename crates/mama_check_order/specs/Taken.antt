@@ -1,5 +1,5 @@
 -- believed: Whether what was taken is what was put, and which entry put what was taken.
-use Rattle.std.specs.Prelude.{◌≡◌, ℕ, List, [], ◌∷◌, length, map, slice_get, slice_index_or, Option, None, Some, option_map}
+use Rattle.std.specs.Prelude.{◌≡◌, ℕ, List, [], ◌∷◌, length, map, slice_get, slice_index_or, Option, None, option_map}
 use Rattle.std.specs.List.{flat_map}
 use Rattle.mama_journal.specs.Journal.{puts}
 use Rattle.mama_journal.specs.Lane.{by_port}

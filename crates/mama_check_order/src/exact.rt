@@ -1,6 +1,8 @@
 ghost use Rattle.std.specs.Prelude.{◌≡◌, ◌↔◌, true};
 
-use mama_event::{BridgeNote, CallNote, ImageHead, PublisherNote, QueueNote, TimersNote};
+use mama_event::{
+    BridgeNote, CallNote, GroupNote, ImageHead, PublisherNote, QueueNote, TimersNote, WatchNote,
+};
 use mama_msg::Msg;
 
 /// Plain data, of which two values are found the same where they are one, and nowhere else.
@@ -36,6 +38,18 @@ impl Exact for PublisherNote {
 
 impl Exact for CallNote {
     fn is_same(&self, other: &CallNote) -> bool {
+        self == other
+    }
+}
+
+impl Exact for GroupNote {
+    fn is_same(&self, other: &GroupNote) -> bool {
+        self == other
+    }
+}
+
+impl Exact for WatchNote {
+    fn is_same(&self, other: &WatchNote) -> bool {
         self == other
     }
 }

@@ -4,5 +4,7 @@ pub mod RowLemmas
 pub mod SeenLemmas
 pub mod MadeLemmas
 pub mod OrderLemmas
+pub mod FollowLemmas
+pub mod ListLemmas
 pub mod ServeLemmas
 pub mod RecordLemmas

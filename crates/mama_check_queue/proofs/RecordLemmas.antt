@@ -35,8 +35,8 @@ module _ (objects : List Planned) (served : List ServedData) (q : ℕ) where
   pub image_here : (s : SubId) (x : ServedData) → AreOf objects served → q < length served → x ≡ get_or served q x
       → last_image_of x s ≡ image_by objects (slice_index_or (journals_of served) q []) (Sub s)
   image_here s x shared within is =
-      ap (λ k. last_image_of (record { objects = k; journal = x.journal }) s) (own_objects x shared within is)
-      ∙ ap (λ j. last_image_of (record { objects = objects; journal = j }) s) (journal_here x within is)
+      ap (λ k. last_image_of (record { objects = k; groups = []; watches = []; journal = x.journal }) s) (own_objects x shared within is)
+      ∙ ap (λ j. last_image_of (record { objects = objects; groups = []; watches = []; journal = j }) s) (journal_here x within is)
 
   pub image_past : (s : SubId) → length served ≤ q → [] ≡ image_by objects (slice_index_or (journals_of served) q []) (Sub s)
-  image_past s past = ap (λ j. last_image_of (record { objects = objects; journal = j }) s) (journal_past past)
+  image_past s past = ap (λ j. last_image_of (record { objects = objects; groups = []; watches = []; journal = j }) s) (journal_past past)

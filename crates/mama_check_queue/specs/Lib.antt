@@ -4,5 +4,7 @@ pub mod Orders
 pub mod Puts
 pub mod Replay
 pub mod Served
+pub mod Listed
+pub mod Lists
 pub mod Kept
 pub mod Recorded

@@ -25,7 +25,7 @@ calls_by objects queues p = record { object = p.object; calls = map noted (calls
 
 -- the last image of an object by the journal of its queue; only a subscription has one
 abbrev pub image_by : List Planned → List (ℕ × QueueNote) → ObjectId → List LastImage
-image_by objects journal (Sub s) = last_image_of (record { objects = objects; journal = journal }) s
+image_by objects journal (Sub s) = last_image_of (record { objects = objects; groups = []; watches = []; journal = journal }) s
 image_by objects journal (Timer t) = []
 image_by objects journal (Inbox i) = []
 

@@ -8,9 +8,11 @@ ghost use Rattle.mama_rules_queue.specs.Queue.{called, handled, ends};
 ghost use Rattle.mama_dispatch.specs.Journals.{image_in};
 ghost use Rattle.mama_check_queue.specs.Seen.{at, begun, silenced, muted_by, called_so, handling, made_as, after_deed};
 ghost use Rattle.mama_check_queue.specs.Rows.{seen_in};
+ghost use Rattle.mama_check_queue.specs.Lists.{is_missed_row};
 
 use crate::seen::{
-    Seen, begin_at, copies_of, handle_at, image_of, make_at, new_seen, note_at, silence_at,
+    Seen, begin_at, copies_of, handle_at, image_of, is_missed_at, make_at, new_seen, note_at,
+    silence_at,
 };
 use indexmap::IndexSet;
 use mama_dq::Calls;
@@ -139,6 +141,16 @@ impl Objects {
         match self.place(&ObjectId::Sub(sub)) {
             Some(place) => image_of(&self.rows[place].context),
             None => Ok(None),
+        }
+    }
+
+    /// Whether a subscription is live, is not muted, and has no image.
+    pub(crate) fn is_missed(&self, sub: SubId) -> bool
+        ensures { result ≡ is_missed_row (seen_in self.now (OfSub sub)) }
+    {
+        match self.place(&ObjectId::Sub(sub)) {
+            Some(place) => is_missed_at(&self.rows[place]),
+            None => false,
         }
     }
 

@@ -4,7 +4,7 @@ ghost use Rattle.mama_event.specs.declared.to_bridge.BridgeNote.TheVariants as b
 ghost use Rattle.mama_event.specs.declared.to_timers.TimersNote.TheVariants as timers;
 ghost use Rattle.mama_journal.specs.Journal.{count_of};
 ghost use Rattle.mama_event.specs.declared.to_queue.QueueNote.{QueueNote as AnyNote};
-ghost use Rattle.mama_dispatch.specs.Turns.{wished};
+ghost use Rattle.mama_timeout.specs.Table.{wish_puts};
 ghost use Rattle.mama_check_queue.specs.Puts.{put_all};
 
 use mama_event::{BridgeNote, Callback, ObjectId, Order, QueueNote, SubId, TimersNote};
@@ -29,7 +29,7 @@ impl Model for Puts {
 
 /// The wish for a recap that a callback makes.
 fn wish_of(object: &ObjectId, call: &Callback) -> Option<(SubId, u32)>
-    ensures { wished result ≡ wish_put object.now call.now }
+    ensures { wish_puts result ≡ wish_put object.now call.now }
 {
     match (object, call) {
         (ObjectId::Sub(sub), Callback::RecapRequest { sender }) => Some((*sub, *sender)),
@@ -118,16 +118,15 @@ impl Puts {
         }
     }
 
-    /// Puts the wish for a recap that a callback makes, if it makes one.
-    fn put_wish(
+    /// Puts a wish for a recap, if there is one: the subscription and the sender.
+    pub(crate) fn put_wish(
         &mut self,
         entry: usize,
-        object: &ObjectId,
-        call: &Callback,
+        wish: Option<(SubId, u32)>,
     ) -> Result<(), OutOfMemory>
-        ensures { OnOk result (self.new ≡ put_all entry (wish_put object.now call.now) self.old) }
+        ensures { OnOk result (self.new ≡ put_all entry (wish_puts wish) self.old) }
     {
-        match wish_of(object, call) {
+        match wish {
             Some((sub, sender)) => {
                 self.put_to_bridge(entry, BridgeNote::RecapWish { sub, sender })
             }
@@ -155,7 +154,7 @@ impl Puts {
     ) -> Result<(), OutOfMemory>
         ensures { OnOk result (self.new ≡ put_all entry (puts_of (called object.now call.now orders.now)) self.old) }
     {
-        self.put_wish(entry, object, call)?;
+        self.put_wish(entry, wish_of(object, call))?;
         self.put_orders(entry, orders)
     }
 

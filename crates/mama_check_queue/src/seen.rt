@@ -1,9 +1,11 @@
-ghost use Rattle.std.specs.Prelude.{◌≡◌, ◌++◌, [], Some, IfOk, OnOk};
+ghost use Rattle.std.specs.Prelude.{◌≡◌, ◌++◌, ◌&&◌, not, [], Some, IfOk, OnOk};
 ghost use Rattle.mama_dq.specs.Strategy.{callbacks_of};
 ghost use Rattle.mama_dispatch.specs.Journals.{image_in};
 ghost use Rattle.mama_rules_queue.specs.Queue.{is_create as creates, is_destroy as destroys, context_of};
 ghost use Rattle.mama_check_queue.specs.Seen.{unseen, begun, silenced, called_so, kept_more, handling, made_as};
+ghost use Rattle.mama_rules_queue.specs.Watch.{lacks_image};
 ghost use Rattle.mama_check_queue.specs.Rows.{seen_data};
+ghost use Rattle.mama_check_queue.specs.Lists.{is_missed_row};
 
 use mama_dq::{Calls, DqContext};
 use mama_event::{CallNote, Callback, ImageHead, Make, MarketMsg, Orders, Strategy, SubKind};
@@ -175,4 +177,28 @@ pub(crate) fn copies_of(alloc: Global, notes: &[CallNote]) -> Result<Vec<CallNot
         copies.push(note.try_clone()?)?;
     }
     Ok(copies)
+}
+
+/// Whether a context has no image.
+fn is_imageless(context: &DqContext) -> bool
+    ensures { result ≡ lacks_image context.now }
+{
+    match context.image() {
+        Some(_) => false,
+        None => true,
+    }
+}
+
+/// Whether an object is live and not muted.
+fn is_heard(row: &Seen) -> bool
+    ensures { result ≡ (row.now.live && not row.now.muted) }
+{
+    row.live && !row.muted
+}
+
+/// Whether a subscription is live, is not muted, and has no image.
+pub(crate) fn is_missed_at(row: &Seen) -> bool
+    ensures { result ≡ is_missed_row (seen_data row.now) }
+{
+    is_heard(row) && is_imageless(&row.context)
 }

@@ -3,11 +3,15 @@ ghost use Rattle.mama_rules_queue.specs.Queue.{deeds, calls_of};
 ghost use Rattle.mama_rules_rounds.specs.Round.{noted};
 ghost use Rattle.mama_plans.specs.Orders.{orders_in};
 ghost use Rattle.mama_plans.specs.Image.{found_image};
-ghost use Rattle.mama_check_queue.specs.Served.{bridge_puts, timers_puts, last_image_of};
+ghost use Rattle.mama_check_queue.specs.Served.{bridge_puts, timers_puts, last_image_of, groups_heard, watches_noted, group_given, watch_given};
 
 use crate::objects::Objects;
 use crate::puts::Puts;
-use mama_event::{BridgeNote, CallNote, ImageHead, ObjectId, QueueNote, SubId, TimersNote};
+use mama_event::{
+    BridgeNote, CallNote, GroupNote, GroupRow, ImageHead, ObjectId, QueueNote, SubId, TimersNote,
+    WatchNote, WatchRow,
+};
+use mama_group::SilentGroup;
 use mama_memory::OutOfMemory;
 use mama_msg::Msg;
 use mama_plans::Plans;
@@ -20,6 +24,10 @@ pub struct ServedQueue<'a> {
     pub(crate) journal: &'a [(u32, QueueNote)],
     pub(crate) objects: Objects,
     pub(crate) puts: Puts,
+    pub(crate) groups: &'a [(u32, GroupRow)],
+    pub(crate) watches: &'a [(u32, WatchRow)],
+    pub(crate) heard: Vec<(u32, Vec<GroupNote>, SilentGroup)>,
+    pub(crate) noted: Vec<(u32, Vec<WatchNote>)>,
 }
 
 impl<'a> Model for ServedQueue<'a> {
@@ -27,11 +35,11 @@ impl<'a> Model for ServedQueue<'a> {
 
     ghost Value = { ServedData };
 
-    ghost view = { λ s. record { objects = s.plans.now; journal = s.journal.now } };
+    ghost view = { λ s. record { objects = s.plans.now; groups = s.groups.now; watches = s.watches.now; journal = s.journal.now } };
 
     ghost use Rattle.mama_check_queue.specs.Kept.{IsKept};
 
-    ghost invariant = { λ s. IsKept (record { objects = s.plans.now; journal = s.journal.now }) s.objects s.puts };
+    ghost invariant = { λ s. IsKept (record { objects = s.plans.now; groups = s.groups.now; watches = s.watches.now; journal = s.journal.now }) s.objects s.puts s.heard.items s.noted.items };
 }
 
 impl<'a> ServedQueue<'a> {
@@ -47,6 +55,20 @@ impl<'a> ServedQueue<'a> {
         ensures { result.now ≡ timers_puts self.now }
     {
         self.puts.to_timers()
+    }
+
+    /// What each of its groups heard, with the group's number.
+    pub fn heard(&self) -> &[(u32, Vec<GroupNote>, SilentGroup)]
+        ensures { map group_given result.now ≡ groups_heard self.now }
+    {
+        self.heard.as_slice()
+    }
+
+    /// What each of its watches noted, with the watch's number.
+    pub fn noted(&self) -> &[(u32, Vec<WatchNote>)]
+        ensures { map watch_given result.now ≡ watches_noted self.now }
+    {
+        self.noted.as_slice()
     }
 
     /// The callbacks of an object.

@@ -1,17 +1,15 @@
 -- What the calls of a client put is lawful.
 use Rattle.std.specs.Prelude.{Option, None, Some}
 use Rattle.std.specs.List.{list_any, filter_map, cons_option}
-use Rattle.std.proofs.Common.{◌≡◌, Bool, true, false, not, ◌&&◌, ◌||◌, List, [], ◌∷◌, ◌++◌, refl, sym, ◌∙◌, ap, subst}
+use Rattle.std.proofs.Common.{◌≡◌, Bool, true, false, not, ◌&&◌, ◌||◌, List, [], ◌∷◌, ◌++◌, refl, ◌∙◌, ap, subst}
 use Rattle.std.proofs.lemmas.Bool.{and_from, or_from, both_ways, false_from_ne_true}
 use Rattle.std.proofs.lemmas.List.Folds.{list_any-append}
-use Rattle.mama_event.specs.Lawful.{each_fits, may_follow, IsLawful}
+use Rattle.mama_event.specs.Lawful.{each_fits, may_follow}
 use Rattle.mama_event.specs.declared.shape.Bounds.{Bounds}
-use Rattle.mama_event.specs.declared.to_bridge.BridgeNote.{BridgeNote}
-use Rattle.mama_event.specs.declared.to_timers.TimersNote.{TimersNote}
 use Rattle.mama_event.specs.ToBridge as to_bridge
 use Rattle.mama_event.specs.ToTimers as to_timers
 use Rattle.mama_client.specs.Standing.{ClientData}
-use Rattle.mama_client.specs.Calls.{bounds_of, IfPut, IsCall, Call, AreCalls, bridge_in, timers_in, PutsAreLawful, CallsAreLawful}
+use Rattle.mama_client.specs.Calls.{bounds_of, IfPut, IsCall, Call, AreCalls, bridge_in, timers_in, CallsAreLawful}
 
 -- what a call tells of one lane
 record LaneCall {N : Type 0} (is_last is_within : N → Bool) (before after : Bool) (put : Option N) : Type 0 where

@@ -1,5 +1,5 @@
 -- believed: what a client's calls put, one after another.
-use Rattle.std.specs.Prelude.{◌≡◌, ℕ, Bool, true, false, List, [], ◌∷◌, Option, None, Some}
+use Rattle.std.specs.Prelude.{◌≡◌, true, false, List, [], ◌∷◌, Option, None, Some}
 use Rattle.std.specs.List.{filter_map}
 use Rattle.mama_event.specs.Lawful.{IsLawful}
 use Rattle.mama_event.specs.declared.shape.Bounds.{Bounds}

@@ -1,5 +1,5 @@
 -- believed: what a client refuses, in the order of the tests. The listener goes back.
-use Rattle.std.specs.Prelude.{ℕ, Bool, not, nat_lt, ◌==◌, Option, None, Some, if◌then◌else◌}
+use Rattle.std.specs.Prelude.{ℕ, not, nat_lt, ◌==◌, Option, None, Some, if◌then◌else◌}
 use Rattle.mama_event.specs.declared.to_bridge.SubTerms.{SubTerms}
 use Rattle.mama_event.specs.declared.to_bridge.InboxTerms.{InboxTerms}
 use Rattle.mama_client.specs.declared.fault.ClientFault.{ClientFault}

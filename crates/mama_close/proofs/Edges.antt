@@ -1,15 +1,10 @@
 -- What the closing of the lanes of a crew tells of the edges, of what was taken and of what was put.
 use Rattle.std.specs.Prelude.{slice_index_or}
-use Rattle.std.specs.List.{All, AllZip, slice_get, flat_map, list_any}
-use Rattle.std.proofs.Common.{◌≡◌, ℕ, zero, suc, ◌+◌, ◌<◌, ◌≤◌, Bool, true, List, [], ◌∷◌, ◌++◌, length, map, Some, refl, sym, ◌∙◌, ap, subst, arith, append-nil}
+use Rattle.std.specs.List.{All, slice_get}
+use Rattle.std.proofs.Common.{◌≡◌, ℕ, zero, suc, ◌+◌, ◌<◌, ◌≤◌, Bool, true, List, [], ◌∷◌, ◌++◌, Some, refl, sym, ◌∙◌, ap, subst, arith, append-nil}
 use Rattle.mama_journal.specs.Lane.{by_port, from_port, IsEdge}
 use Rattle.mama_event.specs.declared.shape.Shape.{Shape}
 use Rattle.mama_event.specs.declared.shape.Bounds.{Bounds}
-use Rattle.mama_event.specs.declared.to_bridge.BridgeNote.{BridgeNote}
-use Rattle.mama_event.specs.declared.to_timers.TimersNote.{TimersNote}
-use Rattle.mama_event.specs.declared.to_publisher.PublisherNote.{PublisherNote}
-use Rattle.mama_event.specs.declared.to_queue.QueueNote.{QueueNote}
-use Rattle.mama_event.specs.Publisher.{PublisherScript}
 use Rattle.mama_script.specs.declared.publisher.PublisherPart.{PublisherPart}
 use Rattle.mama_rules_rounds.specs.World.{no_section}
 use Rattle.mama_rules_rounds.specs.Round.{publishers_from}

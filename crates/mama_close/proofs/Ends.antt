@@ -1,6 +1,6 @@
 -- The ends of the lanes of a crew that was taken apart: to which lanes they belong, and what the closing of all lanes tells.
 use Rattle.std.specs.List.{All, AllZip}
-use Rattle.std.proofs.Common.{◌≡◌, ℕ, ◌+◌, List, [], ◌∷◌, length, map, refl, sym, ◌∙◌, ap, subst}
+use Rattle.std.proofs.Common.{◌≡◌, List, [], ◌∷◌, length, map, sym, ◌∙◌, ap, subst}
 use Rattle.std.proofs.lemmas.List.Elements.{All-nil, All-cons, All-head, All-weaker}
 use Rattle.mama_journal.specs.Journal.{numbers_below}
 use Rattle.mama_event.specs.declared.to_bridge.BridgeNote.{BridgeNote}

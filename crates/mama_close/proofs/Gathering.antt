@@ -1,38 +1,36 @@
 -- The record of a crew whose seats have ended and whose lanes are closed is legal.
 use Rattle.std.specs.Prelude.{slice_index_or}
-use Rattle.std.specs.List.{All, AllZip, slice_get, flat_map, list_any}
-use Rattle.std.proofs.Common.{◌≡◌, ℕ, ◌+◌, ◌<◌, ◌≤◌, Bool, true, List, [], ◌∷◌, ◌++◌, length, map, Some, refl, sym, ◌∙◌, ap, subst, arith}
+use Rattle.std.specs.List.{All, slice_get, flat_map, list_any}
+use Rattle.std.proofs.Common.{◌≡◌, ℕ, ◌+◌, ◌<◌, ◌≤◌, Bool, true, List, [], ◌∷◌, ◌++◌, length, map, filter, Some, refl, sym, ◌∙◌, ap, subst, arith}
 use Rattle.std.proofs.lemmas.List.{length-map}
 use Rattle.std.proofs.lemmas.List.Elements.{All-weaker}
 use Rattle.std.proofs.lemmas.Option.{slice_get_within, get_or_from_slice_get}
+use Rattle.mama_journal.specs.Journal.{puts}
 use Rattle.mama_journal.specs.Lane.{by_port, from_port, IsEdge}
 use Rattle.mama_event.specs.declared.shape.Shape.{Shape}
-use Rattle.mama_event.specs.declared.to_bridge.BridgeNote.{BridgeNote}
-use Rattle.mama_event.specs.declared.to_timers.TimersNote.{TimersNote}
-use Rattle.mama_event.specs.declared.to_publisher.PublisherNote.{PublisherNote}
 use Rattle.mama_event.specs.declared.to_queue.QueueNote.{QueueNote}
 use Rattle.mama_event.specs.declared.publisher_entry.PublisherEntry.{PublisherEntry}
+use Rattle.mama_event.specs.declared.watch.WatchRow.{WatchRow}
 use Rattle.mama_event.specs.declared.publisher_entry.PublisherEntry.TheVariants.{Send, Done}
-use Rattle.mama_event.specs.Ports.{clients_of, publishers_of, queues_of, bridge_ports, bridge_port_of_queue, timers_port_of_bridge, timers_port_of_queue, queue_port_of_timers}
+use Rattle.mama_event.specs.Ports.{clients_of, publishers_of, queues_of, bridge_ports, queue_port_of_timers}
 use Rattle.mama_event.specs.Publisher.{publisher_puts, PublisherScript}
 use Rattle.mama_event.specs.ToBridge as to_bridge
 use Rattle.mama_event.specs.ToTimers as to_timers
 use Rattle.mama_event.specs.ToPublisher as to_publisher
 use Rattle.mama_event.specs.ToQueue as to_queue
-use Rattle.mama_rules_services.specs.Bridge.{BridgePut, bridge_puts}
+use Rattle.mama_rules_services.specs.Bridge.{bridge_puts}
 use Rattle.mama_rules_services.specs.Timers.{timers_puts}
-use Rattle.mama_rules_services.specs.Ports.{bridge_putter, timers_putter, queue_putter}
+use Rattle.mama_rules_services.specs.Ports.{queue_putter}
 use Rattle.mama_rules_services.proofs.PutterPorts.{by_bridge_port, by_timers_port, by_queue_port}
-use Rattle.mama_script.specs.declared.client.ClientLine.{ClientLine}
 use Rattle.mama_script.specs.declared.publisher.PublisherPart.{PublisherPart}
 use Rattle.mama_script.specs.Script.{ScriptData}
 use Rattle.mama_record.specs.RunData.{RunData}
-use Rattle.mama_rules_queue.specs.Queue.{QueuePut}
+use Rattle.mama_rules_queue.specs.Watch.{watched_puts_at}
 use Rattle.mama_rules_rounds.specs.Client.{Planned, bridge_part, timers_part, clock_lines}
-use Rattle.mama_rules_rounds.specs.World.{no_section, queue_part, timer_part, publisher_part}
-use Rattle.mama_rules_rounds.specs.Round.{setting_of, object_calls, last_image, publisher_steps, publishers_from}
+use Rattle.mama_rules_rounds.specs.World.{Watched, is_on, rows_on, orders_by, no_section, queue_part, timer_part, publisher_part}
+use Rattle.mama_rules_rounds.specs.Round.{setting_of, publisher_steps}
 use Rattle.mama_rules_legal.specs.Edges.{all_steps, client_puts, put_on_bridge, put_on_timers, put_to_publisher, put_on_queue, queue_puts, taken_by}
-use Rattle.mama_rules_legal.specs.Calls.{IsShapedFor, AreCalls}
+use Rattle.mama_rules_legal.specs.Calls.{IsShapedFor}
 use Rattle.mama_rules_legal.specs.Legal.{IsLegal}
 use Rattle.mama_laws_legal.specs.Laws.{IsOrderly}
 use Rattle.mama_laws_legal.proofs.AllSent.{count_publishers}
@@ -40,15 +38,14 @@ use Rattle.mama_laws_legal.proofs.Entries.{sends_at}
 use Rattle.mama_laws_allowed.specs.Allowed.{own_by, own_puts, ClientPutsAreItsOwn, StopsInTime}
 use Rattle.mama_laws_gather.specs.Gathered.{AreGathered, HaveEnded, GatheredIsLegal}
 use Rattle.mama_laws_gather.specs.Done.{HaveDoneLines, GatheredDoLines}
-use Rattle.mama_lane.specs.Values.{TakerValue, PortValue}
+use Rattle.mama_plans.specs.Lists.{watch_row}
 use Rattle.mama_seats.specs.Sender.{sender_of, script_of, steps_in, steps_after}
-use Rattle.mama_posts.specs.Client.{HasDoneAll, lines_of}
+use Rattle.mama_posts.specs.Client.{HasDoneAll}
 use Rattle.mama_posts.specs.Client as client
 use Rattle.mama_posts.specs.Publisher.{PublisherPostValue, IsPublisherOf}
 use Rattle.mama_posts.specs.Publisher as publisher
-use Rattle.mama_posts.specs.Queue.{QueuePostValue, HasServedAll, served_puts}
+use Rattle.mama_posts.specs.Queue.{QueuePostValue, HasServedAll, rows_of_watches, served_puts}
 use Rattle.mama_posts.specs.Queue as queue
-use Rattle.mama_posts.specs.Ports.{IsPutting}
 use Rattle.mama_posts.specs.Bridge as bridge
 use Rattle.mama_posts.specs.Timers as timers
 use Rattle.mama_posts.specs.Timers.{timers_ports}
@@ -62,6 +59,11 @@ use Rattle.mama_close.specs.Kinds.{Kinds, AreKindsOf, read_by, entries_by, event
 use Rattle.mama_close.specs.Closed.{AreClosed, IsEdgeOf}
 use Rattle.mama_close.proofs.Lists.{found_at, all_at, map_at, map_get, get_same, zip_at, numbered_len, numbered_at, none_past, same_lists}
 use Rattle.mama_close.proofs.Edges.{edge_as, edge_by, edge_of_none, put_whole, taken_whole, service_taken, service_none, one_port, section_at}
+
+-- the rows of watches without their numbers
+rows_alone : (watches : List Watched) → map (λ (w : ℕ × WatchRow). w.1) (map watch_row watches) ≡ map (λ (w : Watched). w.row) watches
+rows_alone [] = refl
+rows_alone (w ∷ ws) = ap (λ (rows : List WatchRow). w.row ∷ rows) (rows_alone ws)
 
 module _ (script : ScriptData) (hall : HallValue) (kinds : Kinds) (crew : AreKindsOf script hall kinds) (closed : AreClosed kinds) (orderly : IsOrderly script) where
   abbrev shape : Shape
@@ -253,27 +255,32 @@ module _ (script : ScriptData) (hall : HallValue) (kinds : Kinds) (crew : AreKin
     queue_in : IsQueueIn script hall q queue_post
     queue_in = subst (λ (n : ℕ). IsQueueIn script hall n queue_post) queue_number (all_at (λ s. IsQueueIn script hall s.0 s.1) kinds.queues q queue_seat crew.queues queue_is)
 
-    queue_served : HasServedAll (setting_of script).objects queue_post.served.journal queue_post.inlet.taker queue_post.ports.to_bridge.put queue_post.ports.to_timers.put
+    queue_served : HasServedAll (setting_of script).objects (rows_of_watches queue_post.watches) queue_post.served.journal queue_post.inlet.taker queue_post.ports.to_bridge.put queue_post.ports.to_timers.put
     queue_served =
-        subst (λ (objects : List Planned). HasServedAll objects queue_post.served.journal queue_post.inlet.taker queue_post.ports.to_bridge.put queue_post.ports.to_timers.put) crew.hall_is.objects
+        subst (λ (objects : List Planned). HasServedAll objects (rows_of_watches queue_post.watches) queue_post.served.journal queue_post.inlet.taker queue_post.ports.to_bridge.put queue_post.ports.to_timers.put) crew.hall_is.objects
         (served_all hall.objects q queue_post queue_in.keeps (all_at (λ s. queue.HasEnded s.1) kinds.queues q queue_seat crew.queues_ended queue_is))
 
     queue_journal : slice_index_or run.queues q [] ≡ queue_post.served.journal
     queue_journal = map_at events_by kinds.queues q queue_seat [] queue_is
 
-    queue_whole : queue_puts (setting_of script) queue_post.served.journal ≡ queue_puts (setting_of script) (slice_index_or run.queues q [])
-    queue_whole = ap (queue_puts (setting_of script)) (sym queue_journal)
+    queue_rows : map (λ (w : ℕ × WatchRow). w.1) (rows_of_watches queue_post.watches) ≡ rows_on q (setting_of script).watches
+    queue_rows = ap (map (λ (w : ℕ × WatchRow). w.1)) queue_in.watches ∙ rows_alone (filter (is_on q) (setting_of script).watches)
 
-    queue_bridge : IsEdge to_bridge.is_last (by_port (clients_of shape + publishers_of shape + q) run.bridge) (flat_map bridge_part (queue_puts (setting_of script) (slice_index_or run.queues q [])))
+    queue_whole : served_puts (setting_of script).objects (rows_of_watches queue_post.watches) queue_post.served.journal ≡ queue_puts (setting_of script) q (slice_index_or run.queues q [])
+    queue_whole =
+        ap (λ (rows : List WatchRow). puts (watched_puts_at (orders_by (setting_of script)) rows) queue_post.served.journal) queue_rows
+        ∙ ap (queue_puts (setting_of script) q) (sym queue_journal)
+
+    queue_bridge : IsEdge to_bridge.is_last (by_port (clients_of shape + publishers_of shape + q) run.bridge) (flat_map bridge_part (queue_puts (setting_of script) q (slice_index_or run.queues q [])))
     queue_bridge =
         edge_by to_bridge.is_last kinds.bridge.service.inlet.taker queue_post.ports.to_bridge (clients_of shape + publishers_of shape + q) run.bridge
-        (flat_map bridge_part (queue_puts (setting_of script) (slice_index_or run.queues q []))) bridge_taken
+        (flat_map bridge_part (queue_puts (setting_of script) q (slice_index_or run.queues q []))) bridge_taken
         queue_in.on_bridge.number_is (queue_served.bridge ∙ ap (flat_map bridge_part) queue_whole) (all_at (λ s. IsEdgeOf to_bridge.is_last kinds.bridge.service.inlet.taker s.1.ports.to_bridge) kinds.queues q queue_seat closed.queues_bridge queue_is)
 
-    queue_timers : IsEdge to_timers.is_last (by_port (clients_of shape + q) run.timers) (flat_map timers_part (queue_puts (setting_of script) (slice_index_or run.queues q [])))
+    queue_timers : IsEdge to_timers.is_last (by_port (clients_of shape + q) run.timers) (flat_map timers_part (queue_puts (setting_of script) q (slice_index_or run.queues q [])))
     queue_timers =
         edge_by to_timers.is_last kinds.timers.service.inlet.taker queue_post.ports.to_timers (clients_of shape + q) run.timers
-        (flat_map timers_part (queue_puts (setting_of script) (slice_index_or run.queues q []))) timers_taken
+        (flat_map timers_part (queue_puts (setting_of script) q (slice_index_or run.queues q []))) timers_taken
         queue_in.on_timers.number_is (queue_served.timers ∙ ap (flat_map timers_part) queue_whole) (all_at (λ s. IsEdgeOf to_timers.is_last kinds.timers.service.inlet.taker s.1.ports.to_timers) kinds.queues q queue_seat closed.queues_timers queue_is)
 
     queue_taken : queue_post.inlet.taker.taken ≡ slice_index_or run.queues q []
@@ -363,4 +370,4 @@ module _ (script : ScriptData) (hall : HallValue) (kinds : Kinds) (crew : AreKin
   legal_record own bridges services lines law =
       let taken = gathered own in
       let end = ended bridges services in
-      law script run orderly shaped (lines script run orderly did taken end) taken end (record { calls = refl; images = refl })
+      law script run orderly shaped (lines script run orderly did taken end) taken end (record { calls = refl; images = refl }) (record { groups = refl; watches = refl })

@@ -7,5 +7,6 @@ pub mod LaneEnds
 pub mod Ends
 pub mod Parting
 pub mod Record
+pub mod Noted
 pub mod Whole
 pub mod Imaging

@@ -8,7 +8,7 @@ use Rattle.mama_event.specs.ToTimers as timers
 use Rattle.mama_event.specs.ToPublisher as publisher
 use Rattle.mama_event.specs.ToQueue as queue
 use Rattle.mama_record.specs.RunView.{moments_of, entries_of, events_of}
-use Rattle.mama_lane.specs.Values.{LaneId, LaneValue, PortValue}
+use Rattle.mama_lane.specs.Values.{LaneValue, PortValue}
 use Rattle.mama_posts.specs.Ports.{lanes_of, ids_of}
 use Rattle.mama_close.specs.Kinds.{Kinds, read_by, entries_by, events_by}
 use Rattle.mama_close.specs.Closed.{IsEdgeOf}

@@ -1,5 +1,5 @@
 -- inner: What the closing of all lanes of a crew tells.
-use Rattle.std.specs.Prelude.{ℕ, Bool, List}
+use Rattle.std.specs.Prelude.{Bool, List}
 use Rattle.std.specs.List.{All, AllZip}
 use Rattle.mama_journal.specs.Lane.{by_port, IsEdge}
 use Rattle.mama_event.specs.ToBridge as bridge

@@ -4,10 +4,12 @@ use Rattle.std.specs.List.{All, flat_map}
 use Rattle.mama_journal.specs.Journal.{numbers_below}
 use Rattle.mama_event.specs.declared.publisher_entry.PublisherEntry.{PublisherEntry}
 use Rattle.mama_event.specs.declared.to_queue.QueueNote.{QueueNote}
+use Rattle.mama_event.specs.declared.watch.WatchNote.{WatchNote}
+use Rattle.mama_timeout.specs.Table.{part_of}
 use Rattle.mama_event.specs.Ports.{clients_of, publishers_of, queues_of}
 use Rattle.mama_script.specs.Script.{ScriptData}
 use Rattle.mama_record.specs.RunData.{RunData}
-use Rattle.mama_rules_rounds.specs.Round.{setting_of, object_calls, last_image}
+use Rattle.mama_rules_rounds.specs.Round.{setting_of, object_calls, last_image, group_told, watch_told}
 use Rattle.mama_posts.specs.Client as client
 use Rattle.mama_posts.specs.Publisher.{PublisherPostValue}
 use Rattle.mama_posts.specs.Publisher as publisher
@@ -55,6 +57,14 @@ entries_by s = s.1.progress.journal
 abbrev pub events_by : ℕ × QueuePostValue → List (ℕ × QueueNote)
 events_by s = s.1.served.journal
 
+-- what the watches of a queue noted, each list with its number
+abbrev pub noted_by : ℕ × QueuePostValue → List (ℕ × List WatchNote)
+noted_by s = map part_of s.1.watches
+
+-- nothing that the watch of a number noted
+abbrev pub none_noted : ℕ → ℕ × List WatchNote
+none_noted n = (n, [])
+
 -- all seats of a crew, by kind, in the order of their numbers
 pub record Kinds : Type 0 where
   pub clients : List (ℕ × ClientSeatValue)
@@ -63,7 +73,7 @@ pub record Kinds : Type 0 where
   pub timers : TimersPostValue
   pub queues : List (ℕ × QueuePostValue)
 
--- the record of these seats
+-- the record of these seats, where each group heard what it does by its queue's journal
 abbrev pub record_of : ScriptData → Kinds → RunData
 record_of script kinds = record {
   clients = map read_by kinds.clients;
@@ -73,6 +83,8 @@ record_of script kinds = record {
   queues = map events_by kinds.queues;
   calls = map (object_calls (setting_of script) (map events_by kinds.queues)) (setting_of script).objects;
   images = flat_map (last_image (setting_of script) (map events_by kinds.queues)) (setting_of script).objects;
+  groups = map (group_told (setting_of script) (map events_by kinds.queues)) (setting_of script).groups;
+  watches = map (watch_told (setting_of script) (map events_by kinds.queues)) (setting_of script).watches;
 }
 
 -- They are the seats of a crew of this script and hall, and all have ended.

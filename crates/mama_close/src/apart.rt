@@ -1,10 +1,11 @@
-ghost use Rattle.std.specs.Prelude.{◌≡◌, ℕ, List, length, map, IfOk, OnOk};
-ghost use Rattle.std.specs.List.{All};
+ghost use Rattle.std.specs.Prelude.{◌≡◌, ◌<◌, ◌^◌, ℕ, List, length, map, IfOk, OnOk};
+ghost use Rattle.std.specs.List.{All, flat_map};
 ghost use Rattle.mama_journal.specs.Journal.{numbers_below};
 ghost use Rattle.mama_event.specs.Listener.{told};
 ghost use Rattle.mama_posts.specs.Queue.{IsQueueOf};
 ghost use Rattle.mama_record.specs.RunView.{moments_of, entries_of};
-ghost use Rattle.mama_close.specs.Kinds.{read_by, entries_by, events_by};
+ghost use Rattle.mama_plans.specs.Numbered.{numbered, lists_put};
+ghost use Rattle.mama_close.specs.Kinds.{read_by, entries_by, events_by, noted_by, none_noted};
 ghost use Rattle.mama_close.specs.InKinds.{kinds_in};
 ghost use Rattle.mama_close.specs.Places.{calls_on, AreCallsFound, AreListenersFound};
 ghost use Rattle.mama_close.specs.Apart.{AreParts, BelongTo, AreEdgesOf};
@@ -16,7 +17,9 @@ use crate::publishers::PublisherEnds;
 use crate::queues::QueueEnds;
 use mama_carry::{Carried, Listener, ToBridge, ToQueue, ToTimers};
 use mama_crew::{BridgeSeat, ClientSeat, PublisherSeat, TimersSeat};
-use mama_event::{BridgeNote, CallNote, PublisherEntry, QueueNote, TimersNote, ToPublisher};
+use mama_event::{
+    BridgeNote, CallNote, PublisherEntry, QueueNote, TimersNote, ToPublisher, WatchNote,
+};
 use mama_lane::Lane;
 use mama_memory::OutOfMemory;
 use mama_plans::Plans;
@@ -35,18 +38,21 @@ pub(crate) struct Apart<L: Listener> {
 }
 
 impl<L: Listener> Apart<L> {
-    /// Takes the seats apart. The error is want of memory, or an object that came to another queue than its own, which no
-    /// crew has.
+    /// Takes the seats apart; there are so many watches. The error is want of memory, or an object that came to another queue
+    /// than its own, which no crew has.
     pub(crate) fn of(
         alloc: Global,
         plans: &Plans,
+        watches: usize,
         seats: SeatsByKind<L>,
     ) -> Result<Apart<L>, OutOfMemory>
         requires numbers { map (λ s. s.0) seats.queues.items ≡ numbers_below (length seats.queues.items) }
         requires keeps { All (λ s. IsQueueOf plans.now s.0 s.1) seats.queues.items }
+        requires few { watches < 2 ^ 32 }
         ensures parts { IfOk result (λ apart. AreParts (kinds_in seats) apart) }
         ensures calls { IfOk result (λ apart. AreCallsFound (calls_on plans.now (map events_by seats.queues.items)) plans.now apart.queues.calls.items) }
         ensures listeners { IfOk result (λ apart. AreListenersFound (told L.tagged L.calls L.heard L.given L.plan) (calls_on plans.now (map events_by seats.queues.items)) plans.now apart.queues.listeners.items) }
+        ensures noted { IfOk result (λ apart. numbered apart.queues.noted.items ≡ lists_put (flat_map noted_by seats.queues.items) (map none_noted (numbers_below watches))) }
     {
         let SeatsByKind {
             clients,
@@ -57,7 +63,7 @@ impl<L: Listener> Apart<L> {
         } = seats;
         let services = services_apart(bridge, timers);
         let senders = senders_apart(alloc, clients, publishers)?;
-        let queues = QueueEnds::of(alloc, plans, queues)?;
+        let queues = QueueEnds::of(alloc, plans, watches, queues)?;
         let Services { bridge, timers } = services;
         let Senders {
             clients,
@@ -145,8 +151,8 @@ fn timers_apart<L: Listener>(seat: TimersSeat<L>) -> TimersParts<L>
     seat.into_post().into_parts()
 }
 
-/// What the seats leave once all lanes are closed: moments and journals; and callbacks and listeners, each at the place of its
-/// object.
+/// What the seats leave once all lanes are closed: moments and journals; callbacks and listeners, each at the place of its
+/// object; and what each watch noted.
 #[derive(Drop)]
 pub(crate) struct Gathered<L: Listener> {
     pub(crate) moments: Vec<Vec<u64>>,
@@ -156,6 +162,7 @@ pub(crate) struct Gathered<L: Listener> {
     pub(crate) events: Vec<Vec<(u32, QueueNote)>>,
     pub(crate) calls: Vec<Option<Vec<CallNote>>>,
     pub(crate) listeners: Vec<Option<L>>,
+    pub(crate) noted: Vec<(u32, Vec<WatchNote>)>,
 }
 
 /// Closes all lanes, and gives what the seats leave.
@@ -177,6 +184,7 @@ pub(crate) fn close_lanes<L: Listener, Rt: Wait + Copy>(
     ensures events { IfOk result (λ r. r.events ≡ apart.queues.journals) }
     ensures calls { IfOk result (λ r. r.calls ≡ apart.queues.calls) }
     ensures listeners { IfOk result (λ r. r.listeners ≡ apart.queues.listeners) }
+    ensures noted { IfOk result (λ r. r.noted ≡ apart.queues.noted) }
 {
     let Apart {
         clients,
@@ -226,5 +234,6 @@ pub(crate) fn close_lanes<L: Listener, Rt: Wait + Copy>(
         events: queues.journals,
         calls: queues.calls,
         listeners: queues.listeners,
+        noted: queues.noted,
     })
 }

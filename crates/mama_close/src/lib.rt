@@ -4,7 +4,8 @@
 //! [`close_crew`] takes the seats apart, kind by kind ([`kinds`], [`clients`], [`publishers`], [`queues`]), and closes each
 //! lane with its ports and its taker ([`lanes`]): so of each port, what was taken begins what was put, and is all of it where
 //! the last event was taken (`AreClosed` of `specs/Closed.antt`). With what the seats keep, the record is legal, whichever
-//! thread turned which seat when. Callbacks and listeners are moved to the places of their objects ([`places`]), and images
+//! thread turned which seat when. [`close_heard`] does the same where groups heard what they do by the journals. Callbacks and
+//! listeners are moved to the places of their objects ([`places`]), and images
 //! are copied ([`images`]).
 #![tactic(auto)]
 
@@ -18,5 +19,5 @@ mod places;
 mod publishers;
 mod queues;
 
-pub use closing::close_crew;
+pub use closing::{close_crew, close_heard};
 pub use mama_memory::OutOfMemory;

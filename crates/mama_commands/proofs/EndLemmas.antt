@@ -1,5 +1,5 @@
 -- What the end of play says of each answer.
-use Rattle.std.proofs.Common.{◌≡◌, ℕ, List, [], length, drop, Option, Some, None, Err, refl, inl, inr, sym, ap, ◌∙◌, subst, arith}
+use Rattle.std.proofs.Common.{◌≡◌, ℕ, List, [], length, drop, Option, Some, None, Err, inl, inr, sym, ap, ◌∙◌, subst, arith}
 use Rattle.std.proofs.lemmas.List.{drop_all}
 use Rattle.mama_edge.specs.Told.{LostAtMost}
 use Rattle.mama_script.specs.Reading.{script_in}

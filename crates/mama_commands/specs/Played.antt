@@ -10,8 +10,8 @@ use Rattle.mama_rules_legal.specs.Legal.{IsLegal}
 use Rattle.mama_plain.specs.Promises.{KeepsPromises}
 
 -- A run on threads is legal, whichever thread ran what when: every line was done, on every edge what was taken is all that
--- was put, in order, and the callbacks and images are those that the queues' journals make. A log of the script can tell it.
--- And it keeps the promises.
+-- was put, in order, and the callbacks and images, and what groups heard and watches noted, are those that the queues'
+-- journals make. A log of the script can tell it. And it keeps the promises.
 pub record IsPlay (script : ScriptData) (run : RunData) : Type 0 where
   pub legal : IsLegal script run
   pub logged : IsLogged script run

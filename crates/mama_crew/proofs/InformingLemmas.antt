@@ -1,6 +1,6 @@
 -- Seats that tell and learn what was put.
 use Rattle.std.specs.List.{slice_get}
-use Rattle.std.proofs.Common.{◌≡◌, ◌↔◌, ℕ, zero, suc, Bool, true, List, [], ◌∷◌, length, map, Some, refl, sym, ◌∙◌, ap, subst, arith}
+use Rattle.std.proofs.Common.{◌≡◌, ◌↔◌, ℕ, zero, suc, Bool, true, List, [], ◌∷◌, length, map, Some, refl, sym, ◌∙◌, ap, subst}
 use Rattle.mama_event.specs.declared.to_bridge.BridgeNote.{BridgeNote}
 use Rattle.mama_event.specs.declared.to_publisher.PublisherNote.{PublisherNote}
 use Rattle.mama_event.specs.declared.to_queue.QueueNote.{QueueNote}
@@ -16,7 +16,7 @@ use Rattle.mama_posts.specs.Publisher as publisher
 use Rattle.mama_posts.specs.Service.{ServiceValue, HasEnded}
 use Rattle.mama_posts.specs.Bridge.{BridgePostValue, IsBridgeOf}
 use Rattle.mama_posts.specs.Timers.{TimersPostValue, IsTimersOf}
-use Rattle.mama_posts.specs.Queue.{QueuePostValue, IsQueueOf}
+use Rattle.mama_posts.specs.Queue.{QueuePostValue, rows_of_watches, IsQueueOf}
 use Rattle.mama_crew.specs.Hall.{HallValue, IsLaneAt}
 use Rattle.mama_crew.specs.declared.seat.Seat.{Seat}
 use Rattle.mama_crew.specs.declared.seat.Seat.TheVariants.{Client, Publisher, Bridge, Timers, Queue}
@@ -102,6 +102,7 @@ queue_keeps objects q note old was = record {
   taken = was.taken;
   lawful = was.lawful;
   put = was.put;
+  noted = was.noted;
   planned = was.planned;
   heard = was.heard;
   unborn = was.unborn;
@@ -114,6 +115,7 @@ pub queue_informed : (script : ScriptData) (hall : HallValue) (q : ℕ) (note : 
 queue_informed script hall q note old new was is = record {
   there = was.there;
   keeps = subst (IsQueueOf hall.objects q) (sym is) (queue_keeps hall.objects q note old was.keeps);
+  watches = ap (λ (v : QueuePostValue). rows_of_watches v.watches) is ∙ was.watches;
   lane = was.lane ∙ ap (λ (v : QueuePostValue). Some v.inlet.taker.lane) (sym is);
   on_bridge = record {
     lane_is = ap (λ (v : QueuePostValue). v.ports.to_bridge.lane) is ∙ was.on_bridge.lane_is;

@@ -1,4 +1,5 @@
 pub mod SeatLemmas
 pub mod OpeningLemmas
+pub mod WatchLemmas
 pub mod NewLemmas
 pub mod InformingLemmas

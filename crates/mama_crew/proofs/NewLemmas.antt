@@ -6,30 +6,35 @@ use Rattle.mama_event.specs.declared.to_bridge.BridgeNote.{BridgeNote}
 use Rattle.mama_event.specs.declared.to_publisher.PublisherNote.{PublisherNote}
 use Rattle.mama_event.specs.declared.to_queue.QueueNote.{QueueNote}
 use Rattle.mama_event.specs.declared.to_timers.TimersNote.{TimersNote}
-use Rattle.mama_event.specs.Ports.{clients_of, publishers_of, queues_of, bridge_ports, timers_port_of_bridge, queue_port_of_bridge, queue_port_of_timers, bridge_port_of_client, bridge_port_of_publisher, bridge_port_of_queue, timers_port_of_client, timers_port_of_queue}
+use Rattle.mama_event.specs.Ports.{publishers_of, queues_of, bridge_ports, timers_port_of_bridge, queue_port_of_bridge, queue_port_of_timers, bridge_port_of_publisher, bridge_port_of_queue, timers_port_of_queue}
 use Rattle.mama_script.specs.declared.publisher.PublisherPart.{PublisherPart}
 use Rattle.mama_script.specs.Script.{ScriptData}
 use Rattle.mama_script.specs.Tree.{IsScript, topic_of_part}
 use Rattle.mama_script.specs.Within.{IsPublisherWithin, IsWithin}
 use Rattle.mama_seats.specs.Stand.{Walk}
 use Rattle.mama_dispatch.specs.Served.{Served}
-use Rattle.mama_lane.specs.Values.{LaneId, LaneValue, PortValue, TakerValue, new_port, new_taker}
+use Rattle.mama_lane.specs.Values.{LaneValue, PortValue, TakerValue, new_port, new_taker}
 use Rattle.mama_ends.specs.Inlet.{InletValue}
 use Rattle.mama_hall.specs.Ends.{IsLaneOf}
-use Rattle.mama_posts.specs.Ports.{lanes_of, ids_of, IsPutting}
+use Rattle.mama_posts.specs.Ports.{lanes_of, IsPutting}
 use Rattle.mama_posts.specs.Outlets.{OutletsValue}
-use Rattle.mama_posts.specs.Client.{ClientPostValue, IsClientOf, walk_at_first}
+use Rattle.mama_posts.specs.Client.{ClientPostValue, walk_at_first}
 use Rattle.mama_posts.specs.Publisher.{PublisherPostValue, IsPublisherOf}
 use Rattle.mama_posts.specs.Service.{IsNewTaker}
 use Rattle.mama_posts.specs.Bridge.{BridgePostValue, IsBridgeOf}
-use Rattle.mama_posts.specs.Timers.{TimersPostValue, IsTimersOf, timers_ports}
-use Rattle.mama_posts.specs.Queue.{QueuePostValue, IsQueueOf}
-use Rattle.mama_crew.specs.Hall.{HallValue, IsPortAt, IsLaneAt, AreLanesOf}
-use Rattle.mama_crew.specs.Client.{ClientSeatValue, reads_now}
-use Rattle.mama_crew.specs.Seat.{IsClientIn, IsPublisherIn, IsBridgeIn, IsTimersIn, IsQueueIn, HasNotWalked}
-use Rattle.mama_crew.specs.New.{HasTakenNothing, HasNotSent, HasNotServed, HasNotBridged, HasNotFired, HasNotDispatched}
+use Rattle.mama_posts.specs.Timers.{TimersPostValue, IsTimersOf}
+use Rattle.std.specs.List.{All, AllByRecursion}
+use Rattle.std.proofs.lemmas.List.Elements.{All-from_recursion}
+use Rattle.mama_event.specs.declared.watch.WatchRow.{WatchRow}
+use Rattle.mama_rules_rounds.specs.Round.{setting_of}
+use Rattle.mama_plans.specs.Lists.{watches_on}
+use Rattle.mama_timeout.specs.Table.{WatchData, new_watch}
+use Rattle.mama_posts.specs.Queue.{QueuePostValue, rows_of_watches, IsQueueOf}
+use Rattle.mama_crew.specs.Hall.{HallValue, IsPortAt, IsLaneAt}
+use Rattle.mama_crew.specs.Seat.{IsPublisherIn, IsBridgeIn, IsTimersIn, IsQueueIn, HasNotWalked}
+use Rattle.mama_crew.specs.New.{HasTakenNothing, HasNotSent, HasNotBridged, HasNotFired, HasNotDispatched}
 use Rattle.mama_crew.proofs.SeatLemmas.{only_one}
-use Rattle.mama_crew.proofs.OpeningLemmas.{taker_at, id_at, holds_at, ports_of_lanes, put_nothing_as}
+use Rattle.mama_crew.proofs.OpeningLemmas.{taker_at, id_at, ports_of_lanes, put_nothing_as}
 
 -- ---- what a script counts
 
@@ -187,21 +192,34 @@ timers_unused hall shape post taker queues is takes to_queues = record {
 
 pub queue_in : (script : ScriptData) (hall : HallValue) (q : ℕ) (post : QueuePostValue) (taker : TakerValue QueueNote) (to_bridge : PortValue BridgeNote) (to_timers : PortValue TimersNote) → q < queues_of script.shape
     → IsQueueOf hall.objects q post → post.inlet ≡ record { taker = taker; kept = [] } → post.ports ≡ record { to_bridge = to_bridge; to_timers = to_timers } → slice_get (map new_taker hall.to_queues) q ≡ Some taker
-    → to_bridge ≡ new_port hall.to_bridge (bridge_port_of_queue script.shape q) → to_timers ≡ new_port hall.to_timers (timers_port_of_queue script.shape q) → IsQueueIn script hall q post
-queue_in script hall q post taker to_bridge to_timers there keeps inlet ports takes bridge timers = record {
+    → to_bridge ≡ new_port hall.to_bridge (bridge_port_of_queue script.shape q) → to_timers ≡ new_port hall.to_timers (timers_port_of_queue script.shape q)
+    → rows_of_watches post.watches ≡ watches_on (setting_of script).watches q → IsQueueIn script hall q post
+queue_in script hall q post taker to_bridge to_timers there keeps inlet ports takes bridge timers watches = record {
   there = there;
   keeps = keeps;
+  watches = watches;
   lane = lane_in hall.to_queues q taker post.inlet.taker (ap (λ (i : InletValue QueueNote). i.taker) inlet) takes;
   on_bridge = port_in hall.to_bridge (bridge_port_of_queue script.shape q) to_bridge post.ports.to_bridge (ap (λ (o : OutletsValue). o.to_bridge) ports) bridge;
   on_timers = port_in hall.to_timers (timers_port_of_queue script.shape q) to_timers post.ports.to_timers (ap (λ (o : OutletsValue). o.to_timers) ports) timers;
 }
 
-pub queue_unused : (lanes : List LaneValue) (q : ℕ) (post : QueuePostValue) (taker : TakerValue QueueNote) (to_bridge : PortValue BridgeNote) (to_timers : PortValue TimersNote)
-    → post.served ≡ record { queue = q; journal = []; seats = [] } → post.left ≡ [] → post.back ≡ [] → post.inlet ≡ record { taker = taker; kept = [] }
+-- new watches have their rows, and noted nothing
+pub new_rows : (rows : List (ℕ × WatchRow)) → rows_of_watches (map new_watch rows) ≡ rows
+new_rows [] = refl
+new_rows (w ∷ ws) = ap (λ (rs : List (ℕ × WatchRow)). w ∷ rs) (new_rows ws)
+
+new_notes : (rows : List (ℕ × WatchRow)) → AllByRecursion (λ (w : WatchData). w.notes ≡ []) (map new_watch rows)
+new_notes [] = tt
+new_notes (w ∷ ws) = (refl, new_notes ws)
+
+pub queue_unused : (lanes : List LaneValue) (q : ℕ) (rows : List (ℕ × WatchRow)) (post : QueuePostValue) (taker : TakerValue QueueNote) (to_bridge : PortValue BridgeNote) (to_timers : PortValue TimersNote)
+    → post.served ≡ record { queue = q; journal = []; seats = [] } → post.watches ≡ map new_watch rows → post.left ≡ [] → post.back ≡ [] → post.inlet ≡ record { taker = taker; kept = [] }
     → post.ports ≡ record { to_bridge = to_bridge; to_timers = to_timers } → slice_get (map new_taker lanes) q ≡ Some taker → to_bridge.put ≡ [] → to_timers.put ≡ [] → HasNotDispatched post
-queue_unused lanes q post taker to_bridge to_timers served left back inlet ports takes bridge timers = record {
+queue_unused lanes q rows post taker to_bridge to_timers served watches left back inlet ports takes bridge timers = record {
   journal = ap (λ (s : Served). s.journal) served;
   seats = ap (λ (s : Served). s.seats) served;
+  watches = let P : WatchData → Type 0 = λ w. w.notes ≡ [] in
+      subst (All P) (sym watches) (All-from_recursion P (map new_watch rows) (new_notes rows));
   back = back;
   inlet = new_taken_at lanes q taker post.inlet inlet takes;
   left = left;

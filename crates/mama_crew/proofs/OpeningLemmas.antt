@@ -1,8 +1,7 @@
 -- The ends that new seats are given, and the seats that are made of them.
-use Rattle.std.specs.List.{slice_get, All, AllByRecursion}
-use Rattle.std.proofs.Common.{◌≡◌, ℕ, zero, suc, ◌+◌, ◌-◌, ◌<◌, ◌≤◌, List, [], ◌∷◌, ◌++◌, length, map, drop, Some, refl, sym, ◌∙◌, ap, subst, arith, append_assoc, append-nil, add-one, length-drop, get_or}
+use Rattle.std.specs.List.{slice_get, All}
+use Rattle.std.proofs.Common.{◌≡◌, ℕ, zero, suc, ◌+◌, ◌-◌, ◌<◌, List, [], ◌∷◌, ◌++◌, length, map, drop, Some, refl, sym, ◌∙◌, ap, subst, arith, append_assoc, length-drop}
 use Rattle.std.proofs.lemmas.Option.{slice_get_within, get_or_from_slice_get}
-use Rattle.std.proofs.lemmas.List.Elements.{All-weaker}
 use Rattle.mama_journal.specs.Journal.{numbers_below}
 use Rattle.mama_edge.specs.declared.gate.GateActor.{GateActor}
 use Rattle.mama_event.specs.declared.shape.Bounds.{Bounds}
@@ -11,7 +10,7 @@ use Rattle.mama_event.specs.Ports.{publishers_of, queues_of, bridge_ports, timer
 use Rattle.mama_rules_rounds.specs.Client.{Planned}
 use Rattle.mama_lane.specs.Values.{LaneValue, PortValue, TakerValue, new_port, new_taker}
 use Rattle.mama_hall.specs.Ends.{ports_from, IsLaneOf}
-use Rattle.mama_posts.specs.Ports.{lanes_of, ids_of, IsPutting, ArePutting}
+use Rattle.mama_posts.specs.Ports.{lanes_of, ids_of, ArePutting}
 use Rattle.mama_crew.specs.Hall.{HallValue, IsLaneAt, AreLanesOf}
 use Rattle.mama_crew.specs.New.{HavePutNothing}
 

@@ -19,7 +19,7 @@ use Rattle.mama_posts.specs.Client.{ClientPostValue, IsClientOf}
 use Rattle.mama_posts.specs.Publisher.{PublisherPostValue, IsPublisherOf}
 use Rattle.mama_posts.specs.Bridge.{BridgePostValue, IsBridgeOf, StayPlaced}
 use Rattle.mama_posts.specs.Timers.{TimersPostValue, IsTimersOf}
-use Rattle.mama_posts.specs.Queue.{QueuePostValue, IsQueueOf}
+use Rattle.mama_posts.specs.Queue.{QueuePostValue, rows_of_watches, IsQueueOf}
 use Rattle.mama_posts.proofs.PortsLemmas.{lanes_stay}
 use Rattle.mama_crew.specs.Hall.{HallValue, IsLaneAt}
 use Rattle.mama_crew.specs.Client.{ClientSeatValue, is_clear, reads_now}
@@ -104,10 +104,12 @@ timers_turned script hall old new was keeps placed taker = record {
 }
 
 pub queue_turned : (script : ScriptData) (hall : HallValue) (q : ℕ) (old new : QueuePostValue) → IsQueueIn script hall q old → IsQueueOf hall.objects q new
-    → new.ports ≡ with_put old.ports new.ports.to_bridge.put new.ports.to_timers.put → new.inlet.taker ≡ record old.inlet.taker { taken = new.inlet.taker.taken } → IsQueueIn script hall q new
-queue_turned script hall q old new was keeps place taker = record {
+    → new.ports ≡ with_put old.ports new.ports.to_bridge.put new.ports.to_timers.put → new.inlet.taker ≡ record old.inlet.taker { taken = new.inlet.taker.taken }
+    → rows_of_watches new.watches ≡ rows_of_watches old.watches → IsQueueIn script hall q new
+queue_turned script hall q old new was keeps place taker rows = record {
   there = was.there;
   keeps = keeps;
+  watches = rows ∙ was.watches;
   lane = was.lane ∙ ap Some (sym (ap (λ (t : TakerValue QueueNote). t.lane) taker));
   on_bridge = record {
     lane_is = ap (λ (o : OutletsValue). o.to_bridge.lane) place ∙ was.on_bridge.lane_is;

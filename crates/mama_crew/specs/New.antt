@@ -2,6 +2,7 @@
 use Rattle.std.specs.Prelude.{◌≡◌, false, List, []}
 use Rattle.std.specs.List.{All}
 use Rattle.mama_script.specs.Script.{ScriptData}
+use Rattle.mama_timeout.specs.Table.{WatchData}
 use Rattle.mama_lane.specs.Values.{PortValue}
 use Rattle.mama_ends.specs.Inlet.{InletValue}
 use Rattle.mama_posts.specs.Publisher.{PublisherPostValue}
@@ -51,10 +52,11 @@ pub record HasNotFired (post : TimersPostValue) : Type 0 where
   pub service : HasNotServed post.service
   pub queues : HavePutNothing post.queues
 
--- the queue took nothing and has no listeners, and nothing was put or is left
+-- the queue took nothing and has no listeners, its watches noted nothing, and nothing was put or is left
 pub record HasNotDispatched (post : QueuePostValue) : Type 0 where
   pub journal : post.served.journal ≡ []
   pub seats : post.served.seats ≡ []
+  pub watches : All (λ (w : WatchData). w.notes ≡ []) post.watches
   pub back : post.back ≡ []
   pub inlet : HasTakenNothing post.inlet
   pub left : post.left ≡ []

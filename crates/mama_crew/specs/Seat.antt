@@ -1,12 +1,15 @@
 -- believed: Whose seat it is, what it keeps in a crew, and what a turn of it is.
-use Rattle.std.specs.Prelude.{◌≡◌, ℕ, ◌<◌, true, [], length, Some}
+use Rattle.std.specs.Prelude.{◌≡◌, ℕ, ◌<◌, true, List, [], length, Some}
 use Rattle.std.specs.List.{slice_get}
 use mathlib.Core.List.{IsPrefix}
 use Rattle.mama_edge.specs.declared.gate.GateActor.{GateActor}
 use Rattle.mama_edge.specs.declared.gate.GateActor.TheVariants as gate
 use Rattle.mama_event.specs.Ports.{clients_of, queues_of, bridge_port_of_client, bridge_port_of_publisher, bridge_port_of_queue, timers_port_of_client, timers_port_of_queue}
+use Rattle.mama_event.specs.declared.to_queue.QueueNote.{QueueNote}
 use Rattle.mama_script.specs.declared.publisher.PublisherPart.{PublisherPart}
 use Rattle.mama_script.specs.Script.{ScriptData}
+use Rattle.mama_rules_rounds.specs.Round.{setting_of}
+use Rattle.mama_plans.specs.Lists.{watches_on}
 use Rattle.mama_seats.specs.Stand.{reads_next}
 use Rattle.mama_posts.specs.Ports.{lanes_of, ids_of}
 use Rattle.mama_posts.specs.Client.{ClientPostValue, IsClientOf, stand_at}
@@ -18,7 +21,7 @@ use Rattle.mama_posts.specs.Bridge as bridge
 use Rattle.mama_posts.specs.Timers.{TimersPostValue, IsTimersOf}
 use Rattle.mama_posts.specs.Timers as timers
 use Rattle.mama_posts.specs.Service as service
-use Rattle.mama_posts.specs.Queue.{QueuePostValue, IsQueueOf}
+use Rattle.mama_posts.specs.Queue.{QueuePostValue, rows_of_watches, IsQueueOf}
 use Rattle.mama_posts.specs.Queue as queue
 use Rattle.mama_crew.specs.Hall.{HallValue, IsPortAt, IsLaneAt}
 use Rattle.mama_crew.specs.declared.seat.Seat.{Seat}
@@ -32,6 +35,14 @@ actor_of (Publisher p post) = gate.Publisher p
 actor_of (Bridge post) = gate.Bridge
 actor_of (Timers post) = gate.Timers
 actor_of (Queue q post) = gate.Queue q
+
+-- what a queue's seat took and served; nothing where the seat is no queue's
+abbrev pub journal_in : {L : Type 0} → Seat L → List (ℕ × QueueNote)
+journal_in (Queue n post) = post.served.journal
+journal_in (Client c seat) = []
+journal_in (Publisher p post) = []
+journal_in (Bridge post) = []
+journal_in (Timers post) = []
 
 -- The seat of the client of this number: it has the client's ports on the lanes of both services.
 pub record IsClientIn (script : ScriptData) (hall : HallValue) (c : ℕ) (seat : ClientSeatValue) : Type 0 where
@@ -62,10 +73,12 @@ pub record IsTimersIn (script : ScriptData) (hall : HallValue) (post : TimersPos
   pub lane : post.service.inlet.taker.lane ≡ hall.to_timers.id
   pub queues : lanes_of post.queues ≡ ids_of hall.to_queues
 
--- The seat of the queue of this number: it takes from the queue's lane, and has its ports on the lanes of both services.
+-- The seat of the queue of this number: it has the queue's watches, takes from the queue's lane, and has its ports on the lanes of
+-- both services.
 pub record IsQueueIn (script : ScriptData) (hall : HallValue) (q : ℕ) (post : QueuePostValue) : Type 0 where
   pub there : q < queues_of script.shape
   pub keeps : IsQueueOf hall.objects q post
+  pub watches : rows_of_watches post.watches ≡ watches_on (setting_of script).watches q
   pub lane : IsLaneAt hall.to_queues q post.inlet.taker.lane
   pub on_bridge : IsPortAt hall.to_bridge (bridge_port_of_queue script.shape q) post.ports.to_bridge
   pub on_timers : IsPortAt hall.to_timers (timers_port_of_queue script.shape q) post.ports.to_timers

@@ -10,6 +10,7 @@ use crate::opening::{seat_bridge, seat_clients, seat_publishers, seat_queues, se
 use crate::seat::Seat;
 use mama_carry::{Listener, Maker};
 use mama_memory::OutOfMemory;
+use mama_plans::watches_by_queue;
 use mama_script::Script;
 use std::alloc::Global;
 
@@ -35,12 +36,13 @@ pub fn open_crew<L: Listener, M: Maker<L>, Rt: Copy>(
     ensures new { IfOk result (λ crew. All HasDoneNothing crew.seats.items) }
 {
     let (hall, ends) = open_hall(rt, alloc, script)?;
+    let watches = watches_by_queue(alloc, script, hall.plans())?;
     let listeners = make_listeners(alloc, maker, hall.plans(), script.shape().clients)?;
     let mut seats = Vec::new(alloc);
     seat_clients(alloc, script, &hall, listeners, ends.clients, &mut seats)?;
     seat_publishers(alloc, script, &hall, ends.publishers, &mut seats)?;
     seat_bridge(alloc, script, &hall, ends.bridge, &mut seats)?;
     seat_timers(alloc, script, &hall, ends.timers, &mut seats)?;
-    seat_queues(alloc, script, &hall, ends.queues, &mut seats)?;
+    seat_queues(alloc, script, &hall, watches, ends.queues, &mut seats)?;
     Ok(Crew { hall, seats })
 }

@@ -4,6 +4,8 @@ ghost use Rattle.std.specs.List.{All};
 ghost use Rattle.std.specs.Vec.Iter.{into_iter_items};
 ghost use Rattle.mama_edge.specs.declared.gate.GateActor.TheVariants as gate;
 ghost use Rattle.mama_event.specs.Ports.{clients_of, publishers_of, queues_of, timers_port_of_bridge, queue_port_of_bridge, queue_port_of_timers};
+ghost use Rattle.mama_rules_rounds.specs.Round.{setting_of};
+ghost use Rattle.mama_plans.specs.Lists.{watches_on_each};
 ghost use Rattle.mama_hall.specs.Ends.{ports_from};
 ghost use Rattle.mama_lane.specs.Values.{new_port, new_taker};
 ghost use Rattle.mama_crew.specs.Hall.{AreLanesOf};
@@ -20,6 +22,7 @@ use crate::queue::new_queue;
 use crate::seat::Seat;
 use crate::timers::TimersSeat;
 use mama_carry::Listener;
+use mama_event::WatchRow;
 use mama_memory::OutOfMemory;
 use mama_posts::ClientListeners;
 use mama_script::Script;
@@ -149,15 +152,17 @@ pub(crate) fn seat_timers<L: Listener>(
     add(script, hall, seats, Seat::Timers(seat))
 }
 
-/// Adds the seats of the queues, each with the ends of its lanes.
+/// Adds the seats of the queues, each with its watches and the ends of its lanes.
 pub(crate) fn seat_queues<L: Listener>(
     alloc: Global,
     script: &Script,
     hall: &Hall<L>,
+    watches: Vec<Vec<(u32, WatchRow)>>,
     ends: QueueEnds<L>,
     seats: &mut Vec<Seat<L>>,
 ) -> Result<(), OutOfMemory>
     requires lanes { AreLanesOf script.now.shape hall.now }
+    requires watches { map (λ list. list.items) watches.items ≡ watches_on_each (queues_of script.now.shape) (setting_of script.now).watches }
     requires takers { ends.takers.items ≡ map new_taker hall.now.to_queues }
     requires bridge { ends.to_bridge.items ≡ ports_from hall.now.to_bridge (clients_of script.now.shape + publishers_of script.now.shape) (queues_of script.now.shape) }
     requires timers { ends.to_timers.items ≡ ports_from hall.now.to_timers (clients_of script.now.shape) (queues_of script.now.shape) }
@@ -168,11 +173,13 @@ pub(crate) fn seat_queues<L: Listener>(
     let mut inlets = ends.takers.into_iter();
     let mut bridge_ports = ends.to_bridge.into_iter();
     let mut timer_ports = ends.to_timers.into_iter();
+    let mut lists = watches.into_iter();
     for number in 0..script.shape().bounds.queues {
+        let watches = next_of(&mut lists);
         let taker = next_of(&mut inlets);
         let bridge = next_of(&mut bridge_ports);
         let timers = next_of(&mut timer_ports);
-        let seat = new_queue(alloc, script, hall, number, taker, bridge, timers);
+        let seat = new_queue(alloc, script, hall, number, watches, taker, bridge, timers)?;
         add(script, hall, seats, Seat::Queue(number, seat))?;
     }
     Ok(())

@@ -1,8 +1,10 @@
-ghost use Rattle.std.specs.Prelude.{◌≡◌, ◌↔◌, ◌<◌, [], map, Some, Ok, IfSome};
+ghost use Rattle.std.specs.Prelude.{◌≡◌, ◌↔◌, ◌<◌, ◌≤◌, ◌+◌, [], length, map, Some, Ok, IfOk, IfSome};
 ghost use Rattle.std.specs.List.{slice_get};
 ghost use mathlib.Core.List.{IsPrefix};
 ghost use Rattle.mama_event.specs.Ports.{queues_of, bridge_port_of_queue, timers_port_of_queue};
 ghost use Rattle.mama_script.specs.Script.{ScriptData};
+ghost use Rattle.mama_rules_rounds.specs.Round.{setting_of};
+ghost use Rattle.mama_plans.specs.Lists.{watches_on};
 ghost use Rattle.mama_lane.specs.Values.{new_port, new_taker};
 ghost use Rattle.mama_posts.specs.Queue.{HasEnded, MadeStep, IsCaughtUp};
 ghost use Rattle.mama_crew.specs.Hall.{AreLanesOf, IsLaneAt};
@@ -13,31 +15,38 @@ ghost use Rattle.mama_crew.specs.Informed.{queue_told};
 use crate::hall::Hall;
 use mama_carry::{Carried, Listener, ToBridge, ToQueue, ToTimers};
 use mama_ends::{Port, PutNote, Taker};
+use mama_event::WatchRow;
 use mama_memory::OutOfMemory;
 use mama_posts::{Pace, QueuePost};
 use mama_script::Script;
 use std::alloc::Global;
 use std::sync::Wait;
 
-/// The seat of the queue of this number, with the ends of its lanes, by which nothing was taken or put. It takes no memory.
+/// The seat of the queue of this number, with its watches and the ends of its lanes, by which nothing was taken or put. The
+/// error is want of memory.
 pub(crate) fn new_queue<L: Listener>(
     alloc: Global,
-    _script: &Script,
+    script: &Script,
     _hall: &Hall<L>,
     number: u32,
+    watches: Vec<(u32, WatchRow)>,
     taker: Taker<ToQueue<Carried<L>>>,
     to_bridge: Port<ToBridge<Carried<L>>>,
     to_timers: Port<ToTimers<Carried<L>>>,
-) -> QueuePost<L>
-    requires lanes { AreLanesOf _script.now.shape _hall.now }
-    requires there { number < queues_of _script.now.shape }
+) -> Result<QueuePost<L>, OutOfMemory>
+    requires watches { watches.items ≡ watches_on (setting_of script.now).watches number }
+    requires lanes { AreLanesOf script.now.shape _hall.now }
+    requires there { number < queues_of script.now.shape }
     requires taker { slice_get (map new_taker _hall.now.to_queues) number ≡ Some taker }
-    requires bridge { to_bridge ≡ new_port _hall.now.to_bridge (bridge_port_of_queue _script.now.shape number) }
-    requires timers { to_timers ≡ new_port _hall.now.to_timers (timers_port_of_queue _script.now.shape number) }
-    ensures seat { IsQueueIn _script.now _hall.now number result }
-    ensures new { HasNotDispatched result }
+    requires bridge { to_bridge ≡ new_port _hall.now.to_bridge (bridge_port_of_queue script.now.shape number) }
+    requires timers { to_timers ≡ new_port _hall.now.to_timers (timers_port_of_queue script.now.shape number) }
+    ensures seat { IfOk result (λ post. IsQueueIn script.now _hall.now number post) }
+    ensures new { IfOk result (λ post. HasNotDispatched post) }
 {
-    QueuePost::new(alloc, number, taker, to_bridge, to_timers)
+    // Its watches are apart, since the script is within its limits.
+    let _shape = script.shape();
+    let post = QueuePost::new(alloc, number, watches, taker, to_bridge, to_timers)?;
+    Ok(post)
 }
 
 /// A turn of the seat of the queue of this number.
@@ -51,6 +60,7 @@ pub(crate) fn turn_queue<L: Listener, Rt: Wait + Copy>(
     requires { IsQueueIn _script.now hall.now number post.old }
     ensures seat { IsQueueIn _script.now hall.now number post.new }
     ensures grows { IsPrefix post.old.served.journal post.new.served.journal }
+    ensures few { length post.new.served.journal ≤ length post.old.served.journal + 1 }
     ensures waiting { result ≡ Ok Pace.Waiting → (post.new ≡ post.old) × ((post.old.left ≡ []) × (post.old.inlet.kept ≡ []) × IsCaughtUp post.old.inlet) }
     ensures ended { (result ≡ Ok Pace.Ended) ↔ HasEnded post.old }
     ensures over { result ≡ Ok Pace.Ended → post.new ≡ post.old }

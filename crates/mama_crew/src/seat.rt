@@ -1,7 +1,7 @@
-ghost use Rattle.std.specs.Prelude.{◌≡◌, ◌↔◌, true, Ok};
+ghost use Rattle.std.specs.Prelude.{◌≡◌, ◌↔◌, ◌≤◌, ◌+◌, length, true, Ok};
 ghost use Rattle.mama_script.specs.Script.{ScriptData};
 ghost use Rattle.mama_crew.specs.Hall.{HallValue};
-ghost use Rattle.mama_crew.specs.Seat.{actor_of, IsSeatOf, HasEnded, IsIdle, ReadsClock, Grows, MadeStep};
+ghost use Rattle.mama_crew.specs.Seat.{actor_of, IsSeatOf, HasEnded, IsIdle, ReadsClock, Grows, MadeStep, journal_in};
 
 use crate::bridge::BridgeSeat;
 use crate::client::ClientSeat;
@@ -82,6 +82,7 @@ impl<L: Listener> Seat<L> {
         ensures seat { IsSeatOf script.now hall.now self.new }
         ensures actor { actor_of self.new ≡ actor_of self.old }
         ensures grows { Grows self.old self.new }
+        ensures few { length (journal_in self.new) ≤ length (journal_in self.old) + 1 }
         ensures waiting { result ≡ Ok Pace.Waiting → (self.new ≡ self.old) × IsIdle self.old }
         ensures ended { (result ≡ Ok Pace.Ended) ↔ HasEnded self.old }
         ensures over { result ≡ Ok Pace.Ended → self.new ≡ self.old }

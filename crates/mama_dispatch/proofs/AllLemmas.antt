@@ -1,6 +1,6 @@
 -- What holds of each seat.
-use Rattle.std.specs.Prelude.{map, Option, Some, if◌then◌else◌}
-use Rattle.std.proofs.Common.{◌≡◌, Bool, true, false, List, [], ◌∷◌, ◌++◌, subst}
+use Rattle.std.specs.Prelude.{map, Some, if◌then◌else◌}
+use Rattle.std.proofs.Common.{◌≡◌, true, false, List, [], ◌∷◌, ◌++◌, subst}
 use Rattle.mama_event.specs.declared.ids.ObjectId.{ObjectId}
 use Rattle.mama_event.specs.Object.{same_object}
 use Rattle.mama_dispatch.specs.Seats.{SeatData, seat_of, at}

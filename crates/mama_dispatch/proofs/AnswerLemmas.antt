@@ -15,12 +15,11 @@ use Rattle.mama_event.specs.declared.to_queue.QueueNote.{QueueNote}
 use Rattle.mama_event.specs.declared.to_queue.QueueNote.TheVariants as q
 use Rattle.mama_dq.specs.Strategy.{callbacks_of}
 use Rattle.mama_event.specs.Listener.{ListenerData}
-use Rattle.mama_rules_queue.specs.Queue.{Deed, QueuePut, handled, called, is_destroy, calls_of, is_muted, made, served}
+use Rattle.mama_rules_queue.specs.Queue.{Deed, QueuePut, handled, called, is_destroy, calls_of, is_muted, made, served, is_live}
 use Rattle.mama_dispatch.specs.declared.turn.Turn.{Turn}
 use Rattle.mama_dispatch.specs.declared.turn.Turn.TheVariants as turn
 use Rattle.mama_dispatch.specs.Journals.{born, is_born, notes_of}
 use Rattle.mama_dispatch.specs.Seats.{SeatData, has_seat, listener_in, is_muted_in, context_in, at, with_room, with_listener, Fits}
-use Rattle.mama_dispatch.specs.Seating.{is_live}
 use Rattle.mama_dispatch.specs.Standing.{Stands}
 use Rattle.mama_dispatch.specs.Making.{Ended, WasTold, Delivered}
 use Rattle.mama_dispatch.specs.Hearing.{HasHeard, HeardSince, HeardAt}

@@ -18,10 +18,10 @@ use Rattle.mama_event.specs.declared.to_queue.Make.{Make}
 use Rattle.mama_event.specs.declared.to_queue.QueueNote.{QueueNote}
 use Rattle.mama_event.specs.declared.to_queue.QueueNote.TheVariants as q
 use Rattle.mama_event.specs.Object.{same_object}
-use Rattle.mama_rules_queue.specs.Queue.{Deed, QueuePut, handled, called, is_create, is_destroy, calls_of, begins_in, is_muted, make_in, made, served, puts_of, wish_put, order_put}
+use Rattle.mama_rules_queue.specs.Queue.{Deed, QueuePut, handled, called, is_create, is_destroy, calls_of, begins_in, is_muted, make_in, made, served, puts_of, wish_put, order_put, is_live}
 use Rattle.mama_dispatch.specs.Journals.{Born, born_in, born, is_born, lives, is_live_here, messages_at, noted}
 use Rattle.mama_dispatch.specs.Seats.{SeatData, listener_in, at, muted_by_all, called_with, with_listener, Fits}
-use Rattle.mama_dispatch.specs.Seating.{is_live, is_plain, Seated, CalledOnce, CallsMade}
+use Rattle.mama_dispatch.specs.Seating.{is_plain, Seated, CalledOnce, CallsMade}
 use Rattle.mama_dispatch.specs.Standing.{Stands, ServedAt}
 use Rattle.mama_dispatch.proofs.DeedLemmas.{same_object-true, same_object-sym, same_object-refl, live_more, begins_plain, live_plain, live_handled, and_false, and_true, calls_more, messages_called, messages_other}
 use Rattle.mama_dispatch.proofs.SeatLemmas.{seated_map, seat_called, seat_emptied, make_among, found, fits_given}

@@ -12,10 +12,10 @@ use Rattle.mama_event.specs.declared.to_queue.QueueNote.{QueueNote}
 use Rattle.mama_event.specs.declared.to_queue.QueueNote.TheVariants as q
 use Rattle.mama_event.specs.Object.{same_object}
 use Rattle.mama_event.specs.Listener.{ListenerData}
-use Rattle.mama_rules_queue.specs.Queue.{Deed, QueuePut, handled, called, is_create, is_destroy, calls_of, begins_in, is_muted_after, is_muted, context_of, served, puts_of, wish_put, order_put, ends}
+use Rattle.mama_rules_queue.specs.Queue.{Deed, QueuePut, handled, called, is_create, is_destroy, calls_of, begins_in, is_muted_after, is_muted, context_of, served, puts_of, wish_put, order_put, ends, is_live_after, is_live}
 use Rattle.mama_dispatch.specs.Journals.{Born, born, is_born, noted}
 use Rattle.mama_dispatch.specs.Seats.{SeatData, seat_of, has_seat, new_seat, Fits}
-use Rattle.mama_dispatch.specs.Seating.{is_live_after, is_live, SeatAt, Seated, CalledOnce}
+use Rattle.mama_dispatch.specs.Seating.{SeatAt, Seated, CalledOnce}
 use Rattle.mama_dispatch.specs.Standing.{Stands, ServedAt}
 use Rattle.mama_dispatch.proofs.DeedLemmas.{same_object-sym, same_object-refl, live_more, or_false, and_false, and_true, messages_called}
 use Rattle.mama_dispatch.proofs.SeatLemmas.{seated_here, fits_given}

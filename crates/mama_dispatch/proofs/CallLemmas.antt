@@ -11,10 +11,10 @@ use Rattle.mama_event.specs.declared.callback.Callback.{Callback}
 use Rattle.mama_event.specs.declared.order.Order.{Order}
 use Rattle.mama_event.specs.Object.{same_object}
 use Rattle.mama_event.specs.Listener.{ListenerData}
-use Rattle.mama_rules_queue.specs.Queue.{Deed, QueuePut, called, is_create, is_destroy, calls_of, is_muted, made, puts_of}
+use Rattle.mama_rules_queue.specs.Queue.{Deed, QueuePut, called, is_create, is_destroy, calls_of, is_muted, made, puts_of, is_live}
 use Rattle.mama_dispatch.specs.Journals.{Born}
 use Rattle.mama_dispatch.specs.Seats.{SeatData, seat_of, listener_in, is_muted_in, room_in, at, muted_by_all, called_with, Fits}
-use Rattle.mama_dispatch.specs.Seating.{is_live, is_plain, Seated, CalledOnce, CallsMade}
+use Rattle.mama_dispatch.specs.Seating.{is_plain, Seated, CalledOnce, CallsMade}
 use Rattle.mama_dispatch.proofs.DeedLemmas.{made_more}
 use Rattle.mama_dispatch.proofs.SeatLemmas.{HasSeat, found, fits_before, one_made}
 

@@ -7,7 +7,7 @@ use Rattle.mama_journal.specs.Lane.{by_port}
 use Rattle.mama_event.specs.Lawful.{each_fits, may_follow, IsLawful}
 use Rattle.mama_event.specs.LawfulLaws.{IsLawful-at, IsLawful-prefix, IsLawful-start}
 use Rattle.mama_event.specs.Object.{same_object}
-use Rattle.mama_event.specs.ToQueue.{is_last, fits, Block, blocks_after, open_blocks, is_taken, is_live_in, creates, is_for_port, is_made_as}
+use Rattle.mama_event.specs.ToQueue.{is_last, fits, Block, blocks_after, open_blocks, is_taken, creates, is_for_port, is_made_as}
 use Rattle.mama_event.specs.declared.ids.ObjectId.{ObjectId}
 use Rattle.mama_event.specs.declared.ids.ObjectId.TheVariants.{Sub, Timer, Inbox}
 use Rattle.mama_event.specs.declared.to_queue.Make.{Make}

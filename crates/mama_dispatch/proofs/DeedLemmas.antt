@@ -18,9 +18,8 @@ use Rattle.mama_event.specs.declared.to_queue.Make.TheVariants as make
 use Rattle.mama_event.specs.Object.{same_sub, same_object}
 use Rattle.mama_dq.specs.Context.{ContextData}
 use Rattle.mama_dq.specs.Strategy.{after, after_all}
-use Rattle.mama_rules_queue.specs.Queue.{Deed, handled, called, is_create, is_destroy, calls_in, calls_of, messages_in, messages_of, begins_in, stops_in, orders_end_of, is_muted_after, is_muted, made, context_of}
+use Rattle.mama_rules_queue.specs.Queue.{Deed, handled, called, is_create, is_destroy, calls_in, calls_of, messages_in, messages_of, begins_in, stops_in, orders_end_of, is_muted_after, is_muted, made, context_of, is_live_after, is_live}
 use Rattle.mama_dispatch.specs.Journals.{messages_at, noted, notes_of}
-use Rattle.mama_dispatch.specs.Seating.{is_live_after, is_live}
 
 -- TESTS OF OBJECTS
 

@@ -16,14 +16,14 @@ use Rattle.mama_event.specs.declared.to_queue.QueueNote.{QueueNote}
 use Rattle.mama_event.specs.declared.to_queue.QueueNote.TheVariants as q
 use Rattle.mama_dq.specs.Context.{ContextData}
 use Rattle.mama_event.specs.Listener.{ListenerData}
-use Rattle.mama_rules_queue.specs.Queue.{Deed, QueuePut, deeds, is_fin}
-use Rattle.mama_dispatch.specs.Journals.{Born, born, born_in, notes_of, context_after, image_in, image_put, left_by, left_in, left_at, images_left}
+use Rattle.mama_rules_queue.specs.Queue.{Deed, QueuePut, deeds, is_fin, is_live}
+use Rattle.mama_dispatch.specs.Journals.{Born, born, born_in, notes_of, context_after, image_in, image_put, left_in, left_at, images_left}
 use Rattle.mama_dispatch.specs.Seats.{SeatData, AreApart, context_in, with_room, Fits}
-use Rattle.mama_dispatch.specs.Seating.{is_live, Seated}
+use Rattle.mama_dispatch.specs.Seating.{Seated}
 use Rattle.mama_dispatch.specs.Standing.{Stands, Serves}
 use Rattle.mama_dispatch.specs.Served.{told_seats, IsServed}
 use Rattle.mama_dispatch.specs.Keeping.{KeptWith}
-use Rattle.mama_dispatch.specs.Notes.{objects_made, calls_made}
+use Rattle.mama_dispatch.specs.Notes.{calls_made}
 use Rattle.mama_dispatch.specs.Noted.{lists_in, IsNoted, IsServing}
 use Rattle.mama_dispatch.proofs.ArmLemmas.{born_more}
 use Rattle.mama_dispatch.proofs.JournalLaws.{standing}

@@ -16,10 +16,10 @@ use Rattle.mama_event.specs.Object.{same_object}
 use Rattle.mama_dq.specs.Context.{ContextData}
 use Rattle.mama_dq.specs.Strategy.{after}
 use Rattle.mama_event.specs.Listener.{ListenerData}
-use Rattle.mama_rules_queue.specs.Queue.{Deed, QueuePut, handled, called, is_create, is_destroy, calls_of, begins_in, is_muted, made, context_of, ends, puts_of, wish_put, order_put}
+use Rattle.mama_rules_queue.specs.Queue.{Deed, QueuePut, handled, called, is_create, is_destroy, calls_of, begins_in, is_muted, made, context_of, ends, puts_of, wish_put, order_put, is_live}
 use Rattle.mama_dispatch.specs.Journals.{Born, messages_at, noted, notes_of}
 use Rattle.mama_dispatch.specs.Seats.{SeatData, seat_of, is_muted_in, at, muted_by_all, called_with, with_listener, stepped, AreOrders, Fits}
-use Rattle.mama_dispatch.specs.Seating.{is_live, SeatAt, Seated, CallsMade}
+use Rattle.mama_dispatch.specs.Seating.{SeatAt, Seated, CallsMade}
 use Rattle.mama_dispatch.proofs.DeedLemmas.{same_object-true, muted_more, begins_plain, live_plain, muted_handled, notes_called, notes_other, notes_handled, messages_called, messages_handled, messages_other, context_more}
 
 -- a change of each seat that keeps it what the deeds say

@@ -27,10 +27,10 @@ use Rattle.mama_dq.specs.Strategy.{callbacks_of}
 use Rattle.mama_event.specs.declared.market.SubKind.TheVariants.{Basic}
 use Rattle.mama_event.specs.Listener.{ListenerData}
 use Rattle.mama_event.specs.declared.shape.Strategy.TheVariants.{One}
-use Rattle.mama_rules_queue.specs.Queue.{Deed, QueuePut, handled, called, is_create, is_destroy, calls_of, is_muted, make_in, context_of, messages_of, made, served, puts_of}
+use Rattle.mama_rules_queue.specs.Queue.{Deed, QueuePut, handled, called, is_create, is_destroy, calls_of, is_muted, make_in, context_of, messages_of, made, served, puts_of, is_live}
 use Rattle.mama_dispatch.specs.Journals.{Born, born}
 use Rattle.mama_dispatch.specs.Seats.{SeatData, seat_of, has_seat, listener_in, is_muted_in, context_in, room_in, stepped, at, with_room, with_listener, new_seat, AreOrders, Fits}
-use Rattle.mama_dispatch.specs.Seating.{is_live, is_plain, SeatAt, Seated, CallsMade}
+use Rattle.mama_dispatch.specs.Seating.{is_plain, SeatAt, Seated, CallsMade}
 use Rattle.mama_dispatch.specs.Standing.{Stands, Serves}
 use Rattle.mama_dispatch.specs.declared.turn.Turn.{Turn}
 use Rattle.mama_dispatch.specs.Making.{Created, Ended, WasTold, Delivered}

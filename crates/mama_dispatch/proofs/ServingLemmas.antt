@@ -27,10 +27,11 @@ use Rattle.mama_event.specs.Wire.{Arrival, ReplyArrival, arrival_of, reply_of}
 use Rattle.mama_event.specs.Object.{same_object}
 use Rattle.mama_dq.specs.Context.{quality_in, ContextData, new_context}
 use Rattle.mama_event.specs.Listener.{ListenerData}
-use Rattle.mama_rules_queue.specs.Queue.{Deed, QueuePut, to_bridge, to_timers, make_in, context_of, messages_of, deeds, is_fin, bye_put, queue_puts_at}
+use Rattle.mama_rules_queue.specs.Queue.{Deed, QueuePut, to_bridge, to_timers, make_in, context_of, messages_of, deeds, is_fin, bye_put, queue_puts_at, is_live, is_muted}
 use Rattle.mama_dispatch.specs.Journals.{Born, born, is_born, is_live_here, may_come, noted, notes_of, context_after, image_in}
-use Rattle.mama_dispatch.specs.Seats.{SeatData, has_seat, AreApart, seat_of, listener_in, context_in, with_room, AreOrders, Fits}
-use Rattle.mama_dispatch.specs.Seating.{is_live, Seated}
+use Rattle.mama_dispatch.specs.Seats.{SeatData, has_seat, AreApart, seat_of, listener_in, is_muted_in, context_in, with_room, AreOrders, Fits}
+use Rattle.mama_dispatch.specs.Seating.{Seated}
+use Rattle.mama_dispatch.specs.State.{object_state}
 use Rattle.mama_dispatch.specs.Standing.{Stands, Serves, MayServe, is_making}
 use Rattle.mama_dispatch.specs.Keeping.{AreFew, KeptWith}
 use Rattle.mama_dispatch.specs.Hearing.{AtSeat, HeardSince, HeardAt, IsPlannedSeat, PlannedAt, ArePlanned, brought}
@@ -242,6 +243,26 @@ live_there journal ds ss o stands = go (seat_of o ss) refl
     go (Some s) is =
         ap (λ (y : Option SeatData). is_some (option_and_then (λ (z : SeatData). z.listener) y)) is
         ∙ (found (is_live ds) ds (born journal) ss o s stands.seated is).listener ∙ stands.live o
+
+muted_there : (journal : List (ℕ × QueueNote)) (ds : List Deed) (ss : List SeatData) (o : ObjectId) (s : SeatData) → Stands journal ds ss → seat_of o ss ≡ Some s → is_muted_in o ss ≡ is_muted o ds
+muted_there journal ds ss o s stands is =
+    ap (λ (y : Option SeatData). option_map_or (λ (z : SeatData). z.muted) y false) is ∙ (found (is_live ds) ds (born journal) ss o s stands.seated is).muted
+
+no_state : (muted other : Bool) → object_state false muted ≡ object_state false other
+no_state muted other = refl
+
+-- whether an object is there, and whether it is muted, is told by its seat
+pub state_there : (journal : List (ℕ × QueueNote)) (ds : List Deed) (ss : List SeatData) (o : ObjectId) → Stands journal ds ss
+    → object_state (is_some (listener_in o ss)) (is_muted_in o ss) ≡ object_state (is_live_here o journal) (is_muted o ds)
+state_there journal ds ss o stands = go (seat_of o ss) refl
+  where
+    go : (x : Option SeatData) → seat_of o ss ≡ x → object_state (is_some (listener_in o ss)) (is_muted_in o ss) ≡ object_state (is_live_here o journal) (is_muted o ds)
+    go None is =
+        let gone : is_some (listener_in o ss) ≡ false = ap (λ (y : Option SeatData). is_some (option_and_then (λ (s : SeatData). s.listener) y)) is in
+        ap (λ (b : Bool). object_state b (is_muted_in o ss)) gone ∙ no_state (is_muted_in o ss) (is_muted o ds)
+        ∙ ap (λ (b : Bool). object_state b (is_muted o ds)) (sym gone ∙ live_there journal ds ss o stands)
+    go (Some s) is =
+        ap (λ (b : Bool). object_state b (is_muted_in o ss)) (live_there journal ds ss o stands) ∙ ap (object_state (is_live_here o journal)) (muted_there journal ds ss o s stands is)
 
 pub calls_there : (journal : List (ℕ × QueueNote)) (ds : List Deed) (ss : List SeatData) (o : ObjectId) → Stands journal ds ss → calls_at o ss ≡ notes_of o ds
 calls_there journal ds ss o stands = go (seat_of o ss) refl

@@ -1,5 +1,5 @@
 -- inner: What callbacks keep of the seats: what the listeners have heard and given, and that no two seats are of one object.
-use Rattle.std.specs.Prelude.{◌≡◌, ℕ, ◌≤◌, List, length, Option}
+use Rattle.std.specs.Prelude.{ℕ, ◌≤◌, List, length, Option}
 use Rattle.mama_event.specs.declared.ids.ObjectId.{ObjectId}
 use Rattle.mama_event.specs.declared.order.Order.{Order}
 use Rattle.mama_event.specs.Listener.{ListenerData, most_calls}

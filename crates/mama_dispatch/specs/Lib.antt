@@ -18,3 +18,4 @@ pub mod Answering
 pub mod Streams
 pub mod Coming
 pub mod Images
+pub mod State

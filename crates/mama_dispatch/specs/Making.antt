@@ -11,12 +11,12 @@ use Rattle.mama_event.specs.declared.order.Order.{Order}
 use Rattle.mama_event.specs.declared.to_queue.Make.{Make}
 use Rattle.mama_event.specs.Listener.{ListenerData}
 use Rattle.mama_dq.specs.Strategy.{callbacks_of}
-use Rattle.mama_rules_queue.specs.Queue.{Deed, QueuePut, handled}
+use Rattle.mama_rules_queue.specs.Queue.{Deed, QueuePut, handled, is_live}
 use Rattle.mama_dispatch.specs.Journals.{Born}
 use Rattle.mama_dispatch.specs.declared.turn.Turn.{Turn}
 use Rattle.mama_dispatch.specs.declared.turn.Turn.TheVariants as turn
 use Rattle.mama_dispatch.specs.Seats.{SeatData, is_muted_in, listener_in, room_in, context_in, at, with_room, with_listener, new_seat, Fits}
-use Rattle.mama_dispatch.specs.Seating.{is_live, is_plain, Seated, CalledOnce, CallsMade}
+use Rattle.mama_dispatch.specs.Seating.{is_plain, Seated, CalledOnce, CallsMade}
 use Rattle.mama_dispatch.specs.Keeping.{Kept}
 
 -- a live object may get these callbacks, none of which is its first or its last: there is room for them, and for what they put

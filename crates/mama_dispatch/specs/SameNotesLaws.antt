@@ -1,8 +1,8 @@
 -- inner: The test of notes decides whether they are the same data, so it is an equivalence.
-use Rattle.std.specs.Prelude.{◌≡◌, ℕ, Bool, ◌==◌, ◌&&◌, List}
+use Rattle.std.specs.Prelude.{◌≡◌, ℕ, Bool, ◌&&◌, List}
 use Rattle.std.specs.Bool.{Decides}
 use Rattle.std.specs.Cmp.{IsEquivalence, decided, on_equiv}
-use Rattle.std.specs.Cmp.Lexicographic.{pointwise, pointwise_decides}
+use Rattle.std.specs.Cmp.Lexicographic.{pointwise_decides}
 use Rattle.std.proofs.Common.{ap}
 use Rattle.std.proofs.lemmas.Bool.{and_parts, and_from}
 use Rattle.std.proofs.lemmas.Bool.Decides.{Decides-eqb}
@@ -14,7 +14,6 @@ use Rattle.mama_event.specs.declared.market.ImageHead.{ImageHead}
 use Rattle.mama_event.specs.declared.callback.CallNote.{CallNote}
 use Rattle.mama_event.specs.declared.to_queue.QueueNote.{QueueNote}
 use Rattle.mama_event.specs.EqualityLaws.{same_sub-Decides, same_object-Decides, same_quality-Decides, same_queue_note-Decides, same_call_note-Decides}
-use Rattle.mama_dispatch.specs.declared.notes.ServingNotes.{ServingNotes}
 use Rattle.mama_dispatch.specs.SameNotes.{NotesData, notes_data, same_taken, same_calls, same_image, same_data, same_notes, NotesCompareExactly}
 
 -- two tests decide two facts

@@ -1,21 +1,13 @@
 -- believed: When the objects that a queue keeps are those that its deeds say.
-use Rattle.std.specs.Prelude.{◌≡◌, ℕ, Bool, false, not, ◌&&◌, ◌||◌, List, [], ◌∷◌, ◌++◌, length, map, Some, is_some}
+use Rattle.std.specs.Prelude.{◌≡◌, ℕ, Bool, not, ◌&&◌, List, [], ◌∷◌, ◌++◌, length, map, Some, is_some}
 use Rattle.std.specs.List.{flat_map}
 use Rattle.mama_event.specs.declared.ids.ObjectId.{ObjectId}
 use Rattle.mama_event.specs.declared.callback.Callback.{Callback}
 use Rattle.mama_event.specs.declared.order.Order.{Order}
-use Rattle.mama_rules_queue.specs.Queue.{Deed, QueuePut, is_muted, begins_in, stops_in, is_create, is_destroy, context_of, made, puts_of, wish_put, order_put}
+use Rattle.mama_rules_queue.specs.Queue.{Deed, QueuePut, is_muted, is_live, is_create, is_destroy, context_of, made, puts_of, wish_put, order_put}
 use Rattle.mama_event.specs.Listener.{ListenerData}
 use Rattle.mama_dispatch.specs.Journals.{Born, messages_at, notes_of}
 use Rattle.mama_dispatch.specs.Seats.{SeatData, HeardIn, listener_in, at, called_with, muted_by_all}
-
--- whether an object is live after some deeds, if it was live before them or not
-abbrev pub is_live_after : ObjectId → Bool → List Deed → Bool
-is_live_after o live [] = live
-is_live_after o live (d ∷ ds) = is_live_after o ((live || begins_in o d) && not (stops_in o d)) ds
-
-abbrev pub is_live : List Deed → ObjectId → Bool
-is_live ds o = is_live_after o false ds
 
 -- a seat holds what the deeds say of its object, and its listener is there where a test says so
 pub record SeatAt (here : ObjectId → Bool) (ds : List Deed) (b : Born) (s : SeatData) : Type 0 where

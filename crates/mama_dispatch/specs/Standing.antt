@@ -6,10 +6,10 @@ use Rattle.mama_event.specs.declared.ids.ObjectId.TheVariants.{Sub, Timer, Inbox
 use Rattle.mama_event.specs.declared.order.Order.{Order}
 use Rattle.mama_event.specs.declared.to_queue.QueueNote.{QueueNote}
 use Rattle.mama_event.specs.declared.to_queue.QueueNote.TheVariants as q
-use Rattle.mama_rules_queue.specs.Queue.{Deed, QueuePut, calls_of, served, puts_of, deeds, bye_put, queue_puts_at}
+use Rattle.mama_rules_queue.specs.Queue.{Deed, QueuePut, calls_of, served, puts_of, deeds, bye_put, queue_puts_at, is_live}
 use Rattle.mama_dispatch.specs.Journals.{born, is_born, is_live_here, messages_at}
 use Rattle.mama_dispatch.specs.Seats.{SeatData, has_seat, listener_in, Fits}
-use Rattle.mama_dispatch.specs.Seating.{is_live, Seated}
+use Rattle.mama_dispatch.specs.Seating.{Seated}
 
 -- the seats are those of the objects that were made here, as the deeds leave them
 pub record Stands (journal : List (ℕ × QueueNote)) (ds : List Deed) (ss : List SeatData) : Type 0 where

@@ -20,6 +20,7 @@ mod row;
 mod seats;
 mod serve;
 mod serving;
+mod state;
 mod turn;
 
 pub use callbacks::Callbacks;
@@ -33,4 +34,5 @@ pub use mama_event::{
 pub use notes::ServingNotes;
 pub use row::ImageRow;
 pub use serving::Serving;
+pub use state::ObjectState;
 pub use turn::Turn;

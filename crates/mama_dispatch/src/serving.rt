@@ -7,7 +7,8 @@ ghost use Rattle.mama_event.specs.declared.to_queue.ToQueue.TheVariants as event
 ghost use Rattle.mama_event.specs.declared.to_queue.QueueNote.TheVariants as note;
 ghost use Rattle.mama_event.specs.ToQueue.{note_of};
 ghost use Rattle.mama_event.specs.Listener.{told};
-ghost use Rattle.mama_rules_queue.specs.Queue.{deeds, is_fin, messages_of, to_bridge, to_timers, queue_puts_at};
+ghost use Rattle.mama_dispatch.specs.State.{object_state};
+ghost use Rattle.mama_rules_queue.specs.Queue.{deeds, is_live, is_muted, is_fin, messages_of, to_bridge, to_timers, queue_puts_at};
 ghost use Rattle.mama_dispatch.specs.Journals.{is_live_here, may_come, notes_of, context_after, image_in, images_left};
 ghost use Rattle.mama_dispatch.specs.Seats.{Fits};
 ghost use Rattle.mama_dispatch.specs.Turns.{put_note, IsAppended};
@@ -29,6 +30,7 @@ use crate::callbacks::Callbacks;
 use crate::notes::{ServingNotes, add_image, calls_of_rows, prepare};
 use crate::row::ImageRow;
 use crate::seats::Seats;
+use crate::state::ObjectState;
 use crate::turn::Turn;
 use mama_event::{
     CallNote, ImageHead, Listener, ObjectId, QueueNote, SubId, Tagged, ToBridge, ToQueue,
@@ -236,12 +238,35 @@ impl<L: Listener> Serving<L> {
         self.seats.apart();
     }
 
+    /// A fact about any queue: an object is live by its callbacks exactly where it is live by what was taken.
+    pub fn objects_live_by_callbacks(&self)
+        ensures { (orders : ObjectId → ℕ → List Order) (object : ObjectId) → Fits orders self.now.seats → is_live (deeds orders self.now.journal) object ≡ is_live_here object self.now.journal }
+    {
+        self.seats.apart();
+    }
+
     /// The callbacks that were made of an object, with the orders that its listener gave in them; none for an object
     /// that never came.
     pub fn calls_of(&self, object: &ObjectId) -> Result<Vec<CallNote>, OutOfMemory>
         ensures { IfOk result (λ calls. (orders : ObjectId → ℕ → List Order) → Fits orders self.now.seats → calls.items ≡ notes_of object.now (deeds orders self.now.journal)) }
     {
         copies_of(self.alloc, self.seats.calls(object))
+    }
+
+    /// The callbacks that were made of an object so far, with the orders that its listener gave in them, lent; none for an
+    /// object that never came. It takes no memory.
+    pub fn notes(&self, object: ObjectId) -> &[CallNote]
+        ensures { (orders : ObjectId → ℕ → List Order) → Fits orders self.now.seats → result.now ≡ notes_of object (deeds orders self.now.journal) }
+    {
+        self.seats.calls(&object)
+    }
+
+    /// Whether an object is there: absent before its Create and after its Gone, and muted where it is live and an order ended
+    /// it. It takes no memory.
+    pub fn state(&self, object: ObjectId) -> ObjectState
+        ensures { (orders : ObjectId → ℕ → List Order) → Fits orders self.now.seats → result ≡ object_state (is_live_here object self.now.journal) (is_muted object (deeds orders self.now.journal)) }
+    {
+        ObjectState::by(self.seats.is_here(&object), self.seats.is_muted(&object))
     }
 
     /// The image of a subscription, if it has one.

@@ -1,12 +1,12 @@
 -- What the cache's parts do to its list of updates.
-use Rattle.std.proofs.Common.{◌≡◌, ◌≢◌, ℕ, suc, ◌<◌, ◌≤◌, Bool, true, false, cond, not, ◌&&◌, List, [], ◌∷◌, map, length, drop, nat_lt, ◌==◌, Option, Some, None, is_some, if◌then◌else◌, refl, arith, Less, Ordering, ◌∙◌, ap, sym}
+use Rattle.std.proofs.Common.{◌≡◌, ◌≢◌, ℕ, suc, ◌<◌, ◌≤◌, Bool, true, false, cond, not, List, [], ◌∷◌, map, length, drop, nat_lt, Some, None, if◌then◌else◌, refl, arith, Less, Ordering, ◌∙◌, ap, sym}
 use Rattle.std.proofs.lemmas.Bool.Decides.{nat_tests}
-use Rattle.std.specs.Ordering.{nat_cmp, is_lt, is_gt}
+use Rattle.std.specs.Ordering.{nat_cmp, is_gt}
 use Rattle.std.specs.List.{All, AllByRecursion, filter, slice_get}
 use Rattle.std.proofs.lemmas.List.Elements.{recursion_from_All}
 use Rattle.std.specs.List.Sorted.{IsStrictlySortedBy}
 use Rattle.std.proofs.lemmas.Map.Keys.{sorted_head, sorted_tail}
-use Rattle.std.specs.Map.{lookup, remove_entry, keys_of}
+use Rattle.std.specs.Map.{remove_entry, keys_of}
 use Rattle.std.specs.BTreeMap.{is_at, insert_entry}
 use Rattle.std.specs.BTreeMap.Range.{entries_between, IsLeBy}
 use Rattle.std.specs.declared.ops.Bound.{Bound}
@@ -14,7 +14,7 @@ use Rattle.std.specs.declared.ops.Bound.TheVariants.{Included, Excluded, Unbound
 use Rattle.std.specs.Range.Bound.{IsForward}
 use Rattle.mama_msg.specs.Field.{FieldData}
 use Rattle.mama_msg.specs.Message.{apply}
-use Rattle.mama_dq.specs.Cache.{has_number, put, above, from_bound, lowest_number, reached, Reached, CacheData}
+use Rattle.mama_dq.specs.Cache.{has_number, put, above, from_bound, lowest_number, reached, CacheData}
 use Rattle.mama_dq.proofs.Comparisons.{lt_true, less_is}
 
 -- an entry that was inserted where there was none with its key is removed again

@@ -1,10 +1,9 @@
 -- Cached updates ascend, and which numbers are among them.
-use Rattle.std.proofs.Common.{◌≡◌, ◌≢◌, ℕ, suc, ◌<◌, ◌≤◌, Bool, true, false, nat_lt, ◌==◌, if◌then◌else◌, cond, List, [], ◌∷◌, length, drop, refl, ap, ◌∙◌, sym, subst, arith, is_some, Ordering, Less, Equal, Greater, Some, None}
+use Rattle.std.proofs.Common.{◌≡◌, ◌≢◌, ℕ, ◌<◌, ◌≤◌, Bool, true, false, nat_lt, if◌then◌else◌, cond, List, [], ◌∷◌, length, drop, refl, ◌∙◌, arith, Ordering, Less, Equal, Greater}
 use Rattle.std.proofs.lemmas.Bool.Decides.{nat_tests}
 use Rattle.std.specs.Ordering.{nat_cmp, match_ordering}
 use Rattle.std.specs.List.{filter}
-use Rattle.std.specs.Map.{lookup}
-use Rattle.std.specs.BTreeMap.{is_at, insert_entry}
+use Rattle.std.specs.BTreeMap.{insert_entry}
 use Rattle.mama_msg.specs.Field.{FieldData}
 use Rattle.mama_dq.specs.Cache.{CacheData, has_number, put, trimmed, added, above}
 use Rattle.mama_dq.specs.Gap.{is_lowest}

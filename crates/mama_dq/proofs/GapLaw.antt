@@ -1,5 +1,5 @@
 -- No gap that is told is false.
-use Rattle.std.proofs.Common.{◌≡◌, ◌≢◌, ℕ, suc, ◌+◌, ◌-◌, ◌<◌, ◌≤◌, Bool, true, false, not, ◌&&◌, ◌||◌, nat_lt, nat_le, ◌==◌, if◌then◌else◌, cond, List, [], ◌∷◌, ◌++◌, length, drop, refl, ap, ◌∙◌, sym, subst, arith, ◌⊎◌, inl, inr}
+use Rattle.std.proofs.Common.{◌≡◌, ◌≢◌, ℕ, suc, ◌+◌, ◌-◌, ◌<◌, ◌≤◌, Bool, true, false, not, nat_lt, nat_le, ◌==◌, if◌then◌else◌, List, [], ◌∷◌, ◌++◌, length, drop, refl, ap, ◌∙◌, sym, subst, arith, ◌⊎◌, inl, inr}
 use Rattle.std.proofs.lemmas.Bool.Decides.{nat_tests}
 use Rattle.std.specs.List.{AllByRecursion, list_any}
 use Rattle.mama_msg.specs.Field.{FieldData}
@@ -7,8 +7,6 @@ use Rattle.mama_event.specs.declared.shape.Strategy.{Strategy}
 use Rattle.mama_event.specs.declared.shape.Strategy.TheVariants.{One, Two}
 use Rattle.mama_event.specs.declared.market.SubKind.{SubKind}
 use Rattle.mama_event.specs.declared.market.SubKind.TheVariants.{Market, Snapshot, Basic}
-use Rattle.mama_event.specs.declared.market.MsgKind.{MsgKind}
-use Rattle.mama_event.specs.declared.market.MsgKind.TheVariants.{Initial, Update, Recap}
 use Rattle.mama_event.specs.declared.market.MarketMsg.{MarketMsg}
 use Rattle.mama_event.specs.declared.callback.Callback.{Callback}
 use Rattle.mama_event.specs.declared.callback.Callback.TheVariants as on
@@ -20,12 +18,12 @@ use Rattle.mama_dq.specs.declared.table.Relation.TheVariants.{Next, Same, Old, A
 use Rattle.mama_dq.specs.declared.table.Action.{Action}
 use Rattle.mama_dq.specs.declared.table.Action.TheVariants.{Keep, Start, Apply, ApplyKeep, KeepOnly, Ignore, Gap, Switch, Replace, Heal, Adopt, StartKeep, Catch, Late, KeepLate}
 use Rattle.mama_dq.specs.Table.{is_update, decided, relation_of}
-use Rattle.mama_dq.specs.Cache.{CacheData, has_number, put, trimmed, added, emptied, above, reached, Reached}
+use Rattle.mama_dq.specs.Cache.{has_number, put, trimmed, added, emptied, above, reached, Reached}
 use Rattle.mama_dq.specs.Context.{ContextData, new_context}
-use Rattle.mama_dq.specs.Strategy.{Step, ok_with, settled, started_keeping, caught, updated, update_acted, acted, action_of, as_message, handled, started, cached_above, healed, reached_last, stopped_short, with_update, with_cached, turned_to, waiting_for, with_image_of, gap_calls, switch_calls, adopt_calls, step_by, snapshot_acted, after, after_all, callbacks_of, fold}
-use Rattle.mama_dq.specs.Gap.{Taken, last_is_of_another, turns_at, stretched, stretch_after, stretch_of, is_update_numbered, was_taken, is_lowest, is_waiting, with_taken, drops, AreDropped, IsMissing, IsDropped, IsTrueGap, TellsTrueGap, GapLaw}
+use Rattle.mama_dq.specs.Strategy.{Step, ok_with, settled, started_keeping, updated, update_acted, acted, action_of, as_message, handled, started, cached_above, healed, reached_last, stopped_short, with_update, with_cached, turned_to, waiting_for, with_image_of, gap_calls, switch_calls, adopt_calls, step_by, snapshot_acted, after, after_all, fold}
+use Rattle.mama_dq.specs.Gap.{Taken, last_is_of_another, turns_at, stretched, stretch_after, is_update_numbered, was_taken, is_lowest, is_waiting, drops, AreDropped, IsMissing, IsDropped, IsTrueGap, TellsTrueGap, GapLaw}
 use Rattle.mama_dq.proofs.CacheLemmas.{AscendFrom}
-use Rattle.mama_dq.proofs.CacheOrder.{ascend_above, ascend_from_put, absent_put, absent_above, absent_below, absent_cons, cons_absent, lowest_dropped}
+use Rattle.mama_dq.proofs.CacheOrder.{ascend_above, ascend_from_put, absent_put, absent_above, absent_below, cons_absent, lowest_dropped}
 use Rattle.mama_dq.proofs.Relations.{Related, related}
 use Rattle.mama_dq.proofs.StrategyLemmas.{either_way}
 use Rattle.mama_dq.proofs.KeptLaw.{Keeps, after_keeps, new_keeps}

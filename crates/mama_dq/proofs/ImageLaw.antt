@@ -1,10 +1,8 @@
 -- An image that is ok is its sender's record.
-use Rattle.std.proofs.Common.{◌≡◌, ◌≢◌, ℕ, suc, ◌<◌, ◌≤◌, Bool, true, false, nat_lt, nat_le, ◌==◌, if◌then◌else◌, cond, List, [], ◌∷◌, length, drop, refl, ap, ◌∙◌, sym, subst, arith, slice_index_or, is_some, Ordering, Less, Equal, Greater}
-use Rattle.std.proofs.lemmas.Bool.Decides.{nat_tests}
+use Rattle.std.proofs.Common.{◌≡◌, ℕ, suc, true, false, nat_lt, nat_le, ◌==◌, if◌then◌else◌, cond, List, [], ◌∷◌, length, drop, refl, ap, ◌∙◌, sym, subst, arith, Ordering, Less, Equal, Greater}
 use Rattle.std.specs.Ordering.{nat_cmp, match_ordering}
-use Rattle.std.specs.List.{AllByRecursion, filter}
-use Rattle.std.specs.Map.{lookup}
-use Rattle.std.specs.BTreeMap.{is_at, insert_entry}
+use Rattle.std.specs.List.{AllByRecursion}
+use Rattle.std.specs.BTreeMap.{insert_entry}
 use Rattle.mama_msg.specs.Field.{FieldData}
 use Rattle.mama_msg.specs.Message.{apply}
 use Rattle.mama_event.specs.declared.shape.Strategy.{Strategy}
@@ -20,11 +18,11 @@ use Rattle.mama_dq.specs.declared.table.Phase.TheVariants.{Await, LiveOk, LiveSt
 use Rattle.mama_dq.specs.declared.table.Relation.{Relation}
 use Rattle.mama_dq.specs.declared.table.Relation.TheVariants.{Next, Same, Old, Ahead, Other}
 use Rattle.mama_dq.specs.declared.table.Action.{Action}
-use Rattle.mama_dq.specs.declared.table.Action.TheVariants.{Keep, Start, Apply, ApplyKeep, KeepOnly, Ignore, Gap, Switch, Replace, Heal, Adopt, StartKeep, Catch, Late, KeepLate}
-use Rattle.mama_dq.specs.Table.{is_update, decided, relation_of, relation_of_number}
+use Rattle.mama_dq.specs.declared.table.Action.TheVariants.{Start, KeepOnly, Ignore, Gap, StartKeep, Catch, Late, KeepLate}
+use Rattle.mama_dq.specs.Table.{is_update, decided, relation_of}
 use Rattle.mama_dq.specs.Cache.{CacheData, has_number, put, trimmed, added, emptied, above, reached, Reached}
 use Rattle.mama_dq.specs.Context.{ContextData, new_context, is_ok, quality_in}
-use Rattle.mama_dq.specs.Strategy.{Step, updated, update_acted, acted, action_of, as_message, handled, started, cached_above, healed, reached_last, stopped_short, with_update, with_cached, turned_to, waiting_for, settled, started_keeping, caught, with_image_of, step_by, snapshot_acted, after, after_all, fold}
+use Rattle.mama_dq.specs.Strategy.{updated, update_acted, acted, as_message, handled, cached_above, healed, reached_last, stopped_short, with_update, with_cached, turned_to, settled, started_keeping, caught, with_image_of, step_by, snapshot_acted, after, after_all, fold}
 use Rattle.mama_dq.specs.Image.{IsSendersRecord, ImageLaw, BasicLaw}
 use Rattle.mama_dq.proofs.Relations.{Related, related, ahead_same}
 use Rattle.mama_dq.proofs.StrategyLemmas.{either_way, update_cases, updated_sender}

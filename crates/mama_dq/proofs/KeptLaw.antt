@@ -1,5 +1,5 @@
 -- Which updates are kept past the first image.
-use Rattle.std.proofs.Common.{◌≡◌, ◌≢◌, ℕ, suc, ◌<◌, ◌≤◌, Bool, true, false, nat_lt, nat_le, ◌==◌, if◌then◌else◌, cond, List, [], ◌∷◌, refl, ap, ◌∙◌, sym, subst, arith, ◌⊎◌, inl, inr}
+use Rattle.std.proofs.Common.{◌≡◌, ◌≢◌, ℕ, ◌≤◌, Bool, true, false, nat_le, ◌==◌, if◌then◌else◌, List, [], ◌∷◌, refl, ap, ◌∙◌, sym, subst, arith, ◌⊎◌, inl, inr}
 use Rattle.std.proofs.lemmas.Bool.Decides.{nat_tests}
 use Rattle.mama_msg.specs.Field.{FieldData}
 use Rattle.mama_event.specs.declared.shape.Strategy.{Strategy}
@@ -14,15 +14,14 @@ use Rattle.mama_dq.specs.declared.table.Relation.TheVariants.{Next, Same, Old, A
 use Rattle.mama_dq.specs.declared.table.Action.{Action}
 use Rattle.mama_dq.specs.declared.table.Action.TheVariants.{KeepOnly, Ignore, Gap, Catch, Late, KeepLate}
 use Rattle.mama_dq.specs.Table.{is_update, decided, relation_of}
-use Rattle.mama_dq.specs.Cache.{added, emptied, put, above, Reached, reached}
+use Rattle.mama_dq.specs.Cache.{emptied, put, above, Reached, reached}
 use Rattle.mama_dq.specs.Context.{ContextData, new_context}
-use Rattle.mama_dq.specs.Strategy.{Step, ok_with, settled, updated, update_acted, acted, action_of, as_message, handled, cached_above, started_keeping, healed, reached_last, stopped_short, with_update, with_cached, turned_to, waiting_for, with_image_of, step_by, snapshot_acted, after, after_all, fold}
-use Rattle.mama_dq.specs.Kept.{KeepsForGap, KeptLaw}
+use Rattle.mama_dq.specs.Strategy.{ok_with, settled, updated, update_acted, acted, as_message, handled, cached_above, started_keeping, healed, reached_last, stopped_short, with_update, with_cached, turned_to, waiting_for, with_image_of, step_by, snapshot_acted, after, after_all, fold}
+use Rattle.mama_dq.specs.Kept.{KeptLaw}
 use Rattle.mama_dq.proofs.CacheLemmas.{AscendFrom}
-use Rattle.mama_dq.proofs.CacheOrder.{Ascend, ascend_added, ascend_above, ascend_from}
+use Rattle.mama_dq.proofs.CacheOrder.{Ascend, ascend_added, ascend_above}
 use Rattle.mama_dq.proofs.StrategyLemmas.{either_way, update_cases}
-use Rattle.mama_dq.proofs.SameKind.{after_strategy, after_all_strategy}
-use Rattle.mama_dq.proofs.Comparisons.{lt_true}
+use Rattle.mama_dq.proofs.SameKind.{after_all_strategy}
 
 -- what holds of the cache of every context
 pub record Keeps (c : ContextData) : Type 0 where

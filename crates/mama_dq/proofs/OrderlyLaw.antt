@@ -1,5 +1,5 @@
 -- Messages of one sender in order tell no gap and no change of quality.
-use Rattle.std.proofs.Common.{◌≡◌, ℕ, suc, ◌<◌, ◌≤◌, Bool, true, false, ◌&&◌, nat_lt, ◌==◌, if◌then◌else◌, cond, List, [], ◌∷◌, ◌++◌, map, refl, ap, ◌∙◌, sym, subst, arith}
+use Rattle.std.proofs.Common.{◌≡◌, ℕ, suc, ◌≤◌, Bool, true, false, ◌&&◌, nat_lt, ◌==◌, if◌then◌else◌, cond, List, [], ◌∷◌, ◌++◌, map, refl, ap, ◌∙◌, sym, subst, arith}
 use Rattle.std.proofs.lemmas.Bool.Decides.{nat_tests}
 use Rattle.std.specs.List.{AllByRecursion, filter, flat_map}
 use Rattle.mama_msg.specs.Field.{FieldData}
@@ -11,16 +11,16 @@ use Rattle.mama_event.specs.declared.market.MsgKind.TheVariants.{Initial, Update
 use Rattle.mama_event.specs.declared.market.MarketMsg.{MarketMsg}
 use Rattle.mama_event.specs.declared.callback.Callback.{Callback}
 use Rattle.mama_dq.specs.declared.table.Phase.{Phase}
-use Rattle.mama_dq.specs.declared.table.Phase.TheVariants.{Await, LiveOk, LiveStale, LiveKept}
+use Rattle.mama_dq.specs.declared.table.Phase.TheVariants.{Await, LiveOk}
 use Rattle.mama_dq.specs.declared.table.Relation.{Relation}
-use Rattle.mama_dq.specs.declared.table.Relation.TheVariants.{Next, Same, Old, Ahead, Other}
+use Rattle.mama_dq.specs.declared.table.Relation.TheVariants.{Next, Same}
 use Rattle.mama_dq.specs.declared.table.Action.{Action}
 use Rattle.mama_dq.specs.declared.table.Action.TheVariants.{Keep, Start, StartKeep, Apply, Replace}
-use Rattle.mama_dq.specs.Table.{is_update, decided, relation_of, either}
+use Rattle.mama_dq.specs.Table.{is_update, relation_of, either}
 use Rattle.mama_dq.specs.Cache.{above}
 use Rattle.mama_dq.specs.Context.{ContextData, new_context}
-use Rattle.mama_dq.specs.Strategy.{Step, ok_with, settled, acted, action_of, cached_above, handled, turned_to, with_image_of, waiting_for, with_cached, with_update, step_by, after, callbacks_of, calls_after}
-use Rattle.mama_dq.specs.Orderly.{number_after, Follows, AreInOrder, from_first_image, is_update_above, as_ok, IsToldAll, OrderlyLaw}
+use Rattle.mama_dq.specs.Strategy.{Step, ok_with, settled, acted, action_of, cached_above, handled, turned_to, with_image_of, waiting_for, with_cached, with_update, step_by, after, calls_after}
+use Rattle.mama_dq.specs.Orderly.{number_after, Follows, AreInOrder, from_first_image, is_update_above, as_ok, OrderlyLaw}
 use Rattle.mama_dq.proofs.ImageLaw.{all_added}
 use Rattle.mama_dq.proofs.StrategyLemmas.{either_way}
 use Rattle.mama_dq.proofs.Comparisons.{eq_true}

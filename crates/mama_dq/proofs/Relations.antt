@@ -1,5 +1,5 @@
 -- What the relation of a message tells of its sender and its number.
-use Rattle.std.proofs.Common.{◌≡◌, ◌≢◌, ℕ, suc, ◌<◌, Bool, true, false, nat_lt, ◌==◌, if◌then◌else◌, refl, arith, ◌∙◌, sym, cond, subst}
+use Rattle.std.proofs.Common.{◌≡◌, ◌≢◌, ℕ, suc, ◌<◌, Bool, true, false, nat_lt, ◌==◌, if◌then◌else◌, refl, arith, subst}
 use Rattle.std.proofs.lemmas.Bool.Decides.{nat_tests}
 use Rattle.mama_event.specs.declared.market.MarketMsg.{MarketMsg}
 use Rattle.mama_dq.specs.declared.table.Relation.{Relation}

@@ -11,7 +11,7 @@ use Rattle.mama_dq.specs.declared.table.Action.TheVariants.{Keep, Start, Apply, 
 use Rattle.mama_dq.specs.Table.{is_update, decided, relation_of}
 use Rattle.mama_dq.specs.Cache.{emptied, put, Reached, reached}
 use Rattle.mama_dq.specs.Context.{ContextData}
-use Rattle.mama_dq.specs.Strategy.{updated, update_acted, acted, action_of, as_message, handled, cached_above, healed, reached_last, stopped_short, turned_to, with_image_of, with_cached, waiting_for, step_by, snapshot_acted, after, after_all}
+use Rattle.mama_dq.specs.Strategy.{updated, update_acted, acted, action_of, as_message, handled, cached_above, healed, reached_last, stopped_short, turned_to, with_image_of, waiting_for, step_by, snapshot_acted, after, after_all}
 
 -- two contexts are of one kind and one strategy
 pub record AreAlike (a b : ContextData) : Type 0 where

@@ -1,5 +1,5 @@
 -- An image is called stale only right after a gap, or at a switch.
-use Rattle.std.proofs.Common.{◌≡◌, ℕ, Bool, true, false, not, ◌&&◌, ◌||◌, nat_le, if◌then◌else◌, List, [], ◌∷◌, ◌++◌, refl, arith, ◌⊎◌, inl, inr, sym, ◌∙◌}
+use Rattle.std.proofs.Common.{◌≡◌, ℕ, Bool, true, false, nat_le, if◌then◌else◌, List, [], ◌∷◌, ◌++◌, refl, arith, ◌⊎◌, inl, inr, sym, ◌∙◌}
 use Rattle.mama_msg.specs.Field.{FieldData}
 use Rattle.mama_event.specs.declared.shape.Strategy.{Strategy}
 use Rattle.mama_event.specs.declared.market.SubKind.{SubKind}
@@ -16,7 +16,7 @@ use Rattle.mama_dq.specs.Table.{is_update, decided, relation_of}
 use Rattle.mama_dq.specs.Cache.{emptied, put, Reached, reached}
 use Rattle.mama_dq.specs.Context.{ContextData}
 use Rattle.mama_dq.specs.Strategy.{updated, update_acted, acted, action_of, as_message, handled, cached_above, healed, reached_last, stopped_short, turned_to, with_image_of, gap_calls, adopt_calls, step_by, snapshot_acted, fold}
-use Rattle.mama_dq.specs.Gap.{says_stale, tells_gap, stale_after_gap, StaleLaw}
+use Rattle.mama_dq.specs.Gap.{tells_gap, stale_after_gap, StaleLaw}
 use Rattle.mama_dq.proofs.StrategyLemmas.{either_way, not_other, same_sender}
 
 -- what holds with no gap before holds after a gap too

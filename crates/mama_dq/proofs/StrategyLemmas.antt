@@ -1,5 +1,5 @@
 -- How cached updates are handled one after another.
-use Rattle.std.proofs.Common.{◌≡◌, ℕ, suc, Bool, true, false, nat_lt, ◌==◌, if◌then◌else◌, List, [], ◌∷◌, ◌++◌, refl, ap, ◌∙◌, sym, subst, append_assoc, arith}
+use Rattle.std.proofs.Common.{◌≡◌, ℕ, Bool, true, List, [], ◌∷◌, ◌++◌, refl, ap, ◌∙◌, sym, arith}
 use Rattle.std.proofs.lemmas.Bool.Decides.{nat_tests}
 use Rattle.mama_msg.specs.Field.{FieldData}
 use Rattle.mama_event.specs.declared.shape.Strategy.{Strategy}
@@ -16,7 +16,7 @@ use Rattle.std.specs.declared.ops.Bound.{Bound}
 use Rattle.mama_dq.specs.Cache.{from_bound}
 use Rattle.mama_dq.specs.Table.{either, decided, relation_of, relation_of_number}
 use Rattle.mama_dq.specs.Context.{ContextData}
-use Rattle.mama_dq.specs.Strategy.{Step, acted, caught, handled, updated, update_acted, as_message, after, after_all, callbacks_of, calls_after}
+use Rattle.mama_dq.specs.Strategy.{Step, acted, caught, handled, updated, update_acted, after, after_all, callbacks_of, calls_after}
 
 -- a number is never another sender's
 pub not_other : (last n : ℕ) → relation_of_number last n ≡ Other → ⊥

@@ -13,7 +13,6 @@ use Rattle.mama_event.specs.declared.market.Quality.TheVariants as quality
 use Rattle.mama_event.specs.declared.callback.Callback.{Callback}
 use Rattle.mama_event.specs.declared.callback.Callback.TheVariants as on
 use Rattle.mama_dq.specs.declared.table.Phase.TheVariants.{LiveOk, LiveKept}
-use Rattle.mama_dq.specs.Context.{ContextData}
 use Rattle.mama_dq.specs.Strategy.{fold, calls_of_fold}
 
 -- one field, whose value tells the message that brought it

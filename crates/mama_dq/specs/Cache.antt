@@ -1,5 +1,5 @@
 -- believed: The cache of a context: updates by number, ascending.
-use Rattle.std.specs.Prelude.{◌≡◌, ℕ, suc, Bool, ◌==◌, nat_lt, nat_le, List, [], ◌∷◌, length, drop, filter, Option, None, Some, is_some, if◌then◌else◌}
+use Rattle.std.specs.Prelude.{ℕ, suc, Bool, ◌==◌, nat_lt, nat_le, List, [], ◌∷◌, length, drop, filter, Option, None, Some, is_some, if◌then◌else◌}
 use Rattle.std.specs.Ordering.{nat_cmp}
 use Rattle.std.specs.declared.ops.Bound.{Bound}
 use Rattle.std.specs.declared.ops.Bound.TheVariants.{Included, Excluded, Unbounded}

@@ -17,7 +17,7 @@ use Rattle.mama_dq.specs.declared.table.Action.{Action}
 use Rattle.mama_dq.specs.declared.table.Action.TheVariants.{Keep, Start, Apply, ApplyKeep, KeepOnly, Ignore, Gap, Switch, Replace, Heal, Adopt, StartKeep, Catch, Late, KeepLate}
 use Rattle.mama_dq.specs.Table.{is_update, relation_of, decided}
 use Rattle.mama_msg.specs.Message.{apply}
-use Rattle.mama_dq.specs.Cache.{CacheData, added, emptied, put, above, past, Reached, reached}
+use Rattle.mama_dq.specs.Cache.{added, emptied, put, above, past, Reached, reached}
 use Rattle.mama_dq.specs.Context.{ContextData, new_context, is_ok}
 
 -- one step: the context after it, and the callbacks that it makes

@@ -1,26 +1,34 @@
 -- A turn of one actor, where what it puts is held.
 use Rattle.std.proofs.Common.{◌≡◌, ℕ, ◌<◌, List, [], ◌∷◌, ◌++◌, map, length, get_or, refl, sym, ◌∙◌, ap, subst}
-use Rattle.std.specs.Prelude.{Option, None}
+use Rattle.std.specs.Prelude.{Bool, Option, None}
+use Rattle.std.specs.List.{flat_map}
 use Rattle.std.proofs.Math.ListN.{set}
-use Rattle.mama_event.specs.Ports.{bridge_port_of_publisher, bridge_port_of_queue, timers_port_of_queue}
+use Rattle.mama_event.specs.Ports.{queues_of, bridge_port_of_publisher, bridge_port_of_queue, timers_port_of_queue}
+use Rattle.mama_journal.specs.Lane.{from_port}
+use Rattle.mama_event.specs.declared.ids.ObjectId.{ObjectId}
+use Rattle.mama_event.specs.declared.to_bridge.ToBridge.{ToBridge}
 use Rattle.mama_event.specs.declared.to_bridge.BridgeNote.{BridgeNote}
 use Rattle.mama_event.specs.declared.to_timers.TimersNote.{TimersNote}
 use Rattle.mama_event.specs.declared.to_queue.QueueNote.{QueueNote}
 use Rattle.mama_rules_services.specs.Bridge.{BridgePut, bridge_puts_at}
 use Rattle.mama_rules_services.specs.Timers.{timers_puts_at}
 use Rattle.mama_rules_queue.specs.Queue.{QueuePut}
+use Rattle.mama_rules_rounds.specs.Client.{bridge_part, timers_part}
 use Rattle.mama_rules_rounds.specs.World.{bridge_turn, bridge_took, timers_turn, timers_took, publisher_turn, queue_turn}
 use Rattle.mama_rules_rounds.specs.Stage.{client_step, publisher_step}
 use Rattle.mama_seats.specs.Sender.{Sender, taken, taken_puts, IsSenderStep}
 use Rattle.mama_seats.specs.Stand.{Stand, IsStep, IsReading}
-use Rattle.mama_seats.specs.Server.{Server, served, served_puts}
+use Rattle.mama_seats.specs.Server.{Server, served, served_puts, all_told}
+use Rattle.mama_timeout.specs.Table.{event_puts}
+use Rattle.mama_plans.specs.Put.{own_tag}
+use Rattle.mama_plans.specs.Lists.{watches_on_each}
 use Rattle.mama_seats.specs.Waiting.{Queued, waits}
-use Rattle.mama_drive.specs.Scene.{Scene, Moves, Advances, Stepped, setting_in, world_in, objects_in, spread, spread_ticks}
+use Rattle.mama_drive.specs.Scene.{Scene, Moves, Advances, Stepped, setting_in, world_in, objects_in, watches_in, spread, spread_ticks}
 use Rattle.mama_drive.specs.Heard.{Hears, StepRead}
-use Rattle.mama_drive.specs.Held.{lay_put, lay_tick, lay_event, lay_out, lay_all}
+use Rattle.mama_drive.specs.Held.{lay_put, lay_tick, lay_event, lay_out, lay_wish, lay_told, lay_all}
 use Rattle.mama_drive.specs.Seat.{ServiceSeat, took, took_puts}
 use Rattle.mama_drive.proofs.LaneLemmas.{spread_nil, ticks_nil}
-use Rattle.mama_drive.proofs.HeldLemmas.{puts_move, ticks_move, events_laid, outs_laid}
+use Rattle.mama_drive.proofs.HeldLemmas.{puts_move, ticks_move, events_laid, outs_laid, laid_more, wish_laid, changed_set}
 use Rattle.mama_drive.proofs.SceneLemmas.{sender_turned_to, put_all_to}
 use Rattle.mama_drive.proofs.ServerLemmas.{queue_turned_to}
 use Rattle.mama_drive.proofs.StageLemmas.{client_stepped_to, sender_stepped_to}
@@ -52,6 +60,7 @@ bridge_turned s old x y outs left is shape journal here changed puts_are held =
       steps = moves.steps;
       sender_count = moves.sender_count;
       server_count = moves.server_count;
+      heard = moves.heard;
       now = moves.now
           ∙ ap (λ (z : ServiceSeat BridgeNote). spread (setting_in s) left (world_in (record s { bridge = z.journal; to_bridge = z.lane }))) changed
           ∙ ap (λ o. spread (setting_in s) o (world_in (record s { bridge = (took x x.lane).journal; to_bridge = (took x x.lane).lane }))) (held ∙ puts_are)
@@ -81,6 +90,7 @@ timers_turned s old x y outs left is shape journal here changed puts_are held =
       steps = moves.steps;
       sender_count = moves.sender_count;
       server_count = moves.server_count;
+      heard = moves.heard;
       now = moves.now
           ∙ ap (λ (z : ServiceSeat TimersNote). spread_ticks left (world_in (record s { timers = z.journal; to_timers = z.lane }))) changed
           ∙ ap (λ o. spread_ticks o (world_in (record s { timers = (took x x.lane).journal; to_timers = (took x x.lane).lane }))) (held ∙ puts_are)
@@ -96,14 +106,36 @@ publisher_turned s old p port x y puts left is within at changed puts_are from h
     subst (λ (a : Scene). Moves old a (publisher_turn (setting_in old) p (world_in old))) (sym (events_laid port left (record s { senders = set s.senders p y })))
     (sender_turned_to s old p port x y left _ is within at changed (held ∙ puts_are) from refl)
 
--- a queue takes the first event of its lane
-pub queue_turned : (s old : Scene) (q bridge_port timers_port : ℕ) (x y : Server) (puts left : List QueuePut) → s ≡ old → q < length s.servers → x ≡ get_or s.servers q x
-    → map objects_in s.servers ≡ map (λ (o : Server). s.objects) s.servers → y ≡ served x x.lane → puts ≡ served_puts x x.lane
+-- a queue takes the first event of its lane, and its groups are told
+queue_laid : (q bridge_port timers_port : ℕ) (y : Server) (mark : Bool) (left : List QueuePut) (wish : Option (ToBridge ObjectId)) (s : Scene) → q < length s.servers
+    → lay_told q (lay_wish bridge_port wish (lay_all (lay_out bridge_port timers_port) left (record s { servers = set s.servers q y; ready = mark })))
+    ≡ record s {
+      servers = set s.servers q (all_told y);
+      to_bridge = s.to_bridge ++ from_port bridge_port (flat_map bridge_part (left ++ event_puts own_tag wish));
+      to_timers = s.to_timers ++ from_port timers_port (flat_map timers_part (left ++ event_puts own_tag wish));
+      ready = mark;
+    }
+queue_laid q b t y mark left wish s within =
+    let mid : Scene = record s { servers = set s.servers q y; ready = mark } in
+    let all : List QueuePut = left ++ event_puts own_tag wish in
+    ap (lay_told q) (sym (wish_laid b t wish (lay_all (lay_out b t) left mid)) ∙ sym (laid_more (lay_out b t) left (event_puts own_tag wish) mid) ∙ outs_laid b t all mid)
+    ∙ ap (λ (l : List Server). record s {
+      servers = l;
+      to_bridge = s.to_bridge ++ from_port b (flat_map bridge_part all);
+      to_timers = s.to_timers ++ from_port t (flat_map timers_part all);
+      ready = mark;
+    }) (changed_set all_told q s.servers y within)
+
+pub queue_turned : (s old : Scene) (q bridge_port timers_port : ℕ) (x y : Server) (puts left : List QueuePut) (wish : Option (ToBridge ObjectId)) (mark : Bool) → s ≡ old → q < length s.servers → x ≡ get_or s.servers q x
+    → map objects_in s.servers ≡ map (λ (o : Server). s.objects) s.servers → map watches_in s.servers ≡ watches_on_each (queues_of s.shape) s.watches → length s.servers ≡ queues_of s.shape
+    → all_told y ≡ all_told (served x x.lane) → puts ++ event_puts own_tag wish ≡ served_puts x x.lane
     → bridge_port ≡ bridge_port_of_queue s.shape q → timers_port ≡ timers_port_of_queue s.shape q → left ≡ puts
-    → Moves old (lay_all (lay_out bridge_port timers_port) left (record s { servers = set s.servers q y })) (queue_turn (setting_in old) q (world_in old))
-queue_turned s old q bridge_port timers_port x y puts left is within at shared changed puts_are to_port timers_from held =
-    subst (λ (a : Scene). Moves old a (queue_turn (setting_in old) q (world_in old))) (sym (outs_laid bridge_port timers_port left (record s { servers = set s.servers q y })))
-    (queue_turned_to s old q bridge_port timers_port x y left _ _ is within at shared changed (held ∙ puts_are) to_port timers_from refl refl)
+    → Moves old (lay_told q (lay_wish bridge_port wish (lay_all (lay_out bridge_port timers_port) left (record s { servers = set s.servers q y; ready = mark }))))
+    (queue_turn (setting_in old) q (world_in old))
+queue_turned s old q b t x y puts left wish mark is within at shared watched count changed puts_are to_port timers_from held =
+    subst (λ (a : Scene). Moves old a (queue_turn (setting_in old) q (world_in old))) (sym (queue_laid q b t y mark left wish s within))
+    (queue_turned_to s old q b t x (all_told y) (left ++ event_puts own_tag wish) mark is within at shared watched count changed
+    (ap (λ l. l ++ event_puts own_tag wish) held ∙ puts_are) to_port timers_from)
 
 -- a client makes a step
 pub client_stepped_held : (s old : Scene) (c : ℕ) (x new : Stand) (puts left : List QueuePut) → s ≡ old → c < length s.clients → x ≡ get_or s.clients c x

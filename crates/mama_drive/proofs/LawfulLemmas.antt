@@ -45,7 +45,7 @@ use Rattle.mama_drive.specs.Record.{read_in}
 use Rattle.mama_drive.specs.Start.{started}
 use Rattle.mama_drive.specs.Lawful.{comes_first, RunsLawfully, IsLawfulRun, LawfulRunsServe}
 use Rattle.mama_drive.proofs.HeldLemmas.{settled}
-use Rattle.mama_drive.proofs.StartLemmas.{starts, stands_length, senders_length}
+use Rattle.mama_drive.proofs.StartLemmas.{starts, told_at_start, stands_length, senders_length}
 use Rattle.mama_drive.proofs.RecordLemmas.{own_reads}
 
 -- THE SAME SCENE
@@ -56,6 +56,10 @@ lawful_same a b is h = subst IsLawfulRun (sym is) h
 -- once what was held is on its lanes
 pub lawful_settled : (h : Held) (s before : Scene) → seen h s ≡ before → ((t : Scene) → seen h t ≡ t) → IsLawfulRun before → IsLawfulRun s
 lawful_settled h s before same clear lawful = lawful_same before s (settled h s before before refl same clear) lawful
+
+-- the mark that a record can be made changes nothing
+pub ready_lawful : (s : Scene) → IsLawfulRun s → IsLawfulRun (record s { ready = true })
+ready_lawful s h = record { client_count = h.client_count; sender_count = h.sender_count; heard = h.heard; runs = h.runs }
 
 -- A TURN
 
@@ -80,6 +84,7 @@ moved_lawful a b w moves keeps h =
     record {
       client_count = ap length moves.clients ∙ h.client_count ∙ ap clients_of (sym shape);
       sender_count = moves.sender_count ∙ h.sender_count ∙ ap publishers_of (sym shape);
+      heard = moves.heard h.heard;
       runs = λ ms fit.
           let now : Stage = record (stage_in ms a) { world = w } in
           let is : stage_in ms b ≡ now =
@@ -119,6 +124,7 @@ advanced_lawful R a b advances keeps h =
     record {
       client_count = advances.client_count ∙ h.client_count ∙ ap clients_of (sym shape);
       sender_count = advances.sender_count ∙ h.sender_count ∙ ap publishers_of (sym shape);
+      heard = advances.heard h.heard;
       runs = λ ms fit.
           let r = h.runs ms (advances.moments ms fit) in
           subst (λ (t : Setting). RunsLawfully t (stage_in ms b)) (sym advances.setting) (record {
@@ -160,6 +166,7 @@ started_lawful lawful own script is within =
     record {
       client_count = stands_length (queues_of script.shape) 0 script.clients ∙ sym is.shaped.clients;
       sender_count = senders_length 0 script.publishers ∙ sym (length-map script.publishers topic_of_part) ∙ ap length (sym is.shaped.publishers);
+      heard = told_at_start _ _ _;
       runs = λ ms fit.
           subst (λ (t : Setting). RunsLawfully t (stage_in ms s)) (sym first.setting)
           (subst (RunsLawfully (setting_of script)) (sym (first.stages ms fit)) (record {

@@ -18,3 +18,4 @@ pub mod TurnsLemmas
 pub mod PlaceLemmas
 pub mod PartsLemmas
 pub mod LawfulLemmas
+pub mod ApartLemmas

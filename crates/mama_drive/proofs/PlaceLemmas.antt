@@ -1,6 +1,6 @@
 -- One place of a run after another: what of its rounds was done.
-use Rattle.std.proofs.Common.{◌≡◌, ℕ, ◌+◌, ◌<◌, ◌≤◌, Bool, List, [], ◌++◌, length, refl, sym, ◌∙◌, ap, arith, subst}
-use Rattle.std.specs.Prelude.{Option, Some, None, IfSome, Result, IfOk}
+use Rattle.std.proofs.Common.{◌≡◌, ℕ, ◌+◌, ◌<◌, ◌≤◌, Bool, true, List, [], ◌++◌, length, refl, sym, ◌∙◌, ap, arith, subst}
+use Rattle.std.specs.Prelude.{Option, Some, None, IfSome, Result, Ok, Err, IfOk, OnOk, OnErr}
 use Rattle.mama_event.specs.Ports.{clients_of, publishers_of}
 use Rattle.mama_script.specs.Script.{ScriptData}
 use Rattle.mama_record.specs.RunData.{RunData}
@@ -21,6 +21,7 @@ use Rattle.mama_drive.specs.Start.{started}
 use Rattle.mama_drive.specs.Record.{recorded}
 use Rattle.mama_drive.specs.Grown.{HasGrown}
 use Rattle.mama_drive.specs.Turns.{GoesOn}
+use Rattle.mama_drive.specs.Parts.{ArePartsOf}
 use Rattle.mama_drive.specs.Place.{AreMade, StandsAt, GoesTo, GoesHearing, IsEnd}
 use Rattle.mama_drive.specs.Course.{Course, IsUnderWay, IsGoneOn}
 use Rattle.mama_drive.proofs.GrownLemmas.{grown_same, grown_then, grown_is, has_grown, client_step_grown, sender_step_grown}
@@ -301,6 +302,50 @@ hearing_step n o l a b within step h = record {
 -- a step or a turn that was refused
 pub hearing_refused : (o m l : Option (List ℕ)) (at next : Place) (a b c : Scene) → GoesHearing o m at a next b → c ≡ b → l ≡ m → GoesHearing o l at a next c
 hearing_refused o m l at next a b c h same left = subst (λ (k : Option (List ℕ)). GoesHearing o k at a next c) (sym left) (subst (λ (s : Scene). GoesHearing o m at a next s) (sym same) h)
+
+-- THE MARK THAT A RECORD CAN BE MADE
+
+plays_ready : (a b : Scene) → Plays a b → Plays a (record b { ready = true })
+plays_ready a b plays =
+    let rounds = plays.rounds in
+    record {
+      count = plays.count;
+      rounds = record {
+        setting = rounds.setting;
+        client_count = rounds.client_count;
+        sender_count = rounds.sender_count;
+        moments = rounds.moments;
+        stages = rounds.stages;
+        told = rounds.told;
+        ends = rounds.ends;
+        heard = rounds.heard;
+      };
+    }
+
+ready_goes : (o : Option (List ℕ)) (s : Scene) → GoesTo o o place.Rounds s place.Rounds (record s { ready = true })
+ready_goes o s = record {
+  on = λ first from made. record { plays = plays_ready first s made.plays; heard = made.heard };
+  moments = λ ms h. h;
+  grown = grown_same (world_in s);
+}
+
+-- the parts of the record were made, or not
+pub hearing_parts : {T E : Type 0} → (r : Result T E) (o l : Option (List ℕ)) (at next : Place) (a b c : Scene) → GoesHearing o l at a next b → next ≡ place.Rounds
+    → OnOk r (c ≡ record b { ready = true }) → OnErr r (c ≡ b) → GoesHearing o l at a next c
+hearing_parts (Ok v) o l at next a b c h rounds ok err =
+    subst (λ (p : Place). GoesHearing o l at a p c) (sym rounds)
+    (hearing_then o l l at place.Rounds place.Rounds a b c (subst (λ (p : Place). GoesHearing o l at a p b) rounds h)
+    (hearing_none l place.Rounds place.Rounds b c (λ k. subst (λ (s : Scene). GoesTo k k place.Rounds b place.Rounds s) (sym ok) (ready_goes k b))))
+hearing_parts (Err e) o l at next a b c h rounds ok err = subst (λ (s : Scene). GoesHearing o l at a next s) (sym err) h
+
+pub end_parts : {E : Type 0} → (r : Result Parts E) (at : Place) (b c : Scene) → at ≡ place.Rounds → IsPlayed b → OnOk r (c ≡ record b { ready = true }) → IfOk r (ArePartsOf c) → IfOk r (IsEnd c at)
+end_parts (Ok parts) at b c rounds played ok are = record {
+  rounds = rounds;
+  played = subst IsPlayed (sym ok) (record { clients = played.clients; publishers = played.publishers });
+  parts_are = are;
+  ready = ap (λ (s : Scene). s.ready) ok;
+}
+end_parts (Err e) at b c rounds played ok are = tt
 
 -- the place that comes next, by the place that it was
 pub at_place : {E : Type 0} → (o l : Option (List ℕ)) (p q : Place) (r : Result Place E) (a b : Scene) → p ≡ q → IfOk r (λ next. GoesHearing o l q a next b) → IfOk r (λ next. GoesHearing o l p a next b)

@@ -264,7 +264,7 @@ world_rests k s =
 -- a scene that rests makes so many rounds
 pub rests : (k : ℕ) (s : Scene) → length s.clients ≡ clients_of s.shape → length s.senders ≡ publishers_of s.shape → CanRest k s → Advances (Rounds k) s (rested k s)
 rests k s clients publishers can = record {
-  setting = ap (λ l. record { shape = s.shape; publishers = l; objects = s.objects }) (map_same script_in (rested_sender k) (λ p. refl) s.senders);
+  setting = ap (λ l. record { shape = s.shape; publishers = l; objects = s.objects; groups = s.groups; watches = s.watches }) (map_same script_in (rested_sender k) (λ p. refl) s.senders);
   client_count = length-map s.clients (rested_stand k);
   sender_count = length-map s.senders (rested_sender k);
   moments = λ ms h. moments_rest k ms s.clients h;
@@ -280,6 +280,7 @@ rests k s clients publishers can = record {
       (lefts_idle k ms s.clients can.clients) (sends_idle k s.senders can.publishers));
   told = map_same reading (rested_stand k) (λ c. refl) s.clients;
   ends = λ h. ends_rest k s.clients h;
+  heard = λ h. h;
 }
 
 -- rounds after rounds

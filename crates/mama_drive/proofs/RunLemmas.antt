@@ -10,6 +10,7 @@ use Rattle.mama_rules_queue.specs.Queue as queue
 use Rattle.mama_rules_rounds.specs.World.{Setting, World}
 use Rattle.mama_rules_rounds.specs.Stage.{Stage}
 use Rattle.mama_seats.specs.Stand.{Stand}
+use Rattle.mama_seats.specs.Server.{all_told}
 use Rattle.mama_drive.specs.declared.held.Held.{Held}
 use Rattle.mama_drive.specs.Scene.{Scene, Moves, Advances, Rounds, Plays, rested_stand, setting_in, world_in}
 use Rattle.mama_drive.specs.Heard.{Hears, StepRead, HearsRounds}
@@ -72,19 +73,19 @@ shape_out b t (queue.to_timers note) s = refl
 
 pub senders_seen : (h : Held) (s old : Scene) → seen h s ≡ old → length s.senders ≡ length old.senders
 senders_seen h s old is =
-    sym (seen_keeps (λ (t : Scene). length t.senders) senders_put (λ e t. refl) (λ port e t. refl) senders_out h s) ∙ ap (λ (t : Scene). length t.senders) is
+    sym (seen_keeps (λ (t : Scene). length t.senders) senders_put (λ e t. refl) (λ port e t. refl) senders_out (λ q t. refl) h s) ∙ ap (λ (t : Scene). length t.senders) is
 
 pub servers_seen : (h : Held) (s old : Scene) → seen h s ≡ old → length s.servers ≡ length old.servers
 servers_seen h s old is =
-    sym (seen_keeps (λ (t : Scene). length t.servers) servers_put (λ e t. length_kept (with_event (queue_port_of_timers, e.1)) e.0 t.servers) (λ port e t. refl) servers_out h s)
+    sym (seen_keeps (λ (t : Scene). length t.servers) servers_put (λ e t. length_kept (with_event (queue_port_of_timers, e.1)) e.0 t.servers) (λ port e t. refl) servers_out (λ q t. length_kept all_told q t.servers) h s)
     ∙ ap (λ (t : Scene). length t.servers) is
 
 pub clients_seen : (h : Held) (s old : Scene) → seen h s ≡ old → length s.clients ≡ length old.clients
 clients_seen h s old is =
-    sym (seen_keeps (λ (t : Scene). length t.clients) clients_put (λ e t. refl) (λ port e t. refl) clients_out h s) ∙ ap (λ (t : Scene). length t.clients) is
+    sym (seen_keeps (λ (t : Scene). length t.clients) clients_put (λ e t. refl) (λ port e t. refl) clients_out (λ q t. refl) h s) ∙ ap (λ (t : Scene). length t.clients) is
 
 shape_seen : (h : Held) (s old : Scene) → seen h s ≡ old → s.shape ≡ old.shape
-shape_seen h s old is = sym (seen_keeps (λ (t : Scene). t.shape) shape_put (λ e t. refl) (λ port e t. refl) shape_out h s) ∙ ap (λ (t : Scene). t.shape) is
+shape_seen h s old is = sym (seen_keeps (λ (t : Scene). t.shape) shape_put (λ e t. refl) (λ port e t. refl) shape_out (λ q t. refl) h s) ∙ ap (λ (t : Scene). t.shape) is
 
 pub shape_seen_clients : (h : Held) (s old : Scene) → seen h s ≡ old → clients_of s.shape ≡ clients_of old.shape
 shape_seen_clients h s old is = ap clients_of (shape_seen h s old is)
@@ -94,6 +95,19 @@ shape_seen_senders h s old is = ap publishers_of (shape_seen h s old is)
 
 pub shape_seen_servers : (h : Held) (s old : Scene) → seen h s ≡ old → queues_of s.shape ≡ queues_of old.shape
 shape_seen_servers h s old is = ap queues_of (shape_seen h s old is)
+
+ready_put : (x : BridgePut) (s : Scene) → (lay_put x s).ready ≡ s.ready
+ready_put (to_publisher p note) s = refl
+ready_put (to_queue q note) s = refl
+ready_put (bridge.to_timers note) s = refl
+
+ready_out : (b t : ℕ) (x : QueuePut) (s : Scene) → (lay_out b t x s).ready ≡ s.ready
+ready_out b t (queue.to_bridge note) s = refl
+ready_out b t (queue.to_timers note) s = refl
+
+-- the mark that a record can be made
+pub ready_seen : (h : Held) (s old : Scene) → seen h s ≡ old → s.ready ≡ old.ready
+ready_seen h s old is = sym (seen_keeps (λ (t : Scene). t.ready) ready_put (λ e t. refl) (λ port e t. refl) ready_out (λ q t. refl) h s) ∙ ap (λ (t : Scene). t.ready) is
 
 -- ROUNDS
 

@@ -25,11 +25,12 @@ moves_then f {a} {b} {c} {w} m n = record {
   steps = n.steps ∙ m.steps;
   sender_count = n.sender_count ∙ m.sender_count;
   server_count = n.server_count ∙ m.server_count;
+  heard = λ h. n.heard (m.heard h);
   now = n.now ∙ ap (λ s. f s (world_in b)) m.setting ∙ ap (f (setting_in a)) m.now;
 }
 
 pub moves_none : (s : Scene) → Moves s s (world_in s)
-moves_none s = record { setting = refl; clients = refl; steps = refl; sender_count = refl; server_count = refl; now = refl }
+moves_none s = record { setting = refl; clients = refl; steps = refl; sender_count = refl; server_count = refl; heard = λ h. h; now = refl }
 
 -- A PUBLISHER'S TURN
 
@@ -60,12 +61,13 @@ pub sender_turned : (s : Scene) (p : ℕ) (x : Sender) → p < length s.senders 
     → Moves s (record s { senders = set s.senders p (taken x x.lane); to_bridge = s.to_bridge ++ from_port (bridge_port_of_publisher s.shape p) (taken_puts x x.lane) })
     (publisher_turn (setting_in s) p (world_in s))
 sender_turned s p x within is = record {
-  setting = ap (λ l. record { shape = s.shape; publishers = l; objects = s.objects })
+  setting = ap (λ l. record { shape = s.shape; publishers = l; objects = s.objects; groups = s.groups; watches = s.watches })
       (map-set_same script_in s.senders p (taken x x.lane) x (taken_script x x.lane ∙ ap script_in is));
   clients = refl;
   steps = map-set_same steps_in s.senders p (taken x x.lane) x (taken_steps x x.lane ∙ ap steps_in is);
   sender_count = length-set s.senders p (taken x x.lane);
   server_count = refl;
+  heard = λ h. h;
   now = sender_turned_at s p x within is x.lane
       ∙ ap (publisher_took (setting_in s) p (world_in s)) (ap lane_in is ∙ sym (get_or-map lane_in s.senders p x [] within));
 }
@@ -93,6 +95,7 @@ put_all_to s old bridge_port timers_port puts to_bridge to_timers is bridge time
       steps = refl;
       sender_count = refl;
       server_count = refl;
+      heard = λ h. h;
       now = ap (λ l. record (world_in s) { to_bridge = l; to_timers = to_timers }) bridge
           ∙ ap (λ l. record (world_in s) { to_bridge = s.to_bridge ++ from_port bridge_port (flat_map bridge_part puts); to_timers = l }) timers;
     })

@@ -1,17 +1,19 @@
 -- A seat in its place with an event more on its lane, or as it was.
-use Rattle.std.proofs.Common.{◌≡◌, ℕ, ◌<◌, ◌≤◌, [], ◌∷◌, ◌++◌, length, get_or, sym, ◌∙◌, ap}
-use Rattle.std.specs.Prelude.{Result, Ok, Err, IfOk, OnErr}
+use Rattle.std.proofs.Common.{◌≡◌, ℕ, ◌<◌, ◌≤◌, List, [], ◌∷◌, ◌++◌, length, get_or, refl, sym, ◌∙◌, ap}
+use Rattle.std.specs.Prelude.{Result, Ok, Err, IfOk, OnOk, OnErr}
 use Rattle.std.proofs.Math.ListN.{set}
+use Rattle.std.proofs.lemmas.List.{set-get_or}
 use Rattle.mama_event.specs.declared.to_bridge.BridgeNote.{BridgeNote}
 use Rattle.mama_event.specs.declared.to_timers.TimersNote.{TimersNote}
 use Rattle.mama_event.specs.declared.to_publisher.PublisherNote.{PublisherNote}
 use Rattle.mama_event.specs.declared.to_queue.QueueNote.{QueueNote}
 use Rattle.mama_seats.specs.Sender.{Sender}
-use Rattle.mama_seats.specs.Server.{Server}
+use Rattle.mama_seats.specs.Server.{Server, served, all_told}
 use Rattle.mama_drive.specs.Seat.{ServiceSeat}
 use Rattle.mama_drive.specs.Scene.{Scene}
-use Rattle.mama_drive.specs.Held.{changed_at, with_note, with_event}
+use Rattle.mama_drive.specs.Held.{changed_at, with_note, with_event, lay_told}
 use Rattle.mama_drive.proofs.HeldLemmas.{set_changed, past_changed}
+use Rattle.mama_drive.proofs.SystemLemmas.{IsSeatOf}
 
 pub sender_laid : (s old : Scene) (p : ℕ) (x y : Sender) (note : PublisherNote) → s ≡ old → p < length s.senders → x ≡ get_or s.senders p x → y ≡ with_note note x
     → record s { senders = set s.senders p y } ≡ record old { senders = changed_at (with_note note) p old.senders }
@@ -34,6 +36,65 @@ server_laid s old q x y e is within at changed =
 pub server_past : (s old : Scene) (q : ℕ) (e : ℕ × QueueNote) → s ≡ old → length s.servers ≤ q → old ≡ record old { servers = changed_at (with_event e) q old.servers }
 server_past s old q e is past =
     sym is ∙ ap (λ l. record s { servers = l }) (past_changed (with_event e) q s.servers past) ∙ ap (λ (o : Scene). record o { servers = changed_at (with_event e) q o.servers }) is
+
+-- what does not change in a seat of a queue, where a call either changes it so or leaves it
+pub seat_kept : {T E B : Type 0} → (f : Server → B) (r : Result T E) (x y : Server) (P : Type 0) → (P → f y ≡ f x) → OnOk r P → OnErr r (y ≡ x) → f y ≡ f x
+seat_kept f (Ok v) x y P keeps ok err = keeps ok
+seat_kept f (Err e) x y P keeps ok err = ap f err
+
+-- its objects, groups and watches among that
+pub seat_of_same : {T E : Type 0} → (r : Result T E) (x y : Server) (P : Type 0) → (P → IsSeatOf x y) → OnOk r P → OnErr r (y ≡ x) → IsSeatOf x y
+seat_of_same r x y P keeps ok err = record {
+  objects = seat_kept (λ (s : Server). s.objects) r x y P (λ p. (keeps p).objects) ok err;
+  groups = seat_kept (λ (s : Server). s.groups) r x y P (λ p. (keeps p).groups) ok err;
+  watches = seat_kept (λ (s : Server). s.watches) r x y P (λ p. (keeps p).watches) ok err;
+}
+
+-- an event more on its lane
+pub with_event_kept : (x y : Server) (e : ℕ × QueueNote) → y ≡ with_event e x → IsSeatOf x y
+with_event_kept x y e is = record { objects = ap (λ (s : Server). s.objects) is; groups = ap (λ (s : Server). s.groups) is; watches = ap (λ (s : Server). s.watches) is }
+
+-- a turn, and what its groups are told
+served_kept : (x : Server) (lane : List (ℕ × QueueNote)) → IsSeatOf x (all_told (served x lane))
+served_kept x [] = record { objects = refl; groups = refl; watches = refl }
+served_kept x (e ∷ rest) = record { objects = refl; groups = refl; watches = refl }
+
+pub turn_kept : (x y : Server) → all_told y ≡ all_told (served x x.lane) → IsSeatOf x y
+turn_kept x y is =
+    let kept = served_kept x x.lane in
+    record {
+      objects = ap (λ (s : Server). s.objects) is ∙ kept.objects;
+      groups = ap (λ (s : Server). s.groups) is ∙ kept.groups;
+      watches = ap (λ (s : Server). s.watches) is ∙ kept.watches;
+    }
+
+pub told_kept : (x y : Server) → y ≡ all_told x → IsSeatOf x y
+told_kept x y is = record { objects = ap (λ (s : Server). s.objects) is; groups = ap (λ (s : Server). s.groups) is; watches = ap (λ (s : Server). s.watches) is }
+
+pub same_seat : (x y : Server) → y ≡ x → IsSeatOf x y
+same_seat x y is = record { objects = ap (λ (s : Server). s.objects) is; groups = ap (λ (s : Server). s.groups) is; watches = ap (λ (s : Server). s.watches) is }
+
+-- groups that were told all still were
+pub told_still : {T E : Type 0} → (r : Result T E) (x y : Server) → OnOk r (y ≡ all_told x) → OnErr r (y ≡ x) → x.heard ≡ x.journal → y.heard ≡ y.journal
+told_still (Ok v) x y ok err here = ap (λ (s : Server). s.heard) ok ∙ sym (ap (λ (s : Server). s.journal) ok)
+told_still (Err e) x y ok err here = ap (λ (s : Server). s.heard) err ∙ here ∙ sym (ap (λ (s : Server). s.journal) err)
+
+-- the groups of a queue were told
+pub server_told : (s old : Scene) (q : ℕ) (x y : Server) → s ≡ old → q < length s.servers → x ≡ get_or s.servers q x → y ≡ all_told x
+    → record s { servers = set s.servers q y } ≡ lay_told q old
+server_told s old q x y is within at changed =
+    ap (λ z. record s { servers = set s.servers q z }) changed
+    ∙ ap (λ l. record s { servers = l }) (set_changed all_told q s.servers x within at)
+    ∙ ap (λ (o : Scene). lay_told q o) is
+
+pub untold_past : (s old : Scene) (q : ℕ) → s ≡ old → length s.servers ≤ q → old ≡ lay_told q old
+untold_past s old q is past =
+    sym is ∙ ap (λ l. record s { servers = l }) (past_changed all_told q s.servers past) ∙ ap (λ (o : Scene). lay_told q o) is
+
+-- a seat of a queue that is as it was
+pub same_server : (s old : Scene) (q : ℕ) (x y : Server) → s ≡ old → x ≡ get_or s.servers q x → y ≡ x → record s { servers = set s.servers q y } ≡ old
+same_server s old q x y is at same =
+    ap (λ (z : Server). record s { servers = set s.servers q z }) (same ∙ at) ∙ ap (λ (l : List Server). record s { servers = l }) (set-get_or s.servers q x) ∙ is
 
 -- a publisher's step leaves its lane as it is, made or not
 pub lane_same : {T E B : Type 0} → (r : Result T E) (x y : Sender) (puts : T → B) (P : B → Type 0) → ((b : B) → P b → y.lane ≡ x.lane)

@@ -107,6 +107,7 @@ client_stepped_on s c x new puts after within is step moves =
           ∙ ap (client_stepped (setting_in s) c (stage_in ms s)) (sym is_left);
       told = ap (map reading) moves.clients ∙ map-set_same reading s.clients c new x (step.told ∙ ap reading is);
       ends = λ h. subst AllEnd (sym moves.clients) (ends_set s.clients c x new (subst (λ (y : Stand). Ends y → Ends new) is step.ends) h);
+      heard = moves.heard;
     }
 
 -- the same, told of what the calls say
@@ -179,7 +180,7 @@ sender_stepped_on s p x new puts within is step =
     let left : List (List PublisherEntry) = steps_in x in
     let is_left : get_or (map steps_in s.senders) p [] ≡ left = get_or-map steps_in s.senders p x [] within ∙ ap steps_in (sym is) in
     record {
-      setting = ap (λ l. record { shape = s.shape; publishers = l; objects = s.objects }) (map-set_same script_in s.senders p new x (step.script ∙ ap script_in is));
+      setting = ap (λ l. record { shape = s.shape; publishers = l; objects = s.objects; groups = s.groups; watches = s.watches }) (map-set_same script_in s.senders p new x (step.script ∙ ap script_in is));
       client_count = refl;
       sender_count = length-set s.senders p new;
       moments = λ ms h. h;
@@ -196,6 +197,7 @@ sender_stepped_on s p x new puts within is step =
           ∙ ap (publisher_stepped (setting_in s) p (stage_in ms s)) (sym is_left);
       told = refl;
       ends = λ h. h;
+      heard = λ h. h;
     }
 
 pub sender_stepped_to : (s old after : Scene) (p port : ℕ) (x new : Sender) (puts : List BridgeNote) (lane : List (ℕ × BridgeNote)) → s ≡ old → p < length s.senders → x ≡ get_or s.senders p x
@@ -233,6 +235,7 @@ advances_none R s f = record {
   stages = λ ms h. f ms;
   told = refl;
   ends = λ h. h;
+  heard = λ h. h;
 }
 
 pub advances_then : (R Q T : Setting → Stage → Stage → Type 0) (a b c : Scene) → ((setting : Setting) (s m t : Stage) → R setting s m → Q setting m t → T setting s t)
@@ -246,6 +249,7 @@ advances_then R Q T a b c f m n = record {
       (subst (λ (s : Setting). Q s (stage_in ms b) (stage_in ms c)) m.setting (n.stages ms h));
   told = n.told ∙ m.told;
   ends = λ h. n.ends (m.ends h);
+  heard = λ h. n.heard (m.heard h);
 }
 
 -- a step, and then everything is drained
@@ -272,6 +276,7 @@ drained_on step n a b c stepped drained =
           };
       told = ap (map reading) m.clients ∙ stepped.told;
       ends = λ h. subst AllEnd (sym m.clients) (stepped.ends h);
+      heard = λ h. m.heard (stepped.heard h);
     }
 
 -- one more step
@@ -294,6 +299,7 @@ round_made a b c first second =
       stages = first.stages;
       told = first.told;
       ends = first.ends;
+      heard = first.heard;
     } in
     let rest : Advances (λ setting s t. SteppedAll publisher_step (publishers_of setting.shape) setting s t) b c = record {
       setting = second.setting;
@@ -303,6 +309,7 @@ round_made a b c first second =
       stages = second.stages;
       told = second.told;
       ends = second.ends;
+      heard = second.heard;
     } in
     advances_then (λ setting s t. SteppedAll client_step (clients_of setting.shape) setting s t) (λ setting s t. SteppedAll publisher_step (publishers_of setting.shape) setting s t) IsOneRound a b c
     (λ setting s m t h k. record { mid = m; clients = h; publishers = k }) whole rest

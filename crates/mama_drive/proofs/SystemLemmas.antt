@@ -1,28 +1,46 @@
 -- What a system keeps where a seat or a mark changes.
-use Rattle.std.proofs.Common.{◌≡◌, ℕ, zero, suc, ◌+◌, ◌^◌, ◌<◌, Bool, true, false, not, List, [], ◌∷◌, ◌++◌, map, length, get_or, refl, sym, ◌∙◌, ap, add-one}
+use Rattle.std.proofs.Common.{◌≡◌, ℕ, suc, ◌^◌, ◌<◌, Bool, true, false, not, List, [], ◌∷◌, map, length, get_or, refl, sym, ◌∙◌, ap, arith}
 use Rattle.std.specs.List.{list_all}
 use Rattle.std.proofs.Math.ListN.{set}
-use Rattle.std.proofs.lemmas.List.{length-set, length-append, map-append, set-get_or}
+use Rattle.std.proofs.lemmas.List.{length-set, length-map, set-get_or, get_or-map}
 use Rattle.std.proofs.lemmas.List.Folds.{list_all-map}
 use Rattle.std.proofs.Math.Seq.{map-set_same}
+use Rattle.mama_journal.specs.Journal.{numbers_below}
 use Rattle.mama_event.specs.declared.shape.Shape.{Shape}
+use Rattle.mama_event.specs.declared.to_queue.QueueNote.{QueueNote}
+use Rattle.mama_event.specs.declared.group.GroupRow.{GroupRow}
+use Rattle.mama_event.specs.declared.watch.WatchRow.{WatchRow}
+use Rattle.mama_plans.specs.Lists.{groups_on, watches_on, groups_on_each, watches_on_each}
+use Rattle.mama_plans.proofs.EachLemmas.{numbers_len}
 use Rattle.mama_rules_rounds.specs.Client.{Planned}
-use Rattle.mama_rules_rounds.specs.World.{is_empty}
+use Rattle.mama_rules_rounds.specs.World.{Grouped, Watched, is_empty}
 use Rattle.mama_seats.specs.Server.{Server}
 use Rattle.mama_seats.specs.Stand.{Stand}
 use Rattle.mama_seats.specs.Sender.{Sender}
 use Rattle.mama_event.specs.Ports.{clients_of, publishers_of, queues_of, bridge_ports}
-use Rattle.mama_drive.specs.Start.{new_server, new_servers}
-use Rattle.mama_drive.specs.Scene.{Scene, lane_in, waiting_in, objects_in, IsSystem}
+use Rattle.mama_drive.specs.Start.{new_servers}
+use Rattle.mama_drive.specs.Scene.{Scene, lane_in, waiting_in, journal_in, heard_in, objects_in, groups_in, watches_in, IsSystem}
 
 unnot : (b : Bool) → not b ≡ false → b ≡ true
 unnot true e = refl
 unnot false e = cc
 
-module _ (shape bridge_shape timers_shape : Shape) (objects : List Planned) (clients : List Stand) (senders : List Sender) (servers : List Server) (publishers_wait queues_wait : Bool)
-    (h : IsSystem shape bridge_shape timers_shape objects clients senders servers publishers_wait queues_wait) where
+-- the groups of one queue were told all
+pub told_at : (servers : List Server) (q : ℕ) (x : Server) → q < length servers → x ≡ get_or servers q x → map heard_in servers ≡ map journal_in servers → x.heard ≡ x.journal
+told_at servers q x within at told =
+    ap heard_in at ∙ sym (get_or-map heard_in servers q x [] within) ∙ ap (λ (l : List (List (ℕ × QueueNote))). get_or l q []) told
+    ∙ get_or-map journal_in servers q x [] within ∙ sym (ap journal_in at)
+
+-- what no event on a lane, no turn and no telling changes in a seat of a queue
+pub record IsSeatOf (x y : Server) : Type 0 where
+  pub objects : y.objects ≡ x.objects
+  pub groups : y.groups ≡ x.groups
+  pub watches : y.watches ≡ x.watches
+
+module _ (shape bridge_shape timers_shape : Shape) (objects : List Planned) (groups : List Grouped) (watches : List Watched) (clients : List Stand) (senders : List Sender) (servers : List Server) (publishers_wait queues_wait ready : Bool)
+    (h : IsSystem shape bridge_shape timers_shape objects groups watches clients senders servers publishers_wait queues_wait ready) where
   -- another seat of the bridge, and of the timer service, of the same shape
-  pub with_bridge : (b : Shape) → b ≡ bridge_shape → IsSystem shape b timers_shape objects clients senders servers publishers_wait queues_wait
+  pub with_bridge : (b : Shape) → b ≡ bridge_shape → IsSystem shape b timers_shape objects groups watches clients senders servers publishers_wait queues_wait ready
   with_bridge b same = record {
     ports = h.ports;
     same_bridge = same ∙ h.same_bridge;
@@ -31,11 +49,14 @@ module _ (shape bridge_shape timers_shape : Shape) (objects : List Planned) (cli
     sender_count = h.sender_count;
     server_count = h.server_count;
     shared = h.shared;
+    grouped = h.grouped;
+    watched = h.watched;
     quiet_publishers = h.quiet_publishers;
     quiet_queues = h.quiet_queues;
+    told = h.told;
   }
 
-  pub with_timers : (t : Shape) → t ≡ timers_shape → IsSystem shape bridge_shape t objects clients senders servers publishers_wait queues_wait
+  pub with_timers : (t : Shape) → t ≡ timers_shape → IsSystem shape bridge_shape t objects groups watches clients senders servers publishers_wait queues_wait ready
   with_timers t same = record {
     ports = h.ports;
     same_bridge = h.same_bridge;
@@ -44,27 +65,74 @@ module _ (shape bridge_shape timers_shape : Shape) (objects : List Planned) (cli
     sender_count = h.sender_count;
     server_count = h.server_count;
     shared = h.shared;
+    grouped = h.grouped;
+    watched = h.watched;
     quiet_publishers = h.quiet_publishers;
     quiet_queues = h.quiet_queues;
+    told = h.told;
   }
 
-  -- another seat of a queue, which knows the same objects, and the mark that events wait
-  pub with_server : (q : ℕ) (x y : Server) → x ≡ get_or servers q x → y.objects ≡ x.objects
-      → IsSystem shape bridge_shape timers_shape objects clients senders (set servers q y) publishers_wait true
-  with_server q x y at same = record {
+  -- another seat of a queue, with marks that hold of it
+  pub with_server : (q : ℕ) (x y : Server) (wait told : Bool) → x ≡ get_or servers q x → IsSeatOf x y
+      → (wait ≡ false → list_all is_empty (map waiting_in (set servers q y)) ≡ true)
+      → (told ≡ true → map heard_in (set servers q y) ≡ map journal_in (set servers q y))
+      → IsSystem shape bridge_shape timers_shape objects groups watches clients senders (set servers q y) publishers_wait wait told
+  with_server q x y wait told at same quiet heard = record {
     ports = h.ports;
     same_bridge = h.same_bridge;
     same_timers = h.same_timers;
     client_count = h.client_count;
     sender_count = h.sender_count;
     server_count = length-set servers q y ∙ h.server_count;
-    shared = map-set_same objects_in servers q y x (same ∙ ap objects_in at) ∙ h.shared ∙ sym (map-set_same (λ (s : Server). objects) servers q y x refl);
+    shared = map-set_same objects_in servers q y x (same.objects ∙ ap objects_in at) ∙ h.shared ∙ sym (map-set_same (λ (s : Server). objects) servers q y x refl);
+    grouped = map-set_same groups_in servers q y x (same.groups ∙ ap groups_in at) ∙ h.grouped;
+    watched = map-set_same watches_in servers q y x (same.watches ∙ ap watches_in at) ∙ h.watched;
     quiet_publishers = h.quiet_publishers;
-    quiet_queues = λ e. cc;
+    quiet_queues = quiet;
+    told = heard;
+  }
+
+  -- an event more on its lane, or none
+  pub with_lane : (q : ℕ) (x y : Server) → x ≡ get_or servers q x → IsSeatOf x y → y.heard ≡ x.heard → y.journal ≡ x.journal
+      → IsSystem shape bridge_shape timers_shape objects groups watches clients senders (set servers q y) publishers_wait true ready
+  with_lane q x y at same heard journal =
+      with_server q x y true ready at same (λ e. cc)
+      (λ e. map-set_same heard_in servers q y x (heard ∙ ap heard_in at) ∙ h.told e ∙ sym (map-set_same journal_in servers q y x (journal ∙ ap journal_in at)))
+
+  -- a turn more, which its groups were not told
+  pub with_turn : (q : ℕ) (x y : Server) → x ≡ get_or servers q x → IsSeatOf x y
+      → IsSystem shape bridge_shape timers_shape objects groups watches clients senders (set servers q y) publishers_wait true false
+  with_turn q x y at same = with_server q x y true false at same (λ e. cc) (λ e. cc)
+
+  -- its groups were told, or not
+  pub with_told : (q : ℕ) (x y : Server) → q < length servers → x ≡ get_or servers q x → IsSeatOf x y → y.lane ≡ x.lane → (x.heard ≡ x.journal → y.heard ≡ y.journal) → y.journal ≡ x.journal
+      → IsSystem shape bridge_shape timers_shape objects groups watches clients senders (set servers q y) publishers_wait queues_wait ready
+  with_told q x y within at same lane heard journal =
+      with_server q x y queues_wait ready at same
+      (λ e. ap (list_all is_empty) (map-set_same waiting_in servers q y x (lane ∙ ap waiting_in at)) ∙ h.quiet_queues e)
+      (λ e.
+      let here : x.heard ≡ x.journal = told_at servers q x within at (h.told e) in
+      map-set_same heard_in servers q y x (heard here ∙ journal ∙ sym here ∙ ap heard_in at) ∙ h.told e ∙ sym (map-set_same journal_in servers q y x (journal ∙ ap journal_in at)))
+
+  -- the groups of all queues were told all
+  pub made_ready : map heard_in servers ≡ map journal_in servers → IsSystem shape bridge_shape timers_shape objects groups watches clients senders servers publishers_wait queues_wait true
+  made_ready heard = record {
+    ports = h.ports;
+    same_bridge = h.same_bridge;
+    same_timers = h.same_timers;
+    client_count = h.client_count;
+    sender_count = h.sender_count;
+    server_count = h.server_count;
+    shared = h.shared;
+    grouped = h.grouped;
+    watched = h.watched;
+    quiet_publishers = h.quiet_publishers;
+    quiet_queues = h.quiet_queues;
+    told = λ e. heard;
   }
 
   -- another seat of a publisher, and the mark that events wait
-  pub with_sender : (p : ℕ) (y : Sender) → IsSystem shape bridge_shape timers_shape objects clients (set senders p y) servers true queues_wait
+  pub with_sender : (p : ℕ) (y : Sender) → IsSystem shape bridge_shape timers_shape objects groups watches clients (set senders p y) servers true queues_wait ready
   with_sender p y = record {
     ports = h.ports;
     same_bridge = h.same_bridge;
@@ -73,13 +141,16 @@ module _ (shape bridge_shape timers_shape : Shape) (objects : List Planned) (cli
     sender_count = length-set senders p y ∙ h.sender_count;
     server_count = h.server_count;
     shared = h.shared;
+    grouped = h.grouped;
+    watched = h.watched;
     quiet_publishers = λ e. cc;
     quiet_queues = h.quiet_queues;
+    told = h.told;
   }
 
   -- another seat of a publisher with the same lane
   pub with_same_lane : (p : ℕ) (x y : Sender) → x ≡ get_or senders p x → y.lane ≡ x.lane
-      → IsSystem shape bridge_shape timers_shape objects clients (set senders p y) servers publishers_wait queues_wait
+      → IsSystem shape bridge_shape timers_shape objects groups watches clients (set senders p y) servers publishers_wait queues_wait ready
   with_same_lane p x y at same = record {
     ports = h.ports;
     same_bridge = h.same_bridge;
@@ -88,12 +159,15 @@ module _ (shape bridge_shape timers_shape : Shape) (objects : List Planned) (cli
     sender_count = length-set senders p y ∙ h.sender_count;
     server_count = h.server_count;
     shared = h.shared;
+    grouped = h.grouped;
+    watched = h.watched;
     quiet_publishers = λ e. ap (list_all is_empty) (map-set_same lane_in senders p y x (same ∙ ap lane_in at)) ∙ h.quiet_publishers e;
     quiet_queues = h.quiet_queues;
+    told = h.told;
   }
 
   -- another seat of a client
-  pub with_client : (c : ℕ) (y : Stand) → IsSystem shape bridge_shape timers_shape objects (set clients c y) senders servers publishers_wait queues_wait
+  pub with_client : (c : ℕ) (y : Stand) → IsSystem shape bridge_shape timers_shape objects groups watches (set clients c y) senders servers publishers_wait queues_wait ready
   with_client c y = record {
     ports = h.ports;
     same_bridge = h.same_bridge;
@@ -102,13 +176,16 @@ module _ (shape bridge_shape timers_shape : Shape) (objects : List Planned) (cli
     sender_count = h.sender_count;
     server_count = h.server_count;
     shared = h.shared;
+    grouped = h.grouped;
+    watched = h.watched;
     quiet_publishers = h.quiet_publishers;
     quiet_queues = h.quiet_queues;
+    told = h.told;
   }
 
   -- other seats, as many, where the publishers' lanes are the same
   pub with_seats : (cs : List Stand) (ss : List Sender) → length cs ≡ length clients → length ss ≡ length senders → map lane_in ss ≡ map lane_in senders
-      → IsSystem shape bridge_shape timers_shape objects cs ss servers publishers_wait queues_wait
+      → IsSystem shape bridge_shape timers_shape objects groups watches cs ss servers publishers_wait queues_wait ready
   with_seats cs ss clients_same senders_same lanes = record {
     ports = h.ports;
     same_bridge = h.same_bridge;
@@ -117,13 +194,16 @@ module _ (shape bridge_shape timers_shape : Shape) (objects : List Planned) (cli
     sender_count = senders_same ∙ h.sender_count;
     server_count = h.server_count;
     shared = h.shared;
+    grouped = h.grouped;
+    watched = h.watched;
     quiet_publishers = λ e. ap (list_all is_empty) lanes ∙ h.quiet_publishers e;
     quiet_queues = h.quiet_queues;
+    told = h.told;
   }
 
   -- the mark for publishers, by what is on their lanes
   pub publishers_looked : (quiet : Bool) → quiet ≡ list_all (λ (s : Sender). is_empty s.lane) senders
-      → IsSystem shape bridge_shape timers_shape objects clients senders servers (not quiet) queues_wait
+      → IsSystem shape bridge_shape timers_shape objects groups watches clients senders servers (not quiet) queues_wait ready
   publishers_looked quiet is = record {
     ports = h.ports;
     same_bridge = h.same_bridge;
@@ -132,13 +212,16 @@ module _ (shape bridge_shape timers_shape : Shape) (objects : List Planned) (cli
     sender_count = h.sender_count;
     server_count = h.server_count;
     shared = h.shared;
+    grouped = h.grouped;
+    watched = h.watched;
     quiet_publishers = λ e. list_all-map is_empty lane_in senders ∙ sym is ∙ unnot quiet e;
     quiet_queues = h.quiet_queues;
+    told = h.told;
   }
 
   -- the mark for queues
   pub queues_looked : (quiet : Bool) → quiet ≡ list_all (λ (s : Server). is_empty s.lane) servers
-      → IsSystem shape bridge_shape timers_shape objects clients senders servers publishers_wait (not quiet)
+      → IsSystem shape bridge_shape timers_shape objects groups watches clients senders servers publishers_wait (not quiet) ready
   queues_looked quiet is = record {
     ports = h.ports;
     same_bridge = h.same_bridge;
@@ -147,8 +230,11 @@ module _ (shape bridge_shape timers_shape : Shape) (objects : List Planned) (cli
     sender_count = h.sender_count;
     server_count = h.server_count;
     shared = h.shared;
+    grouped = h.grouped;
+    watched = h.watched;
     quiet_publishers = h.quiet_publishers;
     quiet_queues = λ e. list_all-map is_empty waiting_in servers ∙ sym is ∙ unnot quiet e;
+    told = h.told;
   }
 
 -- a seat that is as it was
@@ -156,29 +242,60 @@ pub same_client : (s old : Scene) (n : ℕ) (x y : Stand) → s ≡ old → x �
 same_client s old n x y is at same =
     ap (λ (z : Stand). record s { clients = set s.clients n z }) (same ∙ at) ∙ ap (λ (l : List Stand). record s { clients = l }) (set-get_or s.clients n x) ∙ is
 
-length-new : (objects : List Planned) (n : ℕ) → length (new_servers objects n) ≡ n
-length-new objects zero = refl
-length-new objects (suc n) = length-append (new_servers objects n) (new_server objects ∷ []) ∙ ap (λ k. k + 1) (length-new objects n) ∙ add-one n
+-- WHAT THE SEATS OF QUEUES ARE AT FIRST
 
-shared-new : (objects : List Planned) (n : ℕ) → map objects_in (new_servers objects n) ≡ map (λ (s : Server). objects) (new_servers objects n)
-shared-new objects zero = refl
-shared-new objects (suc n) =
-    map-append objects_in (new_servers objects n) (new_server objects ∷ [])
-    ∙ ap (λ l. l ++ objects ∷ []) (shared-new objects n)
-    ∙ sym (map-append (λ (s : Server). objects) (new_servers objects n) (new_server objects ∷ []))
+pub length_new : (objects : List Planned) (gs : List (List (ℕ × GroupRow))) (ws : List (List (ℕ × WatchRow))) → length gs ≡ length ws → length (new_servers objects gs ws) ≡ length gs
+length_new objects [] ws alike = refl
+length_new objects (g ∷ gs) [] alike = absurd (omega (arith, alike))
+length_new objects (g ∷ gs) (w ∷ ws) alike = ap suc (length_new objects gs ws (omega (arith, alike)))
+
+shared_new : (objects : List Planned) (gs : List (List (ℕ × GroupRow))) (ws : List (List (ℕ × WatchRow)))
+    → map objects_in (new_servers objects gs ws) ≡ map (λ (s : Server). objects) (new_servers objects gs ws)
+shared_new objects [] ws = refl
+shared_new objects (g ∷ gs) [] = refl
+shared_new objects (g ∷ gs) (w ∷ ws) = ap (λ l. objects ∷ l) (shared_new objects gs ws)
+
+grouped_new : (objects : List Planned) (gs : List (List (ℕ × GroupRow))) (ws : List (List (ℕ × WatchRow))) → length gs ≡ length ws → map groups_in (new_servers objects gs ws) ≡ gs
+grouped_new objects [] ws alike = refl
+grouped_new objects (g ∷ gs) [] alike = absurd (omega (arith, alike))
+grouped_new objects (g ∷ gs) (w ∷ ws) alike = ap (λ l. g ∷ l) (grouped_new objects gs ws (omega (arith, alike)))
+
+watched_new : (objects : List Planned) (gs : List (List (ℕ × GroupRow))) (ws : List (List (ℕ × WatchRow))) → length gs ≡ length ws → map watches_in (new_servers objects gs ws) ≡ ws
+watched_new objects [] [] alike = refl
+watched_new objects [] (w ∷ ws) alike = absurd (omega (arith, alike))
+watched_new objects (g ∷ gs) [] alike = absurd (omega (arith, alike))
+watched_new objects (g ∷ gs) (w ∷ ws) alike = ap (λ l. w ∷ l) (watched_new objects gs ws (omega (arith, alike)))
+
+-- there are as many lists of groups, and of watches, as queues
+pub groups_each : (queues : ℕ) (groups : List Grouped) → length (groups_on_each queues groups) ≡ queues
+groups_each queues groups = length-map (numbers_below queues) (groups_on groups) ∙ numbers_len queues
+
+pub watches_each : (queues : ℕ) (watches : List Watched) → length (watches_on_each queues watches) ≡ queues
+watches_each queues watches = length-map (numbers_below queues) (watches_on watches) ∙ numbers_len queues
+
+pub as_many_each : (queues : ℕ) (groups : List Grouped) (watches : List Watched) → length (groups_on_each queues groups) ≡ length (watches_on_each queues watches)
+as_many_each queues groups watches = groups_each queues groups ∙ sym (watches_each queues watches)
 
 -- a system that has done nothing yet
-pub new_system : (shape bridge_shape timers_shape : Shape) (objects : List Planned) (clients : List Stand) (senders : List Sender) (servers : List Server)
-    → bridge_ports shape < 2 ^ 32 → bridge_shape ≡ shape → timers_shape ≡ shape → length clients ≡ clients_of shape → length senders ≡ publishers_of shape → servers ≡ new_servers objects (queues_of shape)
-    → IsSystem shape bridge_shape timers_shape objects clients senders servers true true
-new_system shape bridge_shape timers_shape objects clients senders servers ports bridge timers client_count sender_count is = record {
-  ports = ports;
-  same_bridge = bridge;
-  same_timers = timers;
-  client_count = client_count;
-  sender_count = sender_count;
-  server_count = ap length is ∙ length-new objects (queues_of shape);
-  shared = ap (map objects_in) is ∙ shared-new objects (queues_of shape) ∙ sym (ap (map (λ (s : Server). objects)) is);
-  quiet_publishers = λ e. cc;
-  quiet_queues = λ e. cc;
-}
+pub new_system : (shape bridge_shape timers_shape : Shape) (objects : List Planned) (groups : List Grouped) (watches : List Watched) (clients : List Stand) (senders : List Sender) (servers : List Server)
+    → bridge_ports shape < 2 ^ 32 → bridge_shape ≡ shape → timers_shape ≡ shape → length clients ≡ clients_of shape → length senders ≡ publishers_of shape
+    → servers ≡ new_servers objects (groups_on_each (queues_of shape) groups) (watches_on_each (queues_of shape) watches)
+    → IsSystem shape bridge_shape timers_shape objects groups watches clients senders servers true true false
+new_system shape bridge_shape timers_shape objects groups watches clients senders servers ports bridge timers client_count sender_count is =
+    let gs : List (List (ℕ × GroupRow)) = groups_on_each (queues_of shape) groups in
+    let ws : List (List (ℕ × WatchRow)) = watches_on_each (queues_of shape) watches in
+    let alike : length gs ≡ length ws = as_many_each (queues_of shape) groups watches in
+    record {
+      ports = ports;
+      same_bridge = bridge;
+      same_timers = timers;
+      client_count = client_count;
+      sender_count = sender_count;
+      server_count = ap length is ∙ length_new objects gs ws alike ∙ groups_each (queues_of shape) groups;
+      shared = ap (map objects_in) is ∙ shared_new objects gs ws ∙ sym (ap (map (λ (s : Server). objects)) is);
+      grouped = ap (map groups_in) is ∙ grouped_new objects gs ws alike;
+      watched = ap (map watches_in) is ∙ watched_new objects gs ws alike;
+      quiet_publishers = λ e. cc;
+      quiet_queues = λ e. cc;
+      told = λ e. cc;
+    }

@@ -1,5 +1,5 @@
 -- inner: What an actor put and what is not on its lane yet, and the scene where all of it lies on its lane.
-use Rattle.std.specs.Prelude.{ℕ, zero, suc, List, [], ◌∷◌, ◌++◌, map}
+use Rattle.std.specs.Prelude.{ℕ, Bool, true, false, zero, suc, List, [], ◌∷◌, ◌++◌, map, Option, Some, None}
 use Rattle.mama_event.specs.declared.to_bridge.BridgeNote.{BridgeNote}
 use Rattle.mama_event.specs.declared.to_publisher.PublisherNote.{PublisherNote}
 use Rattle.mama_event.specs.declared.to_queue.QueueNote.{QueueNote}
@@ -12,7 +12,9 @@ use Rattle.mama_rules_queue.specs.Queue as queue
 use Rattle.mama_bridge.specs.Outs.{put_note}
 use Rattle.mama_timer.specs.Out.{out_note}
 use Rattle.mama_plans.specs.Put.{own_tag, notes_of}
-use Rattle.mama_seats.specs.Server.{Server}
+use Rattle.mama_event.specs.declared.ids.ObjectId.{ObjectId}
+use Rattle.mama_event.specs.declared.to_bridge.ToBridge.{ToBridge}
+use Rattle.mama_seats.specs.Server.{Server, all_told}
 use Rattle.mama_seats.specs.Sender.{Sender}
 use Rattle.mama_seats.specs.Waiting.{waits}
 use Rattle.mama_drive.specs.Scene.{Scene}
@@ -51,6 +53,20 @@ abbrev pub lay_out : ℕ → ℕ → QueuePut → Scene → Scene
 lay_out bridge_port timers_port (queue.to_bridge note) s = record s { to_bridge = s.to_bridge ++ (bridge_port, note) ∷ [] }
 lay_out bridge_port timers_port (queue.to_timers note) s = record s { to_timers = s.to_timers ++ (timers_port, note) ∷ [] }
 
+-- the wish of a watch, if there is one, on the bridge's lane
+abbrev pub lay_wish : ℕ → Option (ToBridge ObjectId) → Scene → Scene
+lay_wish port None s = s
+lay_wish port (Some event) s = lay_event port (note_of own_tag event) s
+
+-- the groups of a queue were told all that it did
+abbrev pub lay_told : ℕ → Scene → Scene
+lay_told queue s = record s { servers = changed_at all_told queue s.servers }
+
+-- the same, if they are still to be told
+abbrev pub lay_untold : Bool → ℕ → Scene → Scene
+lay_untold true queue s = lay_told queue s
+lay_untold false queue s = s
+
 -- events on their lanes one after another
 abbrev pub lay_all : {V : Type 0} → (V → Scene → Scene) → List V → Scene → Scene
 lay_all lay [] s = s
@@ -62,4 +78,5 @@ seen held.Nothing s = s
 seen (held.Routed puts) s = lay_all lay_put (map (put_note own_tag) (waits puts)) s
 seen (held.Ticked ticks) s = lay_all lay_tick (map (out_note own_tag) (waits ticks)) s
 seen (held.Sent port events) s = lay_all (lay_event port) (map (note_of own_tag) (waits events)) s
+seen (held.Served queue bridge_port timers_port outs wish untold) s = lay_untold untold queue (lay_wish bridge_port wish (lay_all (lay_out bridge_port timers_port) (notes_of (waits outs)) s))
 seen (held.Given bridge_port timers_port outs) s = lay_all (lay_out bridge_port timers_port) (notes_of (waits outs)) s

@@ -7,7 +7,7 @@ use Rattle.mama_rules_rounds.specs.Stage.{Stage}
 use Rattle.mama_laws_legal.proofs.Whole.{Running}
 use Rattle.mama_laws_allowed.specs.Allowed.{ArePutsLawful}
 use Rattle.mama_seats.specs.Server.{first_may_come}
-use Rattle.mama_drive.specs.Scene.{Scene, setting_in, world_in, stage_in, AreMoments}
+use Rattle.mama_drive.specs.Scene.{Scene, setting_in, world_in, stage_in, AreMoments, AreTold}
 
 -- what waits first for the queue of a number, if something does, may come
 abbrev pub comes_first : ℕ → World → Bool
@@ -19,10 +19,11 @@ pub record RunsLawfully (setting : Setting) (s : Stage) : Type 0 where
   pub allowed : (c : ℕ) → c < clients_of setting.shape → ArePutsLawful setting.shape.bounds (total c)
   pub running : Running setting total s
 
--- so it is whatever the clocks will tell later
+-- so it is whatever the clocks will tell later, and groups were told all that was done
 pub record IsLawfulRun (s : Scene) : Type 0 where
   pub client_count : length s.clients ≡ clients_of s.shape
   pub sender_count : length s.senders ≡ publishers_of s.shape
+  pub heard : AreTold s
   pub runs : (moments : List (List ℕ)) → AreMoments moments s.clients → RunsLawfully (setting_in s) (stage_in moments s)
 
 -- A law: in such a run what waits first for each queue may come.

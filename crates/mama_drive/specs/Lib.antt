@@ -12,3 +12,4 @@ pub mod Grown
 pub mod Turns
 pub mod Place
 pub mod Course
+pub mod Numbered

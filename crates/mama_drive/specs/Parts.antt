@@ -4,11 +4,15 @@ use Rattle.std.specs.List.{flat_map}
 use Rattle.mama_record.specs.RunView.{images_of}
 use Rattle.mama_drive.specs.Scene.{Scene, journal_in}
 use Rattle.mama_drive.specs.Record.{images_by}
+use Rattle.mama_plans.specs.Numbered.{numbered}
+use Rattle.mama_journal.specs.Journal.{numbers_below}
 use Rattle.mama_drive.specs.declared.recording.Parts.{Parts}
 
--- These are its images, and the other lists are empty and have room for its callbacks, moments and journals.
+-- These are its images, an empty list for each group and each watch, and the other lists are empty and have room for its callbacks, moments and journals.
 pub record ArePartsOf (s : Scene) (parts : Parts) : Type 0 where
   pub images : images_of parts.images.items ≡ flat_map (images_by s.objects (map journal_in s.servers)) s.objects
+  pub groups : numbered parts.groups.items ≡ map (λ n. (n, [])) (numbers_below (length s.groups))
+  pub watches : numbered parts.watches.items ≡ map (λ n. (n, [])) (numbers_below (length s.watches))
   pub no_calls : parts.calls.items ≡ []
   pub no_given : parts.given.items ≡ []
   pub no_moments : parts.moments.items ≡ []

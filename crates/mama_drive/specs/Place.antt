@@ -1,5 +1,5 @@
 -- inner: Where a run stands that is under way: what of its rounds was done.
-use Rattle.std.specs.Prelude.{◌≡◌, ℕ, ◌+◌, ◌<◌, ◌≤◌, List, length, Option}
+use Rattle.std.specs.Prelude.{◌≡◌, true, ℕ, ◌+◌, ◌<◌, ◌≤◌, List, length, Option}
 use Rattle.mama_event.specs.Ports.{clients_of, publishers_of}
 use Rattle.mama_rules_rounds.specs.Stage.{client_step, publisher_step}
 use Rattle.mama_seats.specs.Moments.{Answered}
@@ -98,3 +98,4 @@ pub record IsEnd (s : Scene) (at : Place) (parts : Parts) : Type 0 where
   pub rounds : at ≡ place.Rounds
   pub played : IsPlayed s
   pub parts_are : ArePartsOf s parts
+  pub ready : s.ready ≡ true

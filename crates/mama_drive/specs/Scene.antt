@@ -9,12 +9,15 @@ use Rattle.mama_event.specs.declared.to_queue.QueueNote.{QueueNote}
 use Rattle.mama_event.specs.declared.publisher_entry.PublisherEntry.{PublisherEntry}
 use Rattle.mama_event.specs.declared.to_publisher.PublisherNote.{PublisherNote}
 use Rattle.mama_event.specs.Publisher.{PublisherScript}
+use Rattle.mama_event.specs.declared.group.GroupRow.{GroupRow}
+use Rattle.mama_event.specs.declared.watch.WatchRow.{WatchRow}
+use Rattle.mama_plans.specs.Lists.{groups_on_each, watches_on_each}
 use Rattle.mama_event.specs.Ports.{clients_of, publishers_of, queues_of, bridge_ports, timers_port_of_bridge, queue_port_of_bridge, queue_port_of_timers}
 use Rattle.mama_rules_services.specs.Bridge.{BridgePut, to_publisher, to_queue}
 use Rattle.mama_rules_services.specs.Bridge as bridge
 use Rattle.mama_rules_queue.specs.Queue.{QueuePut}
 use Rattle.mama_rules_rounds.specs.Client.{Planned}
-use Rattle.mama_rules_rounds.specs.World.{Setting, World, extended, publisher_part, queue_part, timer_part, is_empty, passes, IsQuiet}
+use Rattle.mama_rules_rounds.specs.World.{Setting, World, Grouped, Watched, extended, publisher_part, queue_part, timer_part, is_empty, passes, IsQuiet}
 use Rattle.mama_rules_rounds.specs.Stage.{Stage, IsStageDrained, AreSteps, AreRounds}
 use Rattle.mama_seats.specs.Sender.{Sender, steps_in}
 use Rattle.mama_seats.specs.Stand.{Stand, client_left, reading, Ends, BeginsWith}
@@ -23,6 +26,8 @@ use Rattle.mama_seats.specs.Server.{Server}
 pub record Scene : Type 0 where
   pub shape : Shape
   pub objects : List Planned
+  pub groups : List Grouped
+  pub watches : List Watched
   pub clients : List Stand
   pub senders : List Sender
   pub servers : List Server
@@ -30,9 +35,17 @@ pub record Scene : Type 0 where
   pub timers : List (ℕ × TimersNote)
   pub to_bridge : List (ℕ × BridgeNote)
   pub to_timers : List (ℕ × TimersNote)
+  -- the mark that the groups surely were told all that was done, so that a record can be made
+  pub ready : Bool
 
 abbrev pub objects_in : Server → List Planned
 objects_in s = s.objects
+
+abbrev pub groups_in : Server → List (ℕ × GroupRow)
+groups_in s = s.groups
+
+abbrev pub watches_in : Server → List (ℕ × WatchRow)
+watches_in s = s.watches
 
 abbrev pub script_in : Sender → PublisherScript
 script_in s = s.script
@@ -46,12 +59,15 @@ lane_in s = s.lane
 abbrev pub journal_in : Server → List (ℕ × QueueNote)
 journal_in s = s.journal
 
+abbrev pub heard_in : Server → List (ℕ × QueueNote)
+heard_in s = s.heard
+
 abbrev pub waiting_in : Server → List (ℕ × QueueNote)
 waiting_in s = s.lane
 
 -- what does not change in it
 abbrev pub setting_in : Scene → Setting
-setting_in s = record { shape = s.shape; publishers = map script_in s.senders; objects = s.objects }
+setting_in s = record { shape = s.shape; publishers = map script_in s.senders; objects = s.objects; groups = s.groups; watches = s.watches }
 
 -- its journals and lanes
 abbrev pub world_in : Scene → World
@@ -82,9 +98,9 @@ AreMoments [] (c ∷ cs) = ⊥
 AreMoments (m ∷ ms) [] = ⊥
 AreMoments (m ∷ ms) (c ∷ cs) = BeginsWith c.read m × AreMoments ms cs
 
--- What a system keeps: the ports have numbers, its actors are those of the shape, its queues know the plans of the same objects, and where it
--- has no mark that events wait on the lanes of some publisher, or of some queue, none does.
-pub record IsSystem (shape bridge_shape timers_shape : Shape) (objects : List Planned) (clients : List Stand) (senders : List Sender) (servers : List Server) (publishers_wait queues_wait : Bool) : Type 0 where
+-- What a system keeps: the ports have numbers, its actors are those of the shape, its queues know the plans of the same objects and have its groups and watches, and where it
+-- has no mark that events wait on the lanes of some publisher, or of some queue, none does; and where it has the mark, the groups were told all.
+pub record IsSystem (shape bridge_shape timers_shape : Shape) (objects : List Planned) (groups : List Grouped) (watches : List Watched) (clients : List Stand) (senders : List Sender) (servers : List Server) (publishers_wait queues_wait ready : Bool) : Type 0 where
   pub ports : bridge_ports shape < 2 ^ 32
   pub same_bridge : bridge_shape ≡ shape
   pub same_timers : timers_shape ≡ shape
@@ -92,13 +108,20 @@ pub record IsSystem (shape bridge_shape timers_shape : Shape) (objects : List Pl
   pub sender_count : length senders ≡ publishers_of shape
   pub server_count : length servers ≡ queues_of shape
   pub shared : map objects_in servers ≡ map (λ (s : Server). objects) servers
+  pub grouped : map groups_in servers ≡ groups_on_each (queues_of shape) groups
+  pub watched : map watches_in servers ≡ watches_on_each (queues_of shape) watches
   pub quiet_publishers : publishers_wait ≡ false → list_all is_empty (map lane_in senders) ≡ true
   pub quiet_queues : queues_wait ≡ false → list_all is_empty (map waiting_in servers) ≡ true
+  pub told : ready ≡ true → map heard_in servers ≡ map journal_in servers
 
 -- each client that is done has no lines left
 abbrev pub AllEnd : List Stand → Type 0
 AllEnd [] = Unit {0}
 AllEnd (c ∷ cs) = Ends c × AllEnd cs
+
+-- the groups of each queue were told all that it did
+abbrev pub AreTold : Scene → Type 0
+AreTold s = map heard_in s.servers ≡ map journal_in s.servers
 
 -- Nothing but the world has changed, and it is now this one.
 pub record Moves (old new : Scene) (world : World) : Type 0 where
@@ -107,6 +130,7 @@ pub record Moves (old new : Scene) (world : World) : Type 0 where
   pub steps : map steps_in new.senders ≡ map steps_in old.senders
   pub sender_count : length new.senders ≡ length old.senders
   pub server_count : length new.servers ≡ length old.servers
+  pub heard : AreTold old → AreTold new
   pub now : world_in new ≡ world
 
 -- what the bridge put goes on the lanes
@@ -142,6 +166,7 @@ pub record Advances (R : Setting → Stage → Stage → Type 0) (old new : Scen
   pub stages : (moments : List (List ℕ)) → AreMoments moments new.clients → R (setting_in old) (stage_in moments old) (stage_in moments new)
   pub told : map reading new.clients ≡ map reading old.clients
   pub ends : AllEnd old.clients → AllEnd new.clients
+  pub heard : AreTold old → AreTold new
 
 -- a step was made
 abbrev pub Stepped : (Setting → ℕ → Stage → Stage) → ℕ → Setting → Stage → Stage → Type 0

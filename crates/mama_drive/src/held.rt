@@ -1,11 +1,11 @@
-ghost use Rattle.std.specs.Prelude.{◌≡◌, [], map, true, OnOk};
+ghost use Rattle.std.specs.Prelude.{◌≡◌, [], map, true, false, None, OnOk};
 ghost use Rattle.mama_event.specs.ToBridge.{note_of};
 ghost use Rattle.mama_bridge.specs.Outs.{put_note};
 ghost use Rattle.mama_timer.specs.Out.{out_note};
 ghost use Rattle.mama_plans.specs.Put.{own_tag, notes_of};
 ghost use Rattle.mama_drive.specs.Scene.{Scene};
 ghost use Rattle.mama_seats.specs.Waiting.{waits};
-ghost use Rattle.mama_drive.specs.Held.{lay_put, lay_tick, lay_event, lay_out, lay_all, seen};
+ghost use Rattle.mama_drive.specs.Held.{lay_put, lay_tick, lay_event, lay_out, lay_wish, lay_untold, lay_all, seen};
 
 use crate::system::System;
 use mama_bridge::BridgeOut;
@@ -30,6 +30,15 @@ pub(crate) enum Held {
         timers_port: u32,
         outs: Waiting<ToService<ObjectId>>,
     },
+    // What a queue put by serving, and then the wish of a watch. Its groups are still to be told the turn where the mark is set.
+    Served {
+        queue: u32,
+        bridge_port: u32,
+        timers_port: u32,
+        outs: Waiting<ToService<ObjectId>>,
+        wish: Option<ToBridge<ObjectId>>,
+        untold: bool,
+    },
 }
 
 impl Held {
@@ -47,6 +56,14 @@ impl Held {
                 timers_port: _,
                 outs,
             } => outs.is_empty(),
+            Held::Served {
+                queue: _,
+                bridge_port: _,
+                timers_port: _,
+                outs,
+                wish,
+                untold,
+            } => outs.is_empty() && wish.is_none() && !*untold,
         }
     }
 }
@@ -66,6 +83,22 @@ pub(crate) fn settle(system: &mut System, held: &mut Held) -> Result<(), OutOfMe
             timers_port,
             outs,
         } => settle_outs(system, *bridge_port, *timers_port, outs),
+        Held::Served {
+            queue,
+            bridge_port,
+            timers_port,
+            outs,
+            wish,
+            untold,
+        } => settle_served(
+            system,
+            *queue,
+            *bridge_port,
+            *timers_port,
+            outs,
+            wish,
+            untold,
+        ),
     }
 }
 
@@ -137,5 +170,57 @@ fn settle_outs(
             return Err(OutOfMemory);
         }
     }
+    Ok(())
+}
+
+/// Puts what a queue put on its lanes, then the wish of a watch, and then its groups are told.
+fn settle_served(
+    system: &mut System,
+    queue: u32,
+    bridge_port: u32,
+    timers_port: u32,
+    outs: &mut Waiting<ToService<ObjectId>>,
+    wish: &mut Option<ToBridge<ObjectId>>,
+    untold: &mut bool,
+) -> Result<(), OutOfMemory>
+    ensures same { lay_untold untold.new queue (lay_wish bridge_port wish.new (lay_all (lay_out bridge_port timers_port) (notes_of (waits outs.new)) system.new)) ≡ lay_untold untold.old queue (lay_wish bridge_port wish.old (lay_all (lay_out bridge_port timers_port) (notes_of (waits outs.old)) system.old)) }
+    ensures clear { OnOk result ((s : Scene) → lay_untold untold.new queue (lay_wish bridge_port wish.new (lay_all (lay_out bridge_port timers_port) (notes_of (waits outs.new)) s)) ≡ s) }
+{
+    settle_outs(system, bridge_port, timers_port, outs)?;
+    settle_wish(system, bridge_port, wish)?;
+    settle_untold(system, queue, untold)
+}
+
+/// Puts the wish of a watch, if there is one, on the bridge's lane.
+fn settle_wish(
+    system: &mut System,
+    port: u32,
+    wish: &mut Option<ToBridge<ObjectId>>,
+) -> Result<(), OutOfMemory>
+    ensures same { lay_wish port wish.new system.new ≡ lay_wish port wish.old system.old }
+    ensures ok { OnOk result (wish.new ≡ None) }
+{
+    match wish.take() {
+        None => Ok(()),
+        Some(event) => match system.put_to_bridge(port, event) {
+            Ok(()) => Ok(()),
+            Err(event) => {
+                *wish = Some(event);
+                Err(OutOfMemory)
+            }
+        },
+    }
+}
+
+/// The groups of a queue are told its last turn, if they are still to be told.
+fn settle_untold(system: &mut System, queue: u32, untold: &mut bool) -> Result<(), OutOfMemory>
+    ensures same { lay_untold untold.new queue system.new ≡ lay_untold untold.old queue system.old }
+    ensures told { OnOk result (untold.new ≡ false) }
+{
+    if !*untold {
+        return Ok(());
+    }
+    system.tell(queue)?;
+    *untold = false;
     Ok(())
 }

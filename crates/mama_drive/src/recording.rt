@@ -1,22 +1,29 @@
-ghost use Rattle.std.specs.Prelude.{◌≡◌, ◌≤◌, [], ◌++◌, map, length, vec_capacity, IfOk, OnOk};
+ghost use Rattle.std.specs.Prelude.{◌≡◌, ◌≤◌, true, [], ◌++◌, map, length, vec_capacity, IfOk, OnOk, OnErr};
 ghost use Rattle.std.specs.List.{flat_map};
 ghost use Rattle.mama_record.specs.RunView.{moments_of, entries_of, events_of, calls_of, images_of, calls_in};
 ghost use Rattle.mama_plans.specs.Plans.{planned_object, planned_objects, AreApart};
 ghost use Rattle.mama_seats.specs.Server.{Server};
+ghost use Rattle.mama_seats.specs.Heard.{heard_in as list_heard, noted_in};
 ghost use Rattle.mama_drive.specs.Scene.{journal_in, entries_in, objects_in};
 ghost use Rattle.mama_drive.specs.Record.{read_in, recorded, image_by, images_by, journal_at};
 ghost use Rattle.mama_drive.specs.Given.{calls_given, less, HaveGiven};
+ghost use Rattle.mama_plans.specs.Numbered.{numbered, lists_put};
+ghost use Rattle.mama_drive.specs.Numbered.{groups_given, watches_given};
 ghost use Rattle.mama_drive.specs.Parts.{ArePartsOf};
 
+use crate::held::settle;
 use crate::run::Run;
 use crate::system::System;
 use mama_dispatch::Callbacks;
-use mama_event::{CallNote, ImageHead, ObjectId, PublisherEntry, QueueNote, SubId};
+use mama_event::{
+    CallNote, GroupNote, ImageHead, ObjectId, PublisherEntry, QueueNote, SubId, WatchNote,
+};
+use mama_group::SilentGroup;
 use mama_memory::OutOfMemory;
 use mama_msg::Msg;
-use mama_plans::{PlannedObject, Plans};
+use mama_plans::{PlannedObject, Plans, numbered_lists, put_list};
 use mama_record::RunRecord;
-use mama_seats::{ClientSeat, PublisherSeat, QueueSeat};
+use mama_seats::{ClientSeat, PublisherSeat, QueueParts, QueueSeat};
 use std::alloc::Global;
 
 /// The images of a record, and empty lists with room for its callbacks, journals and moments, and for the callbacks of
@@ -29,19 +36,29 @@ pub(crate) struct Parts {
     pub(crate) moments: Vec<Vec<u64>>,
     pub(crate) entries: Vec<Vec<PublisherEntry>>,
     pub(crate) events: Vec<Vec<(u32, QueueNote)>>,
+    // A list, still empty, for each group and each watch, in the order of their numbers.
+    pub(crate) groups: Vec<(u32, Vec<GroupNote>)>,
+    pub(crate) watches: Vec<(u32, Vec<WatchNote>)>,
 }
 
 impl<'a> Run<'a> {
-    /// The images of its record, and room for all callbacks, journals and moments.
-    pub(crate) fn parts(&self) -> Result<Parts, OutOfMemory>
-        ensures { IfOk result (ArePartsOf self.now) }
+    /// The images of its record, and room for all callbacks, journals and moments. The groups are told what they were not
+    /// told yet, and marked so.
+    pub(crate) fn parts(&mut self) -> Result<Parts, OutOfMemory>
+        ensures parts { IfOk result (ArePartsOf self.new) }
+        ensures ok { OnOk result (self.new ≡ record self.old { ready = true }) }
+        ensures err { OnErr result (self.new ≡ self.old) }
     {
-        self.system.parts()
+        settle(&mut self.system, &mut self.held)?;
+        let parts = self.system.parts()?;
+        self.system.make_ready();
+        Ok(parts)
     }
 
     /// The record of what was done, with these parts. It takes no memory.
     pub(crate) fn record_with(self, parts: Parts) -> RunRecord
-        requires { ArePartsOf self parts }
+        requires parts { ArePartsOf self parts }
+        requires ready { self.ready ≡ true }
         ensures { result ≡ recorded self.entry }
     {
         let Run { system, held: _ } = self;
@@ -60,6 +77,10 @@ impl<'a> System<'a> {
         let moments = Vec::with_capacity(self.alloc, self.clients.len())?;
         let entries = Vec::with_capacity(self.alloc, self.publishers.len())?;
         let events = Vec::with_capacity(self.alloc, self.queues.len())?;
+        // A script has few groups and watches.
+        let _shape = self.script.shape();
+        let groups = numbered_lists(self.alloc, self.script.groups().len())?;
+        let watches = numbered_lists(self.alloc, self.script.watches().len())?;
         Ok(Parts {
             calls,
             given,
@@ -67,12 +88,15 @@ impl<'a> System<'a> {
             moments,
             entries,
             events,
+            groups,
+            watches,
         })
     }
 
     /// The record of what was done, with these parts. It takes no memory.
     fn record_with(self, parts: Parts) -> RunRecord
-        requires { ArePartsOf self parts }
+        requires parts { ArePartsOf self parts }
+        requires ready { self.ready ≡ true }
         ensures { result ≡ recorded self.entry }
     {
         let System {
@@ -86,6 +110,8 @@ impl<'a> System<'a> {
             timers,
             publishers_wait: _,
             queues_wait: _,
+            script: _,
+            ready: _,
         } = self;
         let Parts {
             calls,
@@ -94,9 +120,11 @@ impl<'a> System<'a> {
             moments,
             entries,
             events,
+            groups,
+            watches,
         } = parts;
         plans.are_apart();
-        let (events, given) = all_events(queues, events, given);
+        let (events, given, groups, watches) = all_events(queues, events, given, groups, watches);
         RunRecord::new(
             all_moments(clients, moments),
             all_entries(publishers, entries),
@@ -105,6 +133,8 @@ impl<'a> System<'a> {
             events,
             all_calls(alloc, plans.objects(), given, calls),
             images,
+            groups,
+            watches,
         )
     }
 
@@ -150,22 +180,61 @@ fn all_events(
     seats: Vec<QueueSeat>,
     room: Vec<Vec<(u32, QueueNote)>>,
     room_for_calls: Vec<Callbacks>,
-) -> (Vec<Vec<(u32, QueueNote)>>, Vec<Callbacks>)
+    room_for_groups: Vec<(u32, Vec<GroupNote>)>,
+    room_for_watches: Vec<(u32, Vec<WatchNote>)>,
+) -> (
+    Vec<Vec<(u32, QueueNote)>>,
+    Vec<Callbacks>,
+    Vec<(u32, Vec<GroupNote>)>,
+    Vec<(u32, Vec<WatchNote>)>,
+)
     requires none { room.items ≡ [] }
     requires enough { length seats.items ≤ vec_capacity room }
     requires no_calls { room_for_calls.items ≡ [] }
     requires enough_calls { length seats.items ≤ vec_capacity room_for_calls }
     ensures journals { events_of result.0.items ≡ map journal_in seats.items }
     ensures calls { HaveGiven seats.items result.1.items }
+    ensures groups { numbered result.2.items ≡ lists_put (groups_given seats.items) (numbered room_for_groups.items) }
+    ensures watches { numbered result.3.items ≡ lists_put (watches_given seats.items) (numbered room_for_watches.items) }
 {
     let mut events = room;
     let mut given = room_for_calls;
+    let mut heard = room_for_groups;
+    let mut noted = room_for_watches;
     for seat in seats {
-        let (journal, calls) = seat.into_parts();
+        let QueueParts {
+            journal,
+            calls,
+            groups,
+            watches,
+        } = seat.into_parts();
         events.push_reserved(journal);
         given.push_reserved(calls);
+        put_groups(groups, &mut heard);
+        put_watches(watches, &mut noted);
     }
-    (events, given)
+    (events, given, heard, noted)
+}
+
+/// What the groups of a queue heard, each list in the place of its number.
+fn put_groups(
+    groups: Vec<(u32, Vec<GroupNote>, SilentGroup)>,
+    lists: &mut Vec<(u32, Vec<GroupNote>)>,
+)
+    ensures { numbered lists.new.items ≡ lists_put (map list_heard groups.items) (numbered lists.old.items) }
+{
+    for (number, notes, _) in groups {
+        put_list(lists, number, notes);
+    }
+}
+
+/// What the watches of a queue noted, likewise.
+fn put_watches(watches: Vec<(u32, Vec<WatchNote>)>, lists: &mut Vec<(u32, Vec<WatchNote>)>)
+    ensures { numbered lists.new.items ≡ lists_put (map noted_in watches.items) (numbered lists.old.items) }
+{
+    for (number, notes) in watches {
+        put_list(lists, number, notes);
+    }
 }
 
 /// The callbacks of each object, moved out of what the queues gave up into a list that has room for them.

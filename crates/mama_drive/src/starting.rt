@@ -1,8 +1,10 @@
-ghost use Rattle.std.specs.Prelude.{◌≡◌, ◌^◌, ◌<◌, ◌≤◌, length, IfOk};
+ghost use Rattle.std.specs.Prelude.{◌≡◌, ◌^◌, ◌<◌, ◌≤◌, length, map, IfOk};
 ghost use Rattle.std.specs.Arc.{arc_value};
 ghost use Rattle.std.specs.List.{AllByRecursion};
 ghost use Rattle.mama_script.specs.declared.publisher.PublisherPart.{PublisherPart};
 ghost use Rattle.mama_rules_rounds.specs.Round.{setting_of};
+ghost use Rattle.mama_seats.specs.Heard.{IsGroupList};
+ghost use Rattle.mama_timeout.specs.Table.{AreApart};
 ghost use Rattle.mama_drive.specs.Start.{stands_from, senders_from, new_servers, started};
 
 use crate::bridge_seat::BridgeSeat;
@@ -10,9 +12,10 @@ use crate::held::Held;
 use crate::run::Run;
 use crate::system::System;
 use crate::timers_seat::TimersSeat;
+use mama_event::{GroupRow, WatchRow};
 use mama_laws_allowed::{client_puts_are_its_own, client_puts_are_lawful};
 use mama_memory::OutOfMemory;
-use mama_plans::{Plans, plans_of};
+use mama_plans::{Plans, groups_by_queue, plans_of, watches_by_queue};
 use mama_script::{ClientLines, PublisherPart, Script};
 use mama_seats::{ClientSeat, PublisherSeat, QueueSeat};
 use std::alloc::Global;
@@ -39,10 +42,13 @@ impl<'a> Run<'a> {
 impl<'a> System<'a> {
     /// All actors of a script, which have done nothing yet. These are the plans of its objects.
     fn new(alloc: Global, script: &'a Script, plans: Arc<Plans>) -> Result<System<'a>, OutOfMemory>
+        requires { arc_value plans ≡ (setting_of script.now).objects }
         ensures { IfOk result (λ system. system ≡ started (arc_value plans) script.now) }
     {
         let shape = script.shape();
-        let queues = queue_seats(alloc, shape.bounds.queues, &plans)?;
+        let groups = groups_by_queue(alloc, script, &plans)?;
+        let watches = watches_by_queue(alloc, script, &plans)?;
+        let queues = queue_seats(alloc, &plans, groups, watches)?;
         let publishers = publisher_seats(alloc, script.publishers())?;
         let clients = client_seats(alloc, shape.bounds.queues, script.clients())?;
         let bridge = BridgeSeat::new(alloc, shape)?;
@@ -58,21 +64,33 @@ impl<'a> System<'a> {
             timers,
             publishers_wait: true,
             queues_wait: true,
+            script,
+            ready: false,
         })
     }
 }
 
-/// A seat for each queue, which share the plans.
+/// A seat for each queue with its groups and watches; they share the plans.
 fn queue_seats(
     alloc: Global,
-    queues: u32,
     plans: &Arc<Plans>,
+    groups: Vec<Vec<(u32, GroupRow)>>,
+    watches: Vec<Vec<(u32, WatchRow)>>,
 ) -> Result<Vec<QueueSeat>, OutOfMemory>
-    ensures { IfOk result (λ seats. seats.items ≡ new_servers (arc_value plans.now) queues) }
+    requires alike { length groups.items ≡ length watches.items }
+    requires groups { AllByRecursion (λ list. IsGroupList list.items) groups.items }
+    requires watches { AllByRecursion (λ list. AreApart list.items) watches.items }
+    ensures { IfOk result (λ seats. seats.items ≡ new_servers (arc_value plans.now) (map (λ list. list.items) groups.items) (map (λ list. list.items) watches.items)) }
 {
     let mut seats = Vec::new(alloc);
-    for _ in 0..queues {
-        seats.push(QueueSeat::new(alloc, Arc::try_clone(plans)?))?;
+    let mut left = watches.into_iter();
+    for list in groups {
+        let Some(rows) = left.next() else {
+            unreachable!()
+        };
+        let shared = Arc::try_clone(plans)?;
+        let seat = QueueSeat::new(alloc, shared, list, rows)?;
+        seats.push(seat)?;
     }
     Ok(seats)
 }

@@ -3,12 +3,13 @@ ghost use Rattle.std.specs.List.{list_all};
 ghost use Rattle.mama_event.specs.Ports.{clients_of, publishers_of, queues_of};
 ghost use Rattle.mama_rules_rounds.specs.World as world;
 ghost use Rattle.mama_rules_rounds.specs.World.{is_empty};
-ghost use Rattle.mama_drive.specs.Scene.{world_in, lane_in, waiting_in};
+ghost use Rattle.mama_drive.specs.Scene.{world_in, lane_in, waiting_in, AreTold};
 
 use crate::bridge_seat::BridgeSeat;
 use crate::timers_seat::TimersSeat;
 use mama_event::Shape;
 use mama_plans::Plans;
+use mama_script::Script;
 use mama_seats::{ClientSeat, PublisherSeat, QueueSeat};
 use std::alloc::Global;
 use std::marker::Model;
@@ -28,17 +29,22 @@ pub struct System<'a> {
     pub(crate) timers: TimersSeat,
     pub(crate) publishers_wait: bool,
     pub(crate) queues_wait: bool,
+    // The script, which names the groups and the watches.
+    pub(crate) script: &'a Script,
+    // Whether the groups of all queues surely were told all that was done.
+    pub(crate) ready: bool,
 }
 
 impl<'a> Model for System<'a> {
     ghost use Rattle.std.specs.Arc.{arc_value};
+    ghost use Rattle.mama_rules_rounds.specs.Round.{groups_from, watches_from};
     ghost use Rattle.mama_drive.specs.Scene.{Scene, IsSystem};
 
     ghost Value = { Scene };
 
-    ghost view = { λ s. record { shape = s.shape.now; objects = arc_value s.plans; clients = s.clients.items; senders = s.publishers.items; servers = s.queues.items; bridge = s.bridge.journal; timers = s.timers.journal; to_bridge = s.bridge.lane; to_timers = s.timers.lane } };
+    ghost view = { λ s. record { shape = s.shape.now; objects = arc_value s.plans; groups = groups_from (arc_value s.plans) 0 s.script.now.groups; watches = watches_from (arc_value s.plans) 0 s.script.now.watches; clients = s.clients.items; senders = s.publishers.items; servers = s.queues.items; bridge = s.bridge.journal; timers = s.timers.journal; to_bridge = s.bridge.lane; to_timers = s.timers.lane; ready = s.ready } };
 
-    ghost invariant = { λ s. IsSystem s.shape.now s.bridge.shape s.timers.shape (arc_value s.plans) s.clients.items s.publishers.items s.queues.items s.publishers_wait s.queues_wait };
+    ghost invariant = { λ s. IsSystem s.shape.now s.bridge.shape s.timers.shape (arc_value s.plans) (groups_from (arc_value s.plans) 0 s.script.now.groups) (watches_from (arc_value s.plans) 0 s.script.now.watches) s.clients.items s.publishers.items s.queues.items s.publishers_wait s.queues_wait s.ready };
 }
 
 impl<'a> System<'a> {
@@ -78,6 +84,14 @@ impl<'a> System<'a> {
         ensures { self.new ≡ self.old }
     {
         self.queues_wait = !are_queues_quiet(self.queues.as_slice());
+    }
+
+    /// Marks that the groups of all queues were told all that was done.
+    pub(crate) fn make_ready(&mut self)
+        requires { AreTold self.old }
+        ensures { self.new ≡ record self.old { ready = true } }
+    {
+        self.ready = true;
     }
 
     /// Whether surely nothing waits on the lane of any publisher, by the mark.

@@ -1,18 +1,18 @@
-ghost use Rattle.std.specs.Prelude.{◌≡◌, ◌^◌, ◌<◌, length, true, IfOk, OnErr};
+ghost use Rattle.std.specs.Prelude.{◌≡◌, ◌^◌, ◌<◌, length, true, IfOk, OnOk, OnErr};
 ghost use Rattle.mama_event.specs.Ports.{bridge_port_of_queue};
 ghost use Rattle.mama_rules_rounds.specs.World as world;
 ghost use Rattle.mama_rules_rounds.specs.Stage as stage;
 ghost use Rattle.mama_drive.specs.Heard.{Hears, StepRead};
-ghost use Rattle.mama_drive.specs.Held.{seen};
+ghost use Rattle.mama_drive.specs.Held.{lay_told, seen};
 ghost use Rattle.mama_drive.specs.Lawful.{comes_first};
-ghost use Rattle.mama_drive.specs.Scene.{setting_in, world_in, Moves, Advances, Stepped};
+ghost use Rattle.mama_drive.specs.Scene.{setting_in, world_in, AreTold, Moves, Advances, Stepped};
 
 use crate::held::Held;
 use crate::system::{System, publishers_in};
 use mama_edge::Clock;
 use mama_event::Shape;
 use mama_memory::OutOfMemory;
-use mama_seats::Waiting;
+use mama_seats::{ServedTurn, Waiting};
 
 impl<'a> System<'a> {
     /// The bridge takes the first event of its lane, if there is one, and gives what it puts. Where no memory is found
@@ -54,6 +54,7 @@ impl<'a> System<'a> {
     pub(crate) fn queue_turn(&mut self, number: u32) -> Result<Held, OutOfMemory>
         requires number { number < length self.old.servers }
         requires comes { comes_first number (world_in self.old) ≡ true }
+        requires heard { AreTold self.old }
         ensures turn { IfOk result (λ held. Moves self.old (seen held self.new) (world.queue_turn (setting_in self.old) number (world_in self.old))) }
         ensures err { OnErr result (self.new ≡ self.old) }
     {
@@ -61,12 +62,30 @@ impl<'a> System<'a> {
         let bridge_port = port_of_queue(self.shape, number);
         self.queues_wait = true;
         let seat = &mut self.queues[number as usize];
-        let outs = seat.turn()?;
-        Ok(Held::Given {
+        let served = seat.turn()?;
+        self.ready = false;
+        let ServedTurn { outs, wish } = served;
+        Ok(Held::Served {
+            queue: number,
             bridge_port,
             timers_port,
             outs: Waiting::all(outs),
+            wish,
+            untold: true,
         })
+    }
+
+    /// The groups of the queue of this number, if there is one, are told its last turn. Where no memory is found they are told
+    /// nothing.
+    pub(crate) fn tell(&mut self, queue: u32) -> Result<(), OutOfMemory>
+        ensures ok { OnOk result (self.new ≡ lay_told queue self.old) }
+        ensures err { OnErr result (self.new ≡ self.old) }
+    {
+        if (queue as usize) >= self.queues.len() {
+            return Ok(());
+        }
+        let seat = &mut self.queues[queue as usize];
+        seat.tell()
     }
 
     /// A client makes its next step, if it has one, and gives what it puts. Where no memory is found it has made no

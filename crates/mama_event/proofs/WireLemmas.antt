@@ -1,5 +1,5 @@
 -- What arrives of a message that was cut, by whether the cut keeps all of its bytes.
-use Rattle.std.proofs.Common.{◌≡◌, ◌∙◌, ℕ, ◌<◌, ◌≤◌, Bool, true, false, List, length, take, Ok, Err, Result, refl, ap, arith, nat_le, if◌then◌else◌}
+use Rattle.std.proofs.Common.{◌≡◌, ◌∙◌, ℕ, ◌<◌, ◌≤◌, Bool, true, false, List, length, take, Ok, Err, refl, ap, arith, nat_le, if◌then◌else◌}
 use Rattle.std.proofs.lemmas.Bool.Decides.{nat_tests}
 use Rattle.mama_msg.specs.Field.{FieldData}
 use Rattle.mama_payload.specs.declared.fault.DecodeFault.{DecodeFault}
@@ -8,7 +8,7 @@ use Rattle.mama_payload.specs.Spelling.{spelling, HasSpelling}
 use Rattle.mama_payload.specs.Reading.{decoded}
 use Rattle.mama_packet.specs.Laws.{PacketIsRead, LongCutChangesNothing, CutIsTruncated}
 use Rattle.mama_event.specs.declared.market.MarketMsg.{MarketMsg}
-use Rattle.mama_event.specs.Wire.{Arrival, ReplyArrival, piece_of, cut_body, arrived, reply_arrived, arrival_of, reply_of, cut_arrival, cut_reply}
+use Rattle.mama_event.specs.Wire.{piece_of, cut_body, arrived, reply_arrived, arrival_of, reply_of, cut_arrival, cut_reply}
 
 at_most : (a b : ℕ) → nat_le a b ≡ true → a ≤ b
 at_most a b h = grind (arith, nat_tests)

@@ -22,6 +22,15 @@ use Rattle.mama_event.specs.declared.order.PlanRow.{PlanRow}
 use Rattle.mama_event.specs.declared.callback.Callback.{Callback}
 use Rattle.mama_event.specs.declared.callback.Callback.TheVariants as call
 use Rattle.mama_event.specs.declared.callback.CallNote.{CallNote}
+use Rattle.mama_event.specs.declared.ids.SubId.{SubId}
+use Rattle.mama_event.specs.declared.group.GroupRow.{GroupRow}
+use Rattle.mama_event.specs.declared.group.GroupState.{GroupState}
+use Rattle.mama_event.specs.declared.group.GroupState.TheVariants as state
+use Rattle.mama_event.specs.declared.group.GroupNote.{GroupNote}
+use Rattle.mama_event.specs.declared.group.GroupNote.TheVariants as grouped
+use Rattle.mama_event.specs.declared.watch.WatchRow.{WatchRow}
+use Rattle.mama_event.specs.declared.watch.WatchNote.{WatchNote}
+use Rattle.mama_event.specs.declared.watch.WatchNote.TheVariants as watched
 use Rattle.mama_event.specs.declared.to_publisher.PublisherNote.{PublisherNote}
 use Rattle.mama_event.specs.declared.to_publisher.PublisherNote.TheVariants as asked
 use Rattle.mama_event.specs.declared.publisher_entry.PublisherEntry.{PublisherEntry}
@@ -116,6 +125,37 @@ same_callback _ _ = false
 -- two calls were the same callback with the same orders
 abbrev pub same_call_note : CallNote → CallNote → Bool
 same_call_note a b = same_callback a.call b.call && same_orders a.orders b.orders
+
+-- two groups have the same members, in the same order
+abbrev pub same_members : List SubId → List SubId → Bool
+same_members a b = pointwise same_sub a b
+
+abbrev pub same_group_row : GroupRow → GroupRow → Bool
+same_group_row a b = same_members a.members b.members
+
+-- two states are one
+abbrev pub same_group_state : GroupState → GroupState → Bool
+same_group_state state.Waiting state.Waiting = true
+same_group_state state.Fresh state.Fresh = true
+same_group_state state.Stale state.Stale = true
+same_group_state state.Ended state.Ended = true
+same_group_state _ _ = false
+
+-- two notes of a group are one
+abbrev pub same_group_note : GroupNote → GroupNote → Bool
+same_group_note (grouped.Call sub call) (grouped.Call sub' call') = same_sub sub sub' && same_callback call call'
+same_group_note (grouped.State s) (grouped.State s') = same_group_state s s'
+same_group_note _ _ = false
+
+-- two watches are of one subscription and one timer, with the same number of retries and the same sender
+abbrev pub same_watch_row : WatchRow → WatchRow → Bool
+same_watch_row a b = same_sub a.sub b.sub && (same_timer a.timer b.timer && (a.retries == b.retries && a.sender == b.sender))
+
+-- two notes of a watch are one
+abbrev pub same_watch_note : WatchNote → WatchNote → Bool
+same_watch_note (watched.Retry count moment) (watched.Retry count' moment') = count == count' && moment == moment'
+same_watch_note (watched.Timeout moment) (watched.Timeout moment') = moment == moment'
+same_watch_note _ _ = false
 
 -- two subscriptions have the same terms
 abbrev pub same_sub_terms : SubTerms → SubTerms → Bool

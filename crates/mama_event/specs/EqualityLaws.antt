@@ -39,12 +39,20 @@ use Rattle.mama_event.specs.declared.to_bridge.InboxTerms.{InboxTerms}
 use Rattle.mama_event.specs.declared.to_bridge.BridgeNote.{BridgeNote}
 use Rattle.mama_event.specs.declared.to_bridge.BridgeNote.TheVariants as bridged
 use Rattle.mama_event.specs.declared.ids.SubId.{SubId}
+use Rattle.mama_event.specs.declared.group.GroupRow.{GroupRow}
+use Rattle.mama_event.specs.declared.group.GroupState.{GroupState}
+use Rattle.mama_event.specs.declared.group.GroupState.TheVariants as state
+use Rattle.mama_event.specs.declared.group.GroupNote.{GroupNote}
+use Rattle.mama_event.specs.declared.group.GroupNote.TheVariants as grouped
+use Rattle.mama_event.specs.declared.watch.WatchRow.{WatchRow}
+use Rattle.mama_event.specs.declared.watch.WatchNote.{WatchNote}
+use Rattle.mama_event.specs.declared.watch.WatchNote.TheVariants as watched
 use Rattle.mama_event.specs.declared.ids.TimerId.{TimerId}
 use Rattle.mama_event.specs.declared.ids.InboxId.{InboxId}
 use Rattle.mama_event.specs.declared.ids.ObjectId.{ObjectId}
 use Rattle.mama_event.specs.declared.ids.ObjectId.TheVariants.{Sub, Timer, Inbox}
 use Rattle.mama_event.specs.Object.{same_sub, same_timer, same_inbox, same_object}
-use Rattle.mama_event.specs.Equality.{same_kind, same_quality, same_sub_kind, same_strategy, same_make, same_market_msg, same_wire_msg, same_piece_msg, same_order, same_orders, same_plan_row, same_callback, same_call_note, same_sub_terms, same_inbox_terms, same_publisher_note, same_publisher_entry, same_queue_note, same_bridge_note}
+use Rattle.mama_event.specs.Equality.{same_kind, same_quality, same_sub_kind, same_strategy, same_make, same_market_msg, same_wire_msg, same_piece_msg, same_order, same_orders, same_plan_row, same_callback, same_call_note, same_members, same_group_row, same_group_state, same_group_note, same_watch_row, same_watch_note, same_sub_terms, same_inbox_terms, same_publisher_note, same_publisher_entry, same_queue_note, same_bridge_note}
 
 -- two tests decide two facts
 and-Decides : {a b : Bool} {P Q : Type 0} → Decides a P → Decides b Q → Decides (a && b) (P × Q)
@@ -138,6 +146,35 @@ same_callback-Decides _ _ = (λ h. absurd (true≢false (sym h)), λ e. cc)
 pub same_call_note-Decides : (a b : CallNote) → Decides (same_call_note a b) (a ≡ b)
 same_call_note-Decides a b = via (and-Decides (same_callback-Decides a.call b.call) (same_orders-Decides a.orders b.orders)) (λ p. λ i. record { call = p.0 i; orders = p.1 i }) (λ e. (ap (λ (x : CallNote). x.call) e, ap (λ (x : CallNote). x.orders) e))
 
+pub same_members-Decides : (a b : List SubId) → Decides (same_members a b) (a ≡ b)
+same_members-Decides a b = pointwise_decides same_sub-Decides a b
+
+pub same_group_row-Decides : (a b : GroupRow) → Decides (same_group_row a b) (a ≡ b)
+same_group_row-Decides a b = via (same_members-Decides a.members b.members) (λ p. λ i. record { members = p i }) (λ e. ap (λ (x : GroupRow). x.members) e)
+
+pub same_group_state-Decides : (a b : GroupState) → Decides (same_group_state a b) (a ≡ b)
+same_group_state-Decides state.Waiting state.Waiting = (λ h. refl, λ e. refl)
+same_group_state-Decides state.Fresh state.Fresh = (λ h. refl, λ e. refl)
+same_group_state-Decides state.Stale state.Stale = (λ h. refl, λ e. refl)
+same_group_state-Decides state.Ended state.Ended = (λ h. refl, λ e. refl)
+same_group_state-Decides _ _ = (λ h. absurd (true≢false (sym h)), λ e. cc)
+
+pub same_group_note-Decides : (a b : GroupNote) → Decides (same_group_note a b) (a ≡ b)
+same_group_note-Decides (grouped.Call sub call) (grouped.Call sub' call') = via (and-Decides (same_sub-Decides sub sub') (same_callback-Decides call call')) (λ p. λ i. grouped.Call (p.0 i) (p.1 i)) (λ e. ((cc), (cc)))
+same_group_note-Decides (grouped.State s) (grouped.State s') = via (same_group_state-Decides s s') (λ p. λ i. grouped.State (p i)) (λ e. (cc))
+same_group_note-Decides _ _ = (λ h. absurd (true≢false (sym h)), λ e. cc)
+
+pub same_watch_row-Decides : (a b : WatchRow) → Decides (same_watch_row a b) (a ≡ b)
+same_watch_row-Decides a b =
+    via (and-Decides (same_sub-Decides a.sub b.sub) (and-Decides (same_timer-Decides a.timer b.timer) (and-Decides (Decides-eqb a.retries b.retries) (Decides-eqb a.sender b.sender))))
+    (λ p. λ i. record { sub = p.0 i; timer = p.1.0 i; retries = p.1.1.0 i; sender = p.1.1.1 i })
+    (λ e. (ap (λ (x : WatchRow). x.sub) e, (ap (λ (x : WatchRow). x.timer) e, (ap (λ (x : WatchRow). x.retries) e, ap (λ (x : WatchRow). x.sender) e))))
+
+pub same_watch_note-Decides : (a b : WatchNote) → Decides (same_watch_note a b) (a ≡ b)
+same_watch_note-Decides (watched.Retry count moment) (watched.Retry count' moment') = via (and-Decides (Decides-eqb count count') (Decides-eqb moment moment')) (λ p. λ i. watched.Retry (p.0 i) (p.1 i)) (λ e. ((cc), (cc)))
+same_watch_note-Decides (watched.Timeout moment) (watched.Timeout moment') = via (Decides-eqb moment moment') (λ p. λ i. watched.Timeout (p i)) (λ e. (cc))
+same_watch_note-Decides _ _ = (λ h. absurd (true≢false (sym h)), λ e. cc)
+
 pub same_sub_terms-Decides : (a b : SubTerms) → Decides (same_sub_terms a b) (a ≡ b)
 same_sub_terms-Decides a b = via (and-Decides (and-Decides (and-Decides (and-Decides (and-Decides (Decides-eqb a.topic b.topic) (same_sub_kind-Decides a.kind b.kind)) (Decides-eqb a.queue b.queue)) (Decides-eqb a.cache b.cache)) (Decides-eqb a.recaps b.recaps)) (same_rows-Decides a.faults b.faults)) (λ p. λ i. record { topic = p.0.0.0.0.0 i; kind = p.0.0.0.0.1 i; queue = p.0.0.0.1 i; cache = p.0.0.1 i; recaps = p.0.1 i; faults = p.1 i }) (λ e. (((((ap (λ (x : SubTerms). x.topic) e, ap (λ (x : SubTerms). x.kind) e), ap (λ (x : SubTerms). x.queue) e), ap (λ (x : SubTerms). x.cache) e), ap (λ (x : SubTerms). x.recaps) e), ap (λ (x : SubTerms). x.faults) e))
 
@@ -211,6 +248,15 @@ same_callback_equivalence = decided same_callback same_callback-Decides
 
 pub same_call_note_equivalence : IsEquivalence same_call_note
 same_call_note_equivalence = decided same_call_note same_call_note-Decides
+
+pub same_members_equivalence : IsEquivalence same_members
+same_members_equivalence = decided same_members same_members-Decides
+
+pub same_group_note_equivalence : IsEquivalence same_group_note
+same_group_note_equivalence = decided same_group_note same_group_note-Decides
+
+pub same_watch_note_equivalence : IsEquivalence same_watch_note
+same_watch_note_equivalence = decided same_watch_note same_watch_note-Decides
 
 pub same_sub_terms_equivalence : IsEquivalence same_sub_terms
 same_sub_terms_equivalence = decided same_sub_terms same_sub_terms-Decides

@@ -1,6 +1,6 @@
 -- inner: the fids of a question, as they lie in the value and as contracts see them.
 use Rattle.std.specs.Prelude.{◌≡◌, ℕ, true, ◌-◌, ◌==◌, List, [], ◌∷◌, ◌++◌, length, replicate, if◌then◌else◌}
-use Rattle.std.proofs.Common.{ap, sym}
+use Rattle.std.proofs.Common.{ap}
 use Rattle.mama_event.specs.FidList.{is_fid_list}
 use Rattle.mama_event.specs.declared.fids.Fids.TheInside.{Inside}
 

@@ -4,7 +4,6 @@ use Rattle.mama_journal.specs.Journal.{count_of, puts}
 use Rattle.mama_msg.specs.Field.{FieldData}
 use Rattle.mama_msg.specs.Message.{with_fid}
 use Rattle.mama_event.specs.Record.{record_after}
-use Rattle.mama_event.specs.declared.ids.SubId.{SubId}
 use Rattle.mama_event.specs.declared.market.MsgKind.{MsgKind}
 use Rattle.mama_event.specs.declared.market.MsgKind.TheVariants as kind
 use Rattle.mama_event.specs.declared.market.MarketMsg.{MarketMsg}

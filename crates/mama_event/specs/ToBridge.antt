@@ -1,11 +1,9 @@
 -- believed: what the bridge takes, as plain data, and what its ports may put.
-use Rattle.std.specs.Prelude.{ℕ, Bool, true, false, ◌&&◌, nat_lt, List}
+use Rattle.std.specs.Prelude.{Bool, true, false, ◌&&◌, nat_lt, List}
 use Rattle.mama_packet.specs.Packet.{message_of}
 use Rattle.mama_event.specs.Wire.{market_of}
 use Rattle.mama_event.specs.declared.ids.ObjectId.{ObjectId}
 use Rattle.mama_event.specs.declared.shape.Bounds.{Bounds}
-use Rattle.mama_event.specs.declared.to_bridge.SubTerms.{SubTerms}
-use Rattle.mama_event.specs.declared.to_bridge.InboxTerms.{InboxTerms}
 use Rattle.mama_event.specs.declared.to_bridge.ToBridge.{ToBridge}
 use Rattle.mama_event.specs.declared.to_bridge.ToBridge.TheVariants as event
 use Rattle.mama_event.specs.declared.to_bridge.BridgeNote.{BridgeNote}

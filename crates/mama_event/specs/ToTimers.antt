@@ -1,5 +1,5 @@
 -- believed: what the timer service takes, as plain data, and what its ports may put.
-use Rattle.std.specs.Prelude.{ℕ, Bool, true, false, nat_lt, List}
+use Rattle.std.specs.Prelude.{Bool, true, false, nat_lt, List}
 use Rattle.mama_event.specs.declared.ids.ObjectId.{ObjectId}
 use Rattle.mama_event.specs.declared.shape.Bounds.{Bounds}
 use Rattle.mama_event.specs.declared.to_timers.ToTimers.{ToTimers}

@@ -22,7 +22,7 @@ pub enum Callback {
     RecapRequest { sender: u32 },
     /// An update came that is not above the image's last number: one numbered `seq` of this sender.
     Late { sender: u32, seq: u32 },
-    /// An error, by its code.
+    /// What came has bytes that spell no message: the code of the first fault in them, 1 to 7, as `error_code` has it.
     Error { code: u8 },
     /// The object is gone. Nothing follows.
     Destroy,

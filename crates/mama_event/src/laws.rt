@@ -3,6 +3,7 @@ ghost use Rattle.std.specs.Bool.{Decides};
 
 use crate::callback::{CallNote, Callback};
 use crate::fids::Fids;
+use crate::group::{GroupNote, GroupRow, GroupState, Members};
 use crate::ids::{InboxId, ObjectId, SubId, TimerId};
 use crate::market::{ImageHead, MarketMsg, MsgKind, Quality, SubKind};
 use crate::order::{Order, Orders, PlanRow};
@@ -12,6 +13,7 @@ use crate::to_bridge::{BridgeNote, InboxTerms, SubTerms};
 use crate::to_publisher::{PublisherNote, ToPublisher};
 use crate::to_queue::{Make, QueueNote};
 use crate::to_timers::TimersNote;
+use crate::watch::{WatchNote, WatchRow};
 use crate::wire::{PieceMsg, WireMsg};
 
 /// A law: `==` of the plain data of this crate holds exactly where both sides are the same data.
@@ -46,5 +48,11 @@ pub fn plain_data_is_compared_exactly()
     ensures topics { (a b : List ℕ) → Decides (⟦<Topics as PartialEq>⟧.eq a b) (a ≡ b) }
     ensures shape { (a b : Shape) → Decides (⟦<Shape as PartialEq>⟧.eq a b) (a ≡ b) }
     ensures strategy { (a b : Strategy) → Decides (⟦<Strategy as PartialEq>⟧.eq a b) (a ≡ b) }
+    ensures members { (a b : List SubId) → Decides (⟦<Members as PartialEq>⟧.eq a b) (a ≡ b) }
+    ensures group { (a b : GroupRow) → Decides (⟦<GroupRow as PartialEq>⟧.eq a b) (a ≡ b) }
+    ensures group_state { (a b : GroupState) → Decides (⟦<GroupState as PartialEq>⟧.eq a b) (a ≡ b) }
+    ensures group_note { (a b : GroupNote) → Decides (⟦<GroupNote as PartialEq>⟧.eq a b) (a ≡ b) }
+    ensures watch { (a b : WatchRow) → Decides (⟦<WatchRow as PartialEq>⟧.eq a b) (a ≡ b) }
+    ensures watch_note { (a b : WatchNote) → Decides (⟦<WatchNote as PartialEq>⟧.eq a b) (a ≡ b) }
     ensures took { (a b : Took) → Decides (⟦<Took as PartialEq>⟧.eq a b) (a ≡ b) }
 {}

@@ -19,6 +19,7 @@
 mod boxed;
 mod callback;
 mod fids;
+mod group;
 mod ids;
 mod laws;
 mod listener;
@@ -32,10 +33,12 @@ mod to_publisher;
 mod to_queue;
 mod to_service;
 mod to_timers;
+mod watch;
 mod wire;
 
 pub use callback::{CallNote, Callback};
 pub use fids::{Fids, MOST_FIDS};
+pub use group::{GroupNote, GroupRow, GroupState, Members};
 pub use ids::{InboxId, ObjectId, SubId, TimerId};
 pub use laws::plain_data_is_compared_exactly;
 pub use listener::Listener;
@@ -51,4 +54,5 @@ pub use to_publisher::{PublisherNote, ToPublisher};
 pub use to_queue::{Make, QueueNote, ToQueue};
 pub use to_service::ToService;
 pub use to_timers::{TimersNote, ToTimers};
+pub use watch::{WatchNote, WatchRow};
 pub use wire::{PieceMsg, WireMsg, code_of, error_code, packed_messages_arrive};

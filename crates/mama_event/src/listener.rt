@@ -64,7 +64,7 @@ pub trait Listener: Tagged {
         requires { orders.old ≡ [] }
         ensures { Heard (on.Late sender seq) (told Self.tagged calls heard given plan self.old) (told Self.tagged calls heard given plan self.new) orders.new };
 
-    /// An error, by its code.
+    /// What came has bytes that spell no message: the code of the first fault in them, 1 to 7, as `error_code` has it.
     fn on_error(&mut self, code: u8, orders: &mut Orders)
         requires { orders.old ≡ [] }
         ensures { Heard (on.Error code) (told Self.tagged calls heard given plan self.old) (told Self.tagged calls heard given plan self.new) orders.new };

@@ -99,7 +99,7 @@ topics_go : (n from : ℕ) (b : Before) → from + n ≤ 16 → AtTopics from b 
 topics_go zero from b le h = subst (λ k. AtTopics k b) (omega arith) h
 topics_go (suc n) from b le h = (
   topic_fits from b (omega arith) h,
-  λ made. refl,
+  (λ made. refl, λ c p. refl),
   subst (λ k. Goes (after b (lines.Topic (topic_name from))) (map topic_line (map topic_name (range_with_len (from + 1) n))) (AtTopics k)) (omega arith)
       (topics_go n (from + 1) (after b (lines.Topic (topic_name from))) (omega arith) (topic_after from b (topic_name from) h)),
 )
@@ -174,7 +174,7 @@ update_step n j b s h =
         place = rw h.place refl;
         sound = none_if (nat_lt 64 (length (apply b.held (field number v ∷ [])))) (Limit 8) None (ap (λ (fs : List FieldData). nat_lt 64 (length fs)) kept.is) refl;
       },
-      λ made. refl,
+      (λ made. refl, λ c p. refl),
       record {
         place = h.place;
         held = kept;
@@ -242,7 +242,7 @@ updates_go n b s h =
 publisher_step : (n : ℕ) (b : Before) (s : ℕ) → n < 16 → AtPublishers n b → Goes b (publisher_lines (publisher n s).0) (AtPublishers (suc n))
 publisher_step n b s lt h =
     let begun = base_step n b s lt h in
-    (begun.0, λ made. refl, updates_go n (after b (lines.Publisher n (base s).0)) (base s).1 begun.1)
+    (begun.0, (λ made. refl, λ c p. refl), updates_go n (after b (lines.Publisher n (base s).0)) (base s).1 begun.1)
 
 -- ---- clients
 
@@ -352,13 +352,13 @@ rows_go n k b x y z h c is_x is_y is_z =
     let h2 : AtRows 200 b2 = row_after_upto 180 200 b2 (omega arith) (row_after 100 180 b1 y h1 is_y) in
     let h3 : AtRows 250 b3 = row_after 200 250 b2 z h2 is_z in (
       row_line_fits 2 82 b x (omega arith) (omega arith) h is_x,
-      λ made. refl,
+      (λ made. refl, λ c p. refl),
       (
         row_line_fits 100 180 b1 y (omega arith) (omega arith) h1 is_y,
-        λ made. refl,
+        (λ made. refl, λ c p. refl),
         (
           row_line_fits 200 250 b2 z (omega arith) (omega arith) h2 is_z,
-          λ made. refl,
+          (λ made. refl, λ c p. refl),
           record {
             place = record { sub = rw h3.place refl; client = rw h3.place refl; ends = rw h3.place refl };
             counts = counts_kept (suc n) (16 * n + k) b2 z (counts_kept (suc n) (16 * n + k) b1 y (counts_kept (suc n) (16 * n + k) b x c));
@@ -372,7 +372,7 @@ sub_step n t b s few lt h =
     let s1 = (row 2 80 s).1 in
     let s2 = (row 100 80 s1).1 in (
       sub_fits n t b few lt h,
-      λ made. refl,
+      (λ made. refl, λ c p. refl),
       rows_go n (suc t) (after b (lines.Sub t Market Any 10 1000)) (row 2 80 s).0 (row 100 80 s1).0 (row 200 50 s2).0 (record { place = refl; indexes = tt }) (sub_after n t b h) (row_fits 2 80 s (omega arith))
           (row_fits 100 80 s1 (omega arith)) (row_fits 200 50 s2 (omega arith)),
     )
@@ -416,7 +416,7 @@ client_end n b h =
 client_step : (n : ℕ) (b : Before) (s : ℕ) → n < 4 → AtClients n b → Goes b (client_lines (client s).0) (AtClients (suc n))
 client_step n b s few h = (
   client_fits n b few h,
-  λ made. refl,
+  (λ made. refl, λ c p. refl),
   goes_then (after b lines.Client) (flat_map step_lines (made subscription 16 s)) (AtSubs n 16) (AtClients (suc n))
       (goes_each subscription step_lines (AtSubs n) 16 (λ t c k lt i. sub_step n t c k few lt i) 16 s (after b lines.Client) (omega arith) (client_begun n b h)) (client_end n),
 )
@@ -473,12 +473,13 @@ whole_goes seed =
     let b0 = after (start version.One) (lines.Queues 4) in
     let names = map topic_line (map topic_name (range_with_len 0 16)) in
     let publishers = flat_map publisher_lines (made publisher 16 seed) in
-    let clients = flat_map client_lines (made (λ k. client) 4 (behind publisher 16 seed)) in (
+    let clients = flat_map client_lines (made (λ k. client) 4 (behind publisher 16 seed)) in
+    let none : List Line = [] in (
       record { form = (omega arith, omega arith); place = refl; sound = refl },
-      λ made. refl,
-      goes_both b0 names (publishers ++ clients) (AtTopics 16) (λ c. may_end c.place ≡ true) (topics_go 16 0 b0 (omega arith) begun)
-          (λ b1 h1. goes_both b1 publishers clients (AtPublishers 16) (λ c. may_end c.place ≡ true) (publishers_go b1 seed (topics_end b1 h1))
-          (λ b2 h2. clients_go b2 (behind publisher 16 seed) (publishers_end b2 h2))),
+      (λ made. refl, λ c p. refl),
+      goes_both b0 names (publishers ++ (clients ++ none)) (AtTopics 16) (λ c. may_end c.place ≡ true) (topics_go 16 0 b0 (omega arith) begun)
+          (λ b1 h1. goes_both b1 publishers (clients ++ none) (AtPublishers 16) (λ c. may_end c.place ≡ true) (publishers_go b1 seed (topics_end b1 h1))
+          (λ b2 h2. goes_both b2 clients none (λ c. may_end c.place ≡ true) (λ c. may_end c.place ≡ true) (clients_go b2 (behind publisher 16 seed) (publishers_end b2 h2)) (λ b3 h3. h3))),
     )
 
 shaped : (seed : ℕ) → IsShaped (script seed).0
@@ -488,6 +489,7 @@ shaped seed =
       topics = refl;
       publishers = sym (numbers_of topic_of_part publisher (λ n s. refl) 16 seed);
       strategy = refl;
+      senders = tt;
     }
 
 pub seed_is_script : (seed : ℕ) → IsScript (script_of_seed seed)

@@ -123,14 +123,16 @@ subscription_text topic d s1 s2 out head one two three at_head at_one at_s1 at_t
 whole_shape : (a b c d : List ℕ) → ((a ++ b) ++ c) ++ d ≡ a ++ (b ++ (c ++ d))
 whole_shape a b c d = simp append_assoc
 
+-- the lists behind the clients are empty
 pub whole_text : (topics publishers clients : List Line)
-    → ((codes "mama script 1\nqueues 4\n" ++ flat_map ended topics) ++ flat_map ended publishers) ++ flat_map ended clients ≡ spelling (lines.Queues 4 ∷ (topics ++ (publishers ++ clients)))
+    → ((codes "mama script 1\nqueues 4\n" ++ flat_map ended topics) ++ flat_map ended publishers) ++ flat_map ended clients ≡ spelling (lines.Queues 4 ∷ (topics ++ (publishers ++ (clients ++ []))))
 whole_text topics publishers clients =
     whole_shape (codes "mama script 1\nqueues 4\n") (flat_map ended topics) (flat_map ended publishers) (flat_map ended clients)
     ∙ ap (λ (t : List ℕ). codes "mama script 1\nqueues 4\n" ++ (flat_map ended topics ++ t)) (sym (flat_map-append ended publishers clients))
     ∙ ap (λ (t : List ℕ). codes "mama script 1\nqueues 4\n" ++ t) (sym (flat_map-append ended topics (publishers ++ clients)))
     ∙ ap (λ (t : List ℕ). codes "mama script 1\nqueues " ++ ((t ++ 10 ∷ []) ++ flat_map ended (topics ++ (publishers ++ clients)))) (sym decimal_4)
     ∙ ap (λ (t : List ℕ). codes "mama script 1\nqueues " ++ ((t ++ 10 ∷ []) ++ flat_map ended (topics ++ (publishers ++ clients)))) (sym (append-nil (decimal 4)))
+    ∙ ap (λ (ls : List Line). spelling (lines.Queues 4 ∷ (topics ++ (publishers ++ ls)))) (sym (append-nil clients))
 
 -- the lines of each thing, one thing behind the other
 pub lines_text : {X : Type 0} (g : X → List Line) (xs : List X) → flat_map ended (flat_map g xs) ≡ flat_map (λ x. flat_map ended (g x)) xs

@@ -100,6 +100,8 @@ script = do
     topics = map topic_name (range_with_len 0 16);
     publishers = publishers;
     clients = clients;
+    groups = [];
+    watches = [];
   })
 
 -- the script that the draws from a seed make

@@ -14,7 +14,7 @@ use Rattle.mama_journal.specs.Lane.{by_port}
 use Rattle.mama_lane.specs.declared.view.View.{View}
 use Rattle.mama_lane.specs.declared.view.Role.{Role}
 use Rattle.mama_lane.specs.declared.view.Role.TheVariants.{Taker, Port, Note, Spent}
-use Rattle.mama_lane.specs.Steps.{opener, spent, bound, with_port, next_port, with_put, with_taken, noted_port, with_learnt, with_closed}
+use Rattle.mama_lane.specs.Steps.{opener, spent, bound, with_port, next_port, with_put, with_taken, with_learnt, with_closed}
 use Rattle.mama_lane.specs.Rule.{notes_of, Fits, Kept, IsKept, CameFromPort, IsCaughtUp, AreBegun}
 use Rattle.mama_lane.proofs.Lists.{by_port-append, by_port_here, by_port_else, each_map, each_both, each_snoc, changed, changed_here, changed_else, changed_cases, first_of, at_end, at_same, at_there, not_empty}
 

@@ -1,7 +1,7 @@
 -- What a queue puts: calm events by each entry, and Bye with the second Fin, which is the last entry.
-use Rattle.std.specs.Prelude.{not, ◌==◌}
+use Rattle.std.specs.Prelude.{not, ◌==◌, nat_lt}
 use Rattle.std.specs.List.{AllByRecursion, flat_map, list_any, list_all}
-use Rattle.std.proofs.Common.{◌≡◌, ℕ, zero, suc, ◌+◌, ◌≤◌, Bool, true, false, ◌&&◌, ◌||◌, cond, List, [], ◌∷◌, ◌++◌, map, refl, sym, ◌∙◌, ap, subst, arith, append_assoc}
+use Rattle.std.proofs.Common.{◌≡◌, ℕ, zero, suc, ◌+◌, ◌≤◌, Bool, true, false, ◌&&◌, ◌||◌, cond, List, [], ◌∷◌, ◌++◌, map, refl, sym, ◌∙◌, ap, subst, arith, append_assoc, append-nil}
 use Rattle.std.proofs.lemmas.Bool.{and_parts, and_from, not-true, or_right}
 use Rattle.std.proofs.lemmas.List.Concat.{flat_map-append}
 use Rattle.std.proofs.lemmas.List.Folds.{list_any-append, list_all-append}
@@ -25,9 +25,13 @@ use Rattle.mama_event.specs.declared.to_queue.QueueNote.{QueueNote}
 use Rattle.mama_event.specs.declared.to_queue.QueueNote.TheVariants as q
 use Rattle.mama_event.specs.declared.to_bridge.BridgeNote.TheVariants as b
 use Rattle.mama_event.specs.declared.to_timers.TimersNote.TheVariants as t
-use Rattle.mama_rules_queue.specs.Queue.{Deed, handled, called, QueuePut, to_bridge, to_timers, order_put, wish_put, puts_of, is_fin, bye_put, deeds_at, queue_puts_at}
+use Rattle.mama_event.specs.declared.watch.WatchRow.{WatchRow}
+use Rattle.mama_event.specs.declared.watch.WatchNote.{WatchNote}
+use Rattle.mama_event.specs.declared.watch.WatchNote.TheVariants.{Retry, Timeout}
+use Rattle.mama_rules_queue.specs.Queue.{Deed, handled, called, QueuePut, to_bridge, to_timers, order_put, wish_put, puts_of, is_fin, bye_put, deeds, deeds_at}
+use Rattle.mama_rules_queue.specs.Watch.{is_missed, counted, watch_note, watch_notes_at, wish_in, wishes_at, watched_puts_at}
 use Rattle.mama_rules_rounds.specs.Client.{bridge_part, timers_part}
-use Rattle.mama_rules_rounds.specs.World.{orders_by}
+use Rattle.mama_rules_rounds.specs.World.{orders_by, rows_on}
 use Rattle.mama_laws_allowed.specs.Allowed.{QueuePutsAreLawful}
 use Rattle.mama_laws_allowed.proofs.Following.{ruled, is_calm, comes, calm_first}
 
@@ -94,14 +98,37 @@ free port before n es here lawful =
     (and_parts (not (flag port before)) (queue.fits port (by_port port before) n)
     (IsLawful-at queue.is_last (queue.fits port) (by_port port before) n (by_port port es) (subst (IsLawful queue.is_last (queue.fits port)) whole lawful))).0
 
+-- ---- the wishes of watches
+
+-- at a Fin no watch wishes
+no_wishes : (orders : ObjectId → ℕ → List Order) (rows : List WatchRow) (before : List (ℕ × QueueNote)) (port : ℕ) → wishes_at orders rows before (port, q.Fin) ≡ []
+no_wishes orders [] before port = refl
+no_wishes orders (row ∷ rows) before port =
+    more row (wishes_at orders rows before (port, q.Fin)) (is_missed row.sub (before ++ (port, q.Fin) ∷ []) (deeds orders (before ++ (port, q.Fin) ∷ [])))
+    (watch_note row.retries (suc (counted orders row before))) (no_wishes orders rows before port)
+  where
+    more : (row : WatchRow) (rest : List QueuePut) (missed : Bool) (notes : ℕ → List WatchNote) → rest ≡ [] → flat_map (wish_in row) (flat_map notes (cond missed [] [])) ++ rest ≡ []
+    more row rest true notes h = h
+    more row rest false notes h = h
+
+-- so it is the same whether wishes go behind Bye or before it
+swapped : (orders : ObjectId → ℕ → List Order) (rows : List WatchRow) (before : List (ℕ × QueueNote)) (e : ℕ × QueueNote)
+    → bye_put before e ++ wishes_at orders rows before e ≡ wishes_at orders rows before e ++ bye_put before e
+swapped orders rows before (port, q.Fin) =
+    let bye : List QueuePut = bye_put before (port, q.Fin) in
+    let none : wishes_at orders rows before (port, q.Fin) ≡ [] = no_wishes orders rows before port in
+    ap (λ (ws : List QueuePut). bye ++ ws) none ∙ append-nil bye ∙ sym (ap (λ (ws : List QueuePut). ws ++ bye) none)
+swapped orders rows before (port, n) = sym (append-nil (wishes_at orders rows before (port, n)))
+
 -- ---- what is put on one of the two lanes
 
 module _ {N : Type 0} (last within : N → Bool) (part : QueuePut → List N)
     (order_calm : (o : Order) → list_all (is_calm last within) (part (order_put o)) ≡ true)
     (wish_calm : (o : ObjectId) (c : Callback) → list_all (is_calm last within) (flat_map part (wish_put o c)) ≡ true)
+    (row_calm : (row : WatchRow) (n : WatchNote) → list_all (is_calm last within) (flat_map part (wish_in row n)) ≡ true)
     (bye : N) (bye_last : last bye ≡ true) (bye_within : within bye ≡ true)
     (byes : (test : Bool) → flat_map part (cond test (to_bridge b.Bye ∷ to_timers t.Bye ∷ []) []) ≡ cond test (bye ∷ []) [])
-    (orders : ObjectId → ℕ → List Order) where
+    (orders : ObjectId → ℕ → List Order) (rows : List WatchRow) where
   both_calm : (xs ys : List N) → list_all (is_calm last within) xs ≡ true → list_all (is_calm last within) ys ≡ true → list_all (is_calm last within) (xs ++ ys) ≡ true
   both_calm xs ys hx hy = list_all-append (is_calm last within) xs ys ∙ and_from (list_all (is_calm last within) xs) (list_all (is_calm last within) ys) hx hy
 
@@ -118,8 +145,19 @@ module _ {N : Type 0} (last within : N → Bool) (part : QueuePut → List N)
       ∙ both_calm (flat_map part (wish_put object call) ++ flat_map part (map order_put os)) (flat_map part (flat_map puts_of ds))
       (both_calm (flat_map part (wish_put object call)) (flat_map part (map order_put os)) (wish_calm object call) (orders_calm os)) (deeds_calm ds)
 
+  each_calm : {X : Type 0} (f : X → List QueuePut) → ((x : X) → list_all (is_calm last within) (flat_map part (f x)) ≡ true) → (xs : List X)
+      → list_all (is_calm last within) (flat_map part (flat_map f xs)) ≡ true
+  each_calm f calm [] = refl
+  each_calm f calm (x ∷ xs) =
+      ap (list_all (is_calm last within)) (flat_map-append part (f x) (flat_map f xs)) ∙ both_calm (flat_map part (f x)) (flat_map part (flat_map f xs)) (calm x) (each_calm f calm xs)
+
+  wishes_calm : (before : List (ℕ × QueueNote)) (e : ℕ × QueueNote) → list_all (is_calm last within) (flat_map part (wishes_at orders rows before e)) ≡ true
+  wishes_calm before e =
+      each_calm (λ (row : WatchRow). flat_map (wish_in row) (watch_notes_at orders row before e))
+      (λ row. each_calm (wish_in row) (row_calm row) (watch_notes_at orders row before e)) rows
+
   abbrev put_after : List (ℕ × QueueNote) → List (ℕ × QueueNote) → List N
-  put_after before es = flat_map part (puts_after (queue_puts_at orders) before es)
+  put_after before es = flat_map part (puts_after (watched_puts_at orders rows) before es)
 
   finish : (test : Bool) (front rest : List N) → list_any last front ≡ false → ((further : List N) → list_any last further ≡ test → ruled last within further rest ≡ true)
       → ruled last within front (cond test (bye ∷ []) [] ++ rest) ≡ true
@@ -134,15 +172,23 @@ module _ {N : Type 0} (last within : N → Bool) (part : QueuePut → List N)
       → ruled last within sofar (put_after before (e ∷ es)) ≡ true
   enter before e es sofar test none is more =
       let deeds : List QueuePut = flat_map puts_of (deeds_at orders before e) in
+      let wishes : List QueuePut = wishes_at orders rows before e in
       let rest : List N = put_after (before ++ e ∷ []) es in
       let said : flat_map part (bye_put before e) ≡ cond test (bye ∷ []) [] =
       ap (λ (x : Bool). flat_map part (cond x (to_bridge b.Bye ∷ to_timers t.Bye ∷ []) [])) is ∙ byes test in
-      let parts : put_after before (e ∷ es) ≡ flat_map part deeds ++ (cond test (bye ∷ []) [] ++ rest) =
-      flat_map-append part (deeds ++ bye_put before e) (puts_after (queue_puts_at orders) (before ++ e ∷ []) es)
-      ∙ ap (λ (ns : List N). ns ++ rest) (flat_map-append part deeds (bye_put before e) ∙ ap (λ (ns : List N). flat_map part deeds ++ ns) said)
-      ∙ append_assoc (flat_map part deeds) (cond test (bye ∷ []) []) rest in
+      let behind : (deeds ++ bye_put before e) ++ wishes ≡ (deeds ++ wishes) ++ bye_put before e =
+      append_assoc deeds (bye_put before e) wishes ∙ ap (λ (ps : List QueuePut). deeds ++ ps) (swapped orders rows before e) ∙ sym (append_assoc deeds wishes (bye_put before e)) in
+      let calm : List N = flat_map part (deeds ++ wishes) in
+      let parts : put_after before (e ∷ es) ≡ calm ++ (cond test (bye ∷ []) [] ++ rest) =
+      flat_map-append part ((deeds ++ bye_put before e) ++ wishes) (puts_after (watched_puts_at orders rows) (before ++ e ∷ []) es)
+      ∙ ap (λ (ns : List N). ns ++ rest)
+      (ap (flat_map part) behind ∙ flat_map-append part (deeds ++ wishes) (bye_put before e) ∙ ap (λ (ns : List N). calm ++ ns) said)
+      ∙ append_assoc calm (cond test (bye ∷ []) []) rest in
       ap (ruled last within sofar) parts
-      ∙ calm_first last within sofar (flat_map part deeds) (cond test (bye ∷ []) [] ++ rest) none (deeds_calm (deeds_at orders before e)) (λ front none_yet. finish test front rest none_yet more)
+      ∙ calm_first last within sofar calm (cond test (bye ∷ []) [] ++ rest) none
+      (ap (list_all (is_calm last within)) (flat_map-append part deeds wishes)
+      ∙ both_calm (flat_map part deeds) (flat_map part wishes) (deeds_calm (deeds_at orders before e)) (wishes_calm before e))
+      (λ front none_yet. finish test front rest none_yet more)
 
   all_ruled : (before es : List (ℕ × QueueNote)) → AllByRecursion (λ (e : ℕ × QueueNote). e.0 ≤ queue_port_of_timers) es
       → ((port : ℕ) → IsLawful queue.is_last (queue.fits port) (by_port port (before ++ es)))
@@ -233,14 +279,30 @@ timers_byes : (test : Bool) → flat_map timers_part (cond test (to_bridge b.Bye
 timers_byes true = refl
 timers_byes false = refl
 
+bridge_row : (bounds : Bounds) (row : WatchRow) (n : WatchNote) → list_all (is_calm bridge.is_last (bridge.is_within bounds)) (flat_map bridge_part (wish_in row n)) ≡ true
+bridge_row bounds row (Retry count moment) = either (nat_lt 0 row.sender)
+  where
+    either : (test : Bool) → list_all (is_calm bridge.is_last (bridge.is_within bounds)) (flat_map bridge_part (cond test (to_bridge (b.RecapWish row.sub row.sender) ∷ []) [])) ≡ true
+    either true = refl
+    either false = refl
+bridge_row bounds row (Timeout moment) = refl
+
+timers_row : (bounds : Bounds) (row : WatchRow) (n : WatchNote) → list_all (is_calm timers.is_last (timers.is_within bounds)) (flat_map timers_part (wish_in row n)) ≡ true
+timers_row bounds row (Retry count moment) = either (nat_lt 0 row.sender)
+  where
+    either : (test : Bool) → list_all (is_calm timers.is_last (timers.is_within bounds)) (flat_map timers_part (cond test (to_bridge (b.RecapWish row.sub row.sender) ∷ []) [])) ≡ true
+    either true = refl
+    either false = refl
+timers_row bounds row (Timeout moment) = refl
+
 pub queues_lawful : QueuePutsAreLawful
-queues_lawful setting bounds journal taken =
+queues_lawful setting bounds queue_number journal taken =
     let ports = recursion_from_All (λ (e : ℕ × QueueNote). e.0 ≤ queue_port_of_timers) journal taken.ports in
     record {
       to_bridge = record {
-        each = all_ruled bridge.is_last (bridge.is_within bounds) bridge_part (bridge_order bounds) (bridge_wish bounds) b.Bye refl refl bridge_byes (orders_by setting) [] journal ports taken.each refl [] refl;
+        each = all_ruled bridge.is_last (bridge.is_within bounds) bridge_part (bridge_order bounds) (bridge_wish bounds) (bridge_row bounds) b.Bye refl refl bridge_byes (orders_by setting) (rows_on queue_number setting.watches) [] journal ports taken.each refl [] refl;
       };
       to_timers = record {
-        each = all_ruled timers.is_last (timers.is_within bounds) timers_part (timers_order bounds) (timers_wish bounds) t.Bye refl refl timers_byes (orders_by setting) [] journal ports taken.each refl [] refl;
+        each = all_ruled timers.is_last (timers.is_within bounds) timers_part (timers_order bounds) (timers_wish bounds) (timers_row bounds) t.Bye refl refl timers_byes (orders_by setting) (rows_on queue_number setting.watches) [] journal ports taken.each refl [] refl;
       };
     }

@@ -46,7 +46,7 @@ pub record IsTakenLawfully (journal : List (ℕ × QueueNote)) : Type 0 where
   pub each : (port : ℕ) → IsLawful queue.is_last (queue.fits port) (by_port port journal)
 
 abbrev pub QueuePutsAreLawful : Type 0
-QueuePutsAreLawful = (setting : Setting) (bounds : Bounds) (journal : List (ℕ × QueueNote)) → IsTakenLawfully journal → ArePutsLawful bounds (queue_puts setting journal)
+QueuePutsAreLawful = (setting : Setting) (bounds : Bounds) (q : ℕ) (journal : List (ℕ × QueueNote)) → IsTakenLawfully journal → ArePutsLawful bounds (queue_puts setting q journal)
 
 -- a publisher's entry comes in time: a Settle after Done and once, and after it nothing but Fin
 abbrev pub comes_in_time : List PublisherEntry → PublisherEntry → Bool

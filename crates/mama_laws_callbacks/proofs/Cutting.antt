@@ -423,6 +423,34 @@ module _ (orders : ObjectId → ℕ → List Order) (o : ObjectId) where
             (told_other whole sofar (served orders before sofar e.1) (other_told before sofar e.1 other) told)
       ]) refl
 
+  walk_silent : (before : List (ℕ × QueueNote)) (sofar : List Deed) (es : List (ℕ × QueueNote)) → events_of o es ≡ [] → told_in o sofar ≡ [] → told_in o (walk before sofar es) ≡ []
+  walk_silent before sofar [] none silent = silent
+  walk_silent before sofar (e ∷ es) none silent =
+      (elim (is_of o e.1) as (λ (b : Bool). is_of o e.1 ≡ b → told_in o (walk before sofar (e ∷ es)) ≡ []) [
+        | true ↦ λ own. let some : e.1 ∷ events_of o es ≡ [] = events_one e es [] own none in absurd cc
+        | false ↦ λ other.
+            walk_silent (before ++ e ∷ []) (grown before sofar e) es (events_none e es [] other none)
+            (told_append sofar (served orders before sofar e.1) ∙ ap (λ (cs : List Callback). cs ++ told_in o (served orders before sofar e.1)) silent ∙ other_told before sofar e.1 other)
+      ]) refl
+
+  -- where a journal has none of its events it was told nothing
+  pub told_nothing : (front : List (ℕ × QueueNote)) → events_of o front ≡ [] → told_in o (deeds orders front) ≡ []
+  told_nothing front none = walk_silent [] [] front none refl
+
+  -- the Create is what makes it
+  pub made_as : (front : List (ℕ × QueueNote)) (slot : ℕ) (how : Make) (tag : ObjectId) (rest : List QueueNote) → events_of o front ≡ q.Create slot o how tag ∷ rest → first_said make_of front ≡ Some how
+  made_as [] slot how tag rest events = absurd cc
+  made_as (e ∷ es) slot how tag rest events =
+      (elim (is_of o e.1) as (λ (b : Bool). is_of o e.1 ≡ b → first_said make_of (e ∷ es) ≡ Some how) [
+        | true ↦ λ mine.
+            let is : e.1 ∷ events_of o es ≡ q.Create slot o how tag ∷ rest = events_one e es (q.Create slot o how tag ∷ rest) mine events in
+            let this : e.1 ≡ q.Create slot o how tag = cc in
+            ap (λ (n : QueueNote). option_or (make_in o n) (first_said make_of es)) this ∙ ap (λ (b : Bool). option_or (if b then Some how else None) (first_said make_of es)) (same_object-refl o)
+        | false ↦ λ other.
+            ap (λ (m : Option Make). option_or m (first_said make_of es)) (other_make e.1 other)
+            ∙ made_as es slot how tag rest (events_none e es (q.Create slot o how tag ∷ rest) other events)
+      ]) refl
+
   -- Each event of the object between its Create and its Gone is note x, of some x, which adds its callbacks to those of
   -- the ones before it.
   module _ {X : Type 0} (how : Make) (note : X → QueueNote) (total : List X → List Callback) (Known : List X → List Deed → Type 0) (nothing : total [] ≡ [])
@@ -560,6 +588,16 @@ module _ (orders : ObjectId → ℕ → List Order) (o : ObjectId) where
         let live : Live (Known xs) (total xs) (deeds orders front) = walk_born xs [] [] front refl refl known events in
         ⊎_elim
         (λ h. live.calls ∙ ap (λ (cs : List Callback). on.Create ∷ cs) (sym (live.parts ∙ ap (λ (cs : List Callback). live.told ++ cs) h.0 ∙ append-nil live.told)))
+        (λ h. absurd (both_ways (is_muted o (deeds orders front)) free h.1))
+        live.stands
+
+    -- and what is known of its events is known
+    pub known_at_once : (xs : List X) (front : List (ℕ × QueueNote)) → Known [] [] → events_of o front ≡ q.Create slot o how tag ∷ map note xs
+        → is_muted o (deeds orders front) ≡ false → Known xs (deeds orders front)
+    known_at_once xs front known events free =
+        let live : Live (Known xs) (total xs) (deeds orders front) = walk_born xs [] [] front refl refl known events in
+        ⊎_elim
+        (λ h. h.1.1)
         (λ h. absurd (both_ways (is_muted o (deeds orders front)) free h.1))
         live.stands
 

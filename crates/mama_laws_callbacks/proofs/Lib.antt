@@ -4,3 +4,8 @@ pub mod Joining
 pub mod Objects
 pub mod Plainly
 pub mod Words
+pub mod Watching
+pub mod Placing
+pub mod Grouping
+pub mod Members
+pub mod States

@@ -32,7 +32,7 @@ use Rattle.mama_rules_legal.specs.Streams.{is_of, events_of}
 use Rattle.mama_laws_genuine.proofs.Handled.{none_made}
 use Rattle.mama_laws_callbacks.specs.Told.{told_in, told_from, tells, ticks_told, reply_told, replies_told, IsTold, TellsAtOnce}
 use Rattle.mama_laws_callbacks.specs.Word.{messages_read}
-use Rattle.mama_laws_callbacks.proofs.Cutting.{told_append, Live, live_open, live_muted, live_one, told_by_journal, told_at_once}
+use Rattle.mama_laws_callbacks.proofs.Cutting.{told_append, Live, live_open, live_muted, live_one, told_by_journal, told_at_once, known_at_once}
 
 -- ---- what a context makes of one arrival more
 
@@ -176,6 +176,14 @@ module _ (orders : ObjectId → ℕ → List Order) (s : SubId) where
       → TellsAtOnce (Sub s) (make.Sub kind size strategy) (λ slot a. delivered_note slot s a) (tells strategy kind size) orders journal
   sub_at_once strategy kind size journal front back slot tag arrivals cut events free =
       told_at_once orders (Sub s) (make.Sub kind size strategy) (λ (a : Arrival). delivered_note slot s a) (tells strategy kind size) HasHandled refl
+      keeps_handled starts_handled (own_arrival strategy kind size slot) slot tag arrivals front refl events free
+
+  -- and the messages among what arrived are those that it handled
+  pub sub_handled : (strategy : Strategy) (kind : SubKind) (size slot : ℕ) (tag : ObjectId) (arrivals : List Arrival) (front : List (ℕ × QueueNote))
+      → events_of (Sub s) front ≡ q.Create slot (Sub s) (make.Sub kind size strategy) tag ∷ map (λ (a : Arrival). delivered_note slot s a) arrivals
+      → is_muted (Sub s) (deeds orders front) ≡ false → messages_of s (deeds orders front) ≡ messages_read arrivals
+  sub_handled strategy kind size slot tag arrivals front events free =
+      known_at_once orders (Sub s) (make.Sub kind size strategy) (λ (a : Arrival). delivered_note slot s a) (tells strategy kind size) HasHandled refl
       keeps_handled starts_handled (own_arrival strategy kind size slot) slot tag arrivals front refl events free
 
 -- ---- timers and inboxes

@@ -1,3 +1,5 @@
 pub mod Told
 pub mod Plain
 pub mod Word
+pub mod Watched
+pub mod Grouped

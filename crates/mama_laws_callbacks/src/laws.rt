@@ -1,5 +1,7 @@
+ghost use Rattle.mama_laws_callbacks.specs.Grouped.{LegalGroupsAreTrue};
 ghost use Rattle.mama_laws_callbacks.specs.Plain.{LegalRecordsTellPlainly};
 ghost use Rattle.mama_laws_callbacks.specs.Told.{LegalRecordsTellAll};
+ghost use Rattle.mama_laws_callbacks.specs.Watched.{LegalWatchesAreTrue};
 ghost use Rattle.mama_laws_callbacks.specs.Word.{LastWordsAreTrue};
 
 /// A law: in a legal record of a script each subscription of the script is told what its strategy makes of exactly the
@@ -23,4 +25,19 @@ pub fn legal_records_tell_plainly()
 /// the quality of the image that it then has.
 pub fn last_words_are_true()
     ensures { LastWordsAreTrue }
+{}
+
+/// A law: in a legal record a watch noted a timeout only at a tick of its timer that was called back, behind which its
+/// subscription was live, was not muted and had no image, after as many such ticks as it has retries. It noted at most one,
+/// and no more retries than its row has, and as many where it noted a timeout.
+pub fn legal_watches_are_true()
+    ensures { LegalWatchesAreTrue }
+{}
+
+/// A law: in a legal record of a script a group heard the callbacks of its members and its states as its queue's journal has
+/// them; at each place of that journal the state that a group was told last is its state
+/// by its members, and where it is fresh each of its members that is not ended has an image that is ok, and it is its sender's
+/// record at its number.
+pub fn legal_groups_are_true()
+    ensures { LegalGroupsAreTrue }
 {}

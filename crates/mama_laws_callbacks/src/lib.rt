@@ -7,9 +7,14 @@
 //! follows the notice; and while it is not muted it is told at once (`specs/Told.antt`). So it is in every legal record,
 //! whichever thread ran what when ([`legal_records_tell_all`]). Over a plain link that is each message from the first image
 //! on, as ok ([`legal_records_tell_plainly`], `specs/Plain.antt`). And the last word on quality is true of the image
-//! ([`last_words_are_true`], `specs/Word.antt`).
+//! ([`last_words_are_true`], `specs/Word.antt`). A watch tells its timeout only after its retries, at a tick that found no
+//! image ([`legal_watches_are_true`], `specs/Watched.antt`). A group is told its state, and where that is fresh each member that is
+//! not ended has its sender's record ([`legal_groups_are_true`], `specs/Grouped.antt`).
 #![tactic(auto)]
 
 mod laws;
 
-pub use laws::{last_words_are_true, legal_records_tell_all, legal_records_tell_plainly};
+pub use laws::{
+    last_words_are_true, legal_groups_are_true, legal_records_tell_all, legal_records_tell_plainly,
+    legal_watches_are_true,
+};

@@ -24,12 +24,12 @@ use Rattle.mama_rules_services.specs.Bridge.{BridgePut, bridge_puts_at}
 use Rattle.mama_rules_services.specs.Timers.{timers_puts_at}
 use Rattle.mama_rules_services.specs.Ports.{Putter, bridge_putter, timers_putter, queue_putter}
 use Rattle.mama_rules_services.specs.Ports as ports
-use Rattle.mama_rules_queue.specs.Queue.{QueuePut, queue_puts_at}
+use Rattle.mama_rules_queue.specs.Queue.{QueuePut}
 use Rattle.mama_script.specs.declared.client.ClientLine.{ClientLine}
 use Rattle.mama_script.specs.Script.{ScriptData}
 use Rattle.mama_record.specs.RunData.{RunData}
 use Rattle.mama_rules_rounds.specs.Client.{Standing, at_first, after_line, bridge_part, timers_part}
-use Rattle.mama_rules_rounds.specs.World.{Setting, World, no_section, orders_by, publisher_part, queue_part, timer_part}
+use Rattle.mama_rules_rounds.specs.World.{Setting, World, no_section, puts_on, publisher_part, queue_part, timer_part}
 use Rattle.mama_rules_rounds.specs.Round.{setting_of}
 use Rattle.mama_rules_legal.specs.Edges.{taken_by, put_on_bridge, put_on_timers, put_to_publisher, put_on_queue}
 use Rattle.mama_laws_legal.proofs.Worlds.{Holds}
@@ -125,12 +125,12 @@ module _ (script : ScriptData) (run : RunData) (done : ℕ → List QueuePut) (w
   shape = script.shape
 
   -- what a queue put one way
-  queue_met : {V : Type 0} (part : QueuePut → List V) (q k : ℕ) → q < queues_of shape → k < length (flat_map part (puts (queue_puts_at (orders_by setting)) (slice_index_or w.queues q [])))
-      → IsMet o.turns (option_map (entry_of (queue_actor shape q)) (slice_get (parted part (numbered (queue_puts_at (orders_by setting)) (slice_index_or run.queues q []))) k))
+  queue_met : {V : Type 0} (part : QueuePut → List V) (q k : ℕ) → q < queues_of shape → k < length (flat_map part (puts (puts_on setting q) (slice_index_or w.queues q [])))
+      → IsMet o.turns (option_map (entry_of (queue_actor shape q)) (slice_get (parted part (numbered (puts_on setting q) (slice_index_or run.queues q []))) k))
   queue_met {V} part q k low inside =
-      let at : List (ℕ × QueueNote) → ℕ × QueueNote → List QueuePut = queue_puts_at (orders_by setting) in
+      let at : List (ℕ × QueueNote) → ℕ × QueueNote → List QueuePut = puts_on setting q in
       let journal : List (ℕ × QueueNote) = slice_index_or w.queues q [] in
-      journal_met o.turns (queue_actor shape q) (queue_puts_at (orders_by setting)) part (slice_index_or w.queues q []) (slice_index_or run.queues q []) (flat_map part (puts at journal)) k
+      journal_met o.turns (queue_actor shape q) (puts_on setting q) part (slice_index_or w.queues q []) (slice_index_or run.queues q []) (flat_map part (puts at journal)) k
       (o.queues q low) (first.queues q)
       (parted_puts part (numbered at journal) ∙ ap (flat_map part) (numbered_puts at journal)) inside
 

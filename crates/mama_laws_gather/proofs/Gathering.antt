@@ -101,11 +101,12 @@ module _ (script : ScriptData) (run : RunData) (orderly : IsOrderly script) (tak
   }
 
 pub gathered : GatheredIsLegal
-gathered script run orderly shaped lines taken ended calls = record {
+gathered script run orderly shaped lines taken ended calls lists = record {
   shaped = shaped;
   lines = lines;
   edges = edges_whole script run orderly taken ended;
   calls = calls;
+  lists = lists;
 }
 
 pub lines_done : StoppedPublishersSentOut → GatheredDoLines

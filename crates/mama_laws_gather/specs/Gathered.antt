@@ -13,7 +13,7 @@ use Rattle.mama_record.specs.RunData.{RunData}
 use Rattle.mama_rules_rounds.specs.Round.{setting_of}
 use Rattle.mama_rules_legal.specs.Edges.{client_puts, put_on_bridge, put_on_timers, put_to_publisher, put_on_queue, taken_by}
 use Rattle.mama_rules_legal.specs.Lines.{AreLines}
-use Rattle.mama_rules_legal.specs.Calls.{IsShapedFor, AreCalls}
+use Rattle.mama_rules_legal.specs.Calls.{IsShapedFor, AreCalls, AreLists}
 use Rattle.mama_rules_legal.specs.Legal.{IsLegal}
 use Rattle.mama_laws_legal.specs.Laws.{IsOrderly}
 
@@ -36,7 +36,7 @@ pub record HaveEnded (script : ScriptData) (run : RunData) : Type 0 where
   pub timers : (q : ℕ) → q < queues_of script.shape → list_any timers.is_last (by_port (timers_port_of_queue script.shape q) run.timers) ≡ true
 
 -- Whichever thread ran what when: where what was taken begins what was put, and all that take have ended, a record of which
--- every line was done, and whose callbacks and images are those of its journals, is legal.
+-- every line was done, and whose callbacks, images and lists are those of its journals, is legal.
 abbrev pub GatheredIsLegal : Type 0
-GatheredIsLegal = (script : ScriptData) (run : RunData) → IsOrderly script → IsShapedFor script run → AreLines script run → AreGathered script run → HaveEnded script run → AreCalls script run
+GatheredIsLegal = (script : ScriptData) (run : RunData) → IsOrderly script → IsShapedFor script run → AreLines script run → AreGathered script run → HaveEnded script run → AreCalls script run → AreLists script run
     → IsLegal script run

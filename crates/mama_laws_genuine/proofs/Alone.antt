@@ -1,7 +1,7 @@
 -- A subscription on a topic that one publisher of the script has is fed by that publisher alone, wherever every edge is
 -- whole, whichever thread ran what when. No publisher is asked for an update, so the subscription's updates are those that
 -- the publishers of its topic send by their lines, of which there is one. Its queue wishes recaps of the senders of its
--- updates alone. So the bridge asks no other publisher for an image of it.
+-- updates, and its watches of the first publisher of its topic. So the bridge asks no other publisher for an image of it.
 use Rattle.std.specs.Prelude.{◌-◌, slice_index, slice_index_or, slice_get, position, if◌then◌else◌, ◌⊎◌, Option, None, Some}
 use Rattle.std.specs.List.{AllByRecursion, flat_map}
 use Rattle.std.proofs.Common.{◌≡◌, ℕ, zero, suc, ◌+◌, ◌<◌, ◌==◌, Bool, true, false, List, [], ◌∷◌, ◌++◌, length, refl, sym, ◌∙◌, ap, subst, arith, inl, inr, zero-add}
@@ -34,10 +34,10 @@ use Rattle.mama_rules_services.specs.Timers.{timers_puts}
 use Rattle.mama_rules_queue.specs.Queue.{QueuePut}
 use Rattle.mama_rules_queue.specs.Queue as queue
 use Rattle.mama_script.specs.Script.{ScriptData}
-use Rattle.mama_script.specs.Tree.{IsShaped}
+use Rattle.mama_script.specs.Tree.{IsShaped, first_sender}
 use Rattle.mama_record.specs.RunData.{RunData}
 use Rattle.mama_rules_rounds.specs.Client.{bridge_part}
-use Rattle.mama_rules_rounds.specs.World.{Setting, no_section, orders_by, publisher_part, queue_part}
+use Rattle.mama_rules_rounds.specs.World.{Setting, no_section, orders_by, rows_on, publisher_part, queue_part}
 use Rattle.mama_rules_rounds.specs.Round.{setting_of}
 use Rattle.mama_rules_legal.specs.Edges.{AreEdges, client_puts, queue_puts, put_on_bridge, put_to_publisher, put_on_queue, taken_by}
 use Rattle.mama_rules_legal.specs.Streams.{terms_of}
@@ -49,8 +49,9 @@ use Rattle.mama_laws_genuine.proofs.Elements.{all_if, all_flat_map, all_map, all
 use Rattle.mama_laws_genuine.proofs.Lines.{length-publishers, number-publishers}
 use Rattle.mama_laws_genuine.proofs.Timing.{all_timers_puts}
 use Rattle.mama_laws_genuine.proofs.Asking.{OwnUpdate}
-use Rattle.mama_laws_genuine.proofs.Wishing.{Brings, Wishes, WishPut, all_wished}
+use Rattle.mama_laws_genuine.proofs.Wishing.{Brings, Wishes, WishPut, OwnRow, all_wished}
 use Rattle.mama_laws_genuine.proofs.Feeding.{Feeds, Wants, InPut, all_fed}
+use Rattle.mama_laws_genuine.proofs.Topics.{first_is, all_rows_on, rows_own}
 use Rattle.mama_laws_genuine.proofs.Joining.{Joins, JoinPut, joins_on}
 
 -- ---- the one publisher of a topic
@@ -260,7 +261,8 @@ module _ (shape : Shape) (s : SubId) (wanted : ℕ) (FromPublisher : ℕ → Bri
 
 module _ (script : ScriptData) (counted : IsShaped script) (run : RunData) (edges : AreEdges script run)
     (s : SubId) (wanted r : ℕ) (lone : IsOnly wanted script.shape.publisher_topics r)
-    (known : (c : ℕ) → AllByRecursion (JoinPut s wanted) (client_puts script run.clients c)) where
+    (known : (c : ℕ) → AllByRecursion (JoinPut s wanted) (client_puts script run.clients c))
+    (rows : AllByRecursion (OwnRow s (r + 1)) script.watches) where
   abbrev shape : Shape
   shape = script.shape
 
@@ -283,7 +285,7 @@ module _ (script : ScriptData) (counted : IsShaped script) (run : RunData) (edge
   publisher_put n = publisher_puts (slice_index_or setting.publishers n no_section) (slice_index_or run.publishers n [])
 
   abbrev queue_put : ℕ → List BridgeNote
-  queue_put k = flat_map bridge_part (queue_puts setting (slice_index_or run.queues k []))
+  queue_put k = flat_map bridge_part (queue_puts setting k (slice_index_or run.queues k []))
 
   -- what the bridge took, where it is known what publishers and queues put
   all_fit : (FromPublisher : ℕ → BridgeNote → Type 0) (FromQueue : BridgeNote → Type 0)
@@ -360,8 +362,8 @@ module _ (script : ScriptData) (counted : IsShaped script) (run : RunData) (edge
   own_wishes : (k : ℕ) → k < queues_of shape → AllByRecursion (Wishes s (r + 1)) (queue_put k)
   own_wishes k within =
       let journal : List (ℕ × QueueNote) = slice_index_or run.queues k [] in
-      all_flat_map (WishPut s (r + 1)) (Wishes s (r + 1)) bridge_part bridge_wish (queue_puts setting journal)
-      (all_wished s (r + 1) (orders_by setting) journal
+      all_flat_map (WishPut s (r + 1)) (Wishes s (r + 1)) bridge_part bridge_wish (queue_puts setting k journal)
+      (all_wished s (r + 1) (orders_by setting) (rows_on k setting.watches) (all_rows_on (OwnRow s (r + 1)) script rows k) journal
       (all_from_ports (Brings s (OwnUpdate (r + 1))) journal
       (λ port. subst (AllByRecursion (Brings s (OwnUpdate (r + 1)))) (sym (edges.queues k within port)) (updates_brought k (queue_putter port)))))
 
@@ -454,3 +456,19 @@ pub fed_alone : (script : ScriptData) → IsShaped script → (run : RunData) �
 fed_alone script counted run edges s wanted r lone terms said topic =
     fed_by script counted run edges s wanted r lone
     (λ c. subst (λ (n : ℕ). AllByRecursion (JoinPut s n) (client_puts script run.clients c)) topic (joins_on s script run.clients terms said c))
+    (rows_own script counted run s terms said r (first_own terms.topic topic))
+  where
+    next_id : 1 + r ≡ r + 1
+    next_id = omega arith
+
+    less_known : (k : ℕ) → k < r → k < length script.shape.publisher_topics
+    less_known k below = omega (arith, lone.known)
+
+    too_low : (k : ℕ) → k < r → k ≡ r → ⊥
+    too_low k below same = omega arith
+
+    first_own : (t : ℕ) → t ≡ wanted → first_sender t 1 script.shape.publisher_topics ≡ r + 1
+    first_own t is =
+        ap (λ (n : ℕ). first_sender n 1 script.shape.publisher_topics) is
+        ∙ first_is wanted script.shape.publisher_topics 1 r lone.known lone.topic
+        (λ k below same. absurd (too_low k below (lone.alone k (less_known k below) same))) ∙ next_id

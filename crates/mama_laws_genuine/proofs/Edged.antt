@@ -23,7 +23,7 @@ use Rattle.mama_rules_queue.specs.Queue as queue
 use Rattle.mama_script.specs.Script.{ScriptData}
 use Rattle.mama_record.specs.RunData.{RunData}
 use Rattle.mama_rules_rounds.specs.Client.{bridge_part}
-use Rattle.mama_rules_rounds.specs.World.{no_section, orders_by, publisher_part, queue_part}
+use Rattle.mama_rules_rounds.specs.World.{no_section, orders_by, rows_on, publisher_part, queue_part}
 use Rattle.mama_rules_rounds.specs.Round.{publishers_from, all_client_steps, setting_of}
 use Rattle.mama_rules_legal.specs.Calls.{IsShapedFor}
 use Rattle.mama_rules_legal.specs.Edges.{client_puts, queue_puts, put_on_bridge, put_on_queue, taken_by, AreEdges}
@@ -144,8 +144,8 @@ module _ (script : ScriptData) (run : RunData) (shaped : IsShapedFor script run)
   all_on_bridge (ByPublisher r) = all_published r
   all_on_bridge (ByQueue k) =
       let journal : List (ℕ × QueueNote) = slice_index_or run.queues k [] in
-      all_flat_map (InQueuePut Such Replied) (InBridgeNote Such Replied) bridge_part (in_bridge_part Such Replied) (queue_puts (setting_of script) journal)
-      (all_queue_puts Such Replied (orders_by (setting_of script)) journal)
+      all_flat_map (InQueuePut Such Replied) (InBridgeNote Such Replied) bridge_part (in_bridge_part Such Replied) (queue_puts (setting_of script) k journal)
+      (all_queue_puts Such Replied (orders_by (setting_of script)) (rows_on k (setting_of script).watches) journal)
   all_on_bridge ByBridge = tt
   all_on_bridge ByTimers = tt
   all_on_bridge ByNobody = tt

@@ -46,12 +46,12 @@ use Rattle.mama_laws_genuine.proofs.Edged.{queues_sent}
 
 -- ---- images
 
-abbrev Told : List PublisherScript → ℕ × QueueNote → Type 0
+abbrev pub Told : List PublisherScript → ℕ × QueueNote → Type 0
 Told publishers e = Delivers (IsSent publishers) (IsReply publishers) e.1
 
 module _ (publishers : List PublisherScript) where
   -- an image that is ok is a record
-  abbrev IsRecordIfOk : LastImage → Type 0
+  abbrev pub IsRecordIfOk : LastImage → Type 0
   IsRecordIfOk image = image.head.quality ≡ quality.Ok → IsRecord publishers image
 
   image_record : (s : SubId) (sender last : ℕ) (body : List FieldData) → IsPinned publishers sender last body
@@ -91,7 +91,7 @@ module _ (publishers : List PublisherScript) where
   made s (Some make.Inbox) messages all = folded s One Basic 0 messages all
   made s None messages all = folded s One Basic 0 messages all
 
-  of_journal : (setting : Setting) (s : SubId) (journal : List (ℕ × QueueNote)) → AllByRecursion (Told publishers) journal
+  pub of_journal : (setting : Setting) (s : SubId) (journal : List (ℕ × QueueNote)) → AllByRecursion (Told publishers) journal
       → AllByRecursion IsRecordIfOk (image_in s (context_of (first_said (λ (e : ℕ × QueueNote). make_in (Sub s) e.1) journal) (messages_of s (deeds (orders_by setting) journal))))
   of_journal setting s journal all =
       made s (first_said (λ (e : ℕ × QueueNote). make_in (Sub s) e.1) journal) (messages_of s (deeds (orders_by setting) journal))

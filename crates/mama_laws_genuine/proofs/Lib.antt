@@ -21,6 +21,7 @@ pub mod Asking
 pub mod Wishing
 pub mod Feeding
 pub mod Joining
+pub mod Topics
 pub mod Alone
 pub mod Queued
 pub mod CalmLinks

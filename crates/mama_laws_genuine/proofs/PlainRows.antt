@@ -41,6 +41,8 @@ script = record {
   topics = [];
   publishers = part 0 ∷ part 1 ∷ part 0 ∷ [];
   clients = (line.NowClock ∷ sub_line 1 [] ∷ sub_line 1 (record { index = 1; fault = Lose } ∷ []) ∷ sub_line 0 [] ∷ []) ∷ [];
+  groups = [];
+  watches = [];
 }
 
 abbrev sub : ℕ → SubId

@@ -1,5 +1,5 @@
 -- What the timer service and the queues put carries no message.
-use Rattle.std.specs.Prelude.{◌&&◌}
+use Rattle.std.specs.Prelude.{◌&&◌, nat_lt}
 use Rattle.std.specs.List.{AllByRecursion, list_any, flat_map}
 use Rattle.std.proofs.Common.{ℕ, ◌==◌, List, [], ◌∷◌, ◌++◌, map, Option, None, Some}
 use Rattle.mama_journal.specs.Journal.{count_of, turns, numbers_below, puts}
@@ -20,8 +20,12 @@ use Rattle.mama_event.specs.declared.to_timers.TimersNote.TheVariants as t
 use Rattle.mama_event.specs.declared.to_queue.QueueNote.{QueueNote}
 use Rattle.mama_event.specs.declared.to_queue.QueueNote.TheVariants as q
 use Rattle.mama_event.specs.declared.to_queue.Make.TheVariants as make
+use Rattle.mama_event.specs.declared.watch.WatchRow.{WatchRow}
+use Rattle.mama_event.specs.declared.watch.WatchNote.{WatchNote}
+use Rattle.mama_event.specs.declared.watch.WatchNote.TheVariants.{Retry, Timeout}
 use Rattle.mama_rules_services.specs.Timers.{TimersEvent, arms, disarms, now, heard, clock, is_live, live_timers, firing, has_ending, place_of, to_place, arms_timer, free_slot, gone, answer, ending_comes, timers_reaction, timers_puts}
 use Rattle.mama_rules_queue.specs.Queue.{to_bridge, to_timers, Deed, handled, called, order_put, wish_put, puts_of, is_fin, bye_put, deeds_at, queue_puts_at}
+use Rattle.mama_rules_queue.specs.Watch.{watch_notes_at, wish_in, wishes_at, watched_puts_at}
 use Rattle.mama_laws_genuine.specs.Sent.{Delivers}
 use Rattle.mama_laws_genuine.proofs.Elements.{all_append, all_if, all_flat, all_mapped, all_any, all_weaker, all_puts_after, all_puts_so_far}
 use Rattle.mama_laws_genuine.proofs.Carried.{InQueuePut}
@@ -114,7 +118,22 @@ module _ (G : MarketMsg → Type 0) (R : List FieldData → Type 0) where
       (all_flat (InQueuePut G R) puts_of all_put (deeds_at orders journal e))
       (all_if (InQueuePut G R) (is_fin e && count_of is_fin journal == 1) (to_bridge b.Bye ∷ to_timers t.Bye ∷ []) [] (tt, (tt, tt)) tt)
 
-  pub all_queue_puts : (orders : ObjectId → ℕ → List Order) (journal : List (ℕ × QueueNote)) → AllByRecursion (InQueuePut G R) (puts (queue_puts_at orders) journal)
-  all_queue_puts orders journal =
-      all_puts_after (λ (e : ℕ × QueueNote). Unit {0}) (InQueuePut G R) (queue_puts_at orders) (λ before e h. all_put_at orders before e)
+  row_wished : (row : WatchRow) (n : WatchNote) → AllByRecursion (InQueuePut G R) (wish_in row n)
+  row_wished row (Retry count moment) = all_if (InQueuePut G R) (nat_lt 0 row.sender) (to_bridge (b.RecapWish row.sub row.sender) ∷ []) [] (tt, tt) tt
+  row_wished row (Timeout moment) = tt
+
+  watch_wished : (orders : ObjectId → ℕ → List Order) (journal : List (ℕ × QueueNote)) (e : ℕ × QueueNote) (row : WatchRow)
+      → AllByRecursion (InQueuePut G R) (flat_map (wish_in row) (watch_notes_at orders row journal e))
+  watch_wished orders journal e row = all_flat (InQueuePut G R) (wish_in row) (row_wished row) (watch_notes_at orders row journal e)
+
+  all_watched_at : (orders : ObjectId → ℕ → List Order) (rows : List WatchRow) (journal : List (ℕ × QueueNote)) (e : ℕ × QueueNote)
+      → AllByRecursion (InQueuePut G R) (watched_puts_at orders rows journal e)
+  all_watched_at orders rows journal e =
+      all_append (InQueuePut G R) (queue_puts_at orders journal e) (wishes_at orders rows journal e) (all_put_at orders journal e)
+      (all_flat (InQueuePut G R) (λ (row : WatchRow). flat_map (wish_in row) (watch_notes_at orders row journal e)) (watch_wished orders journal e) rows)
+
+  pub all_queue_puts : (orders : ObjectId → ℕ → List Order) (rows : List WatchRow) (journal : List (ℕ × QueueNote))
+      → AllByRecursion (InQueuePut G R) (puts (watched_puts_at orders rows) journal)
+  all_queue_puts orders rows journal =
+      all_puts_after (λ (e : ℕ × QueueNote). Unit {0}) (InQueuePut G R) (watched_puts_at orders rows) (λ before e h. all_watched_at orders rows before e)
       [] journal (all_any (λ (e : ℕ × QueueNote). Unit {0}) (λ e. tt) journal)

@@ -1,5 +1,6 @@
--- A queue wishes recaps for a subscription of the sender alone that all its updates are of.
-use Rattle.std.specs.Prelude.{◌&&◌, not, if◌then◌else◌, Option, Some, None}
+-- A queue wishes recaps for a subscription of the sender alone that all its updates are of, where the watches of the subscription
+-- name that sender.
+use Rattle.std.specs.Prelude.{◌&&◌, not, nat_lt, if◌then◌else◌, Option, Some, None}
 use Rattle.std.specs.List.{AllByRecursion, flat_map}
 use Rattle.std.proofs.Common.{◌≡◌, ℕ, ◌+◌, ◌==◌, true, false, List, [], ◌∷◌, ◌++◌, map, length, refl, sym, subst}
 use Rattle.mama_journal.specs.Journal.{count_of, first_said, puts}
@@ -21,11 +22,15 @@ use Rattle.mama_event.specs.declared.to_queue.Make.{Make}
 use Rattle.mama_event.specs.declared.to_queue.Make.TheVariants as make
 use Rattle.mama_event.specs.declared.to_queue.QueueNote.{QueueNote}
 use Rattle.mama_event.specs.declared.to_queue.QueueNote.TheVariants as q
+use Rattle.mama_event.specs.declared.watch.WatchRow.{WatchRow}
+use Rattle.mama_event.specs.declared.watch.WatchNote.{WatchNote}
+use Rattle.mama_event.specs.declared.watch.WatchNote.TheVariants.{Retry, Timeout}
 use Rattle.mama_event.specs.declared.shape.Strategy.TheVariants.{One}
 use Rattle.mama_dq.specs.Strategy.{callbacks_of}
 use Rattle.mama_rules_queue.specs.Queue.{Deed, handled, called, calls_of, messages_in, messages_of, is_muted, is_destroy, made, make_in, context_of, served, deeds, deeds_at, QueuePut, to_bridge, to_timers, order_put, wish_put, puts_of, is_fin, bye_put, queue_puts_at}
+use Rattle.mama_rules_queue.specs.Watch.{watch_notes_at, wish_in, wishes_at, watched_puts_at}
 use Rattle.mama_laws_legal.proofs.Lives.{same_sub-is}
-use Rattle.mama_laws_genuine.proofs.Elements.{all_append, all_if, all_flat_map, all_mapped, all_puts_known, all_puts_so_far}
+use Rattle.mama_laws_genuine.proofs.Elements.{all_append, all_if, all_flat, all_flat_map, all_mapped, all_puts_known, all_puts_so_far}
 use Rattle.mama_laws_genuine.proofs.Asking.{Asks, OwnUpdate, all_ask}
 
 -- the note brings the subscription no other message than such
@@ -51,6 +56,10 @@ module _ (s : SubId) (own : ℕ) where
   abbrev pub WishPut : QueuePut → Type 0
   WishPut (to_bridge note) = Wishes note
   WishPut (to_timers note) = Unit {0}
+
+  -- a watch of the subscription names this sender
+  abbrev pub OwnRow : WatchRow → Type 0
+  OwnRow row = same_sub row.sub s ≡ true → row.sender ≡ own
 
   abbrev InDeed : Deed → Type 0
   InDeed (handled sub msg) = same_sub sub s ≡ true → Mine msg
@@ -134,5 +143,18 @@ module _ (s : SubId) (own : ℕ) where
         (all_flat_map InDeed WishPut puts_of all_put (deeds_at orders before e) (all_served before (deeds orders before) (all_deeds before all) e.1 h))
         (all_if WishPut (is_fin e && count_of is_fin before == 1) (to_bridge b.Bye ∷ to_timers t.Bye ∷ []) [] (tt, (tt, tt)) tt)
 
-    pub all_wished : (journal : List (ℕ × QueueNote)) → AllByRecursion Taken journal → AllByRecursion WishPut (puts (queue_puts_at orders) journal)
-    all_wished journal all = all_puts_known Taken WishPut (queue_puts_at orders) all_put_at [] journal tt all
+    row_wished : (row : WatchRow) → OwnRow row → (n : WatchNote) → AllByRecursion WishPut (wish_in row n)
+    row_wished row is (Retry count moment) = all_if WishPut (nat_lt 0 row.sender) (to_bridge (b.RecapWish row.sub row.sender) ∷ []) [] (is, tt) tt
+    row_wished row is (Timeout moment) = tt
+
+    watch_wished : (before : List (ℕ × QueueNote)) (e : ℕ × QueueNote) (row : WatchRow) → OwnRow row → AllByRecursion WishPut (flat_map (wish_in row) (watch_notes_at orders row before e))
+    watch_wished before e row is = all_flat WishPut (wish_in row) (row_wished row is) (watch_notes_at orders row before e)
+
+    module _ (rows : List WatchRow) (named : AllByRecursion OwnRow rows) where
+      all_watched_at : (before : List (ℕ × QueueNote)) (e : ℕ × QueueNote) → AllByRecursion Taken before → Taken e → AllByRecursion WishPut (watched_puts_at orders rows before e)
+      all_watched_at before e all h =
+          all_append WishPut (queue_puts_at orders before e) (wishes_at orders rows before e) (all_put_at before e all h)
+          (all_flat_map OwnRow WishPut (λ (row : WatchRow). flat_map (wish_in row) (watch_notes_at orders row before e)) (watch_wished before e) rows named)
+
+      pub all_wished : (journal : List (ℕ × QueueNote)) → AllByRecursion Taken journal → AllByRecursion WishPut (puts (watched_puts_at orders rows) journal)
+      all_wished journal all = all_puts_known Taken WishPut (watched_puts_at orders rows) all_watched_at [] journal tt all

@@ -33,7 +33,7 @@ pub record HasPlainLink (script : ScriptData) (s : SubId) : Type 0 where
   pub faultless : terms.faults ≡ []
   pub alone : publishers_on script.shape terms.topic ≡ 1
 
--- where an object is such a subscription, its callbacks tell no gap, no change of quality, no late update and no error, and ask for no recap
+-- where an object is such a subscription, its callbacks tell no gap, no change of quality, no late update and no error, nor a wish for a recap
 abbrev pub AreCalmFor : ScriptData → ObjectId → List CallNote → Type 0
 AreCalmFor script (Sub s) calls = HasPlainLink script s → AllByRecursion (λ (n : CallNote). IsCalm n.call) calls
 AreCalmFor script (Timer t) calls = Unit {0}
@@ -45,7 +45,7 @@ pub record HasCalmCalls (script : ScriptData) (p : Planned) (c : ObjectCalls) : 
   pub calm : AreCalmFor script p.object c.calls
 
 -- In a run a subscription without fault rows, on a topic that exactly one publisher has, is told no gap, no change of
--- quality, no late update and no error, and asks for no recap.
+-- quality, no late update and no error, and no callback of it asks for a recap, as a watch may.
 abbrev pub AreLinksCalm : ScriptData → RunData → Type 0
 AreLinksCalm script run = AllZip (HasCalmCalls script) (setting_of script).objects run.calls
 

@@ -179,14 +179,14 @@ module _ (script : ScriptData) (run : RunData) (shaped : IsShaped script) (someo
         (λ c small within. any_weaker is_client_done bridge.is_last (by_port c run.bridge) client_done_last (said_has is_client_done (by_port c run.bridge) (said script run shaped edges c small)))
         (λ p small within. any_weaker is_settled bridge.is_last (by_port (clients_of script.shape + p) run.bridge) settled_last (settled_of_lines script run shaped edges lines p small))
         (λ q small within. ap (list_any bridge.is_last) (edges.bridge (clients_of script.shape + publishers_of script.shape + q) ∙ ap (put_on_bridge (setting_of script) (client_puts script run.clients) run.publishers run.queues) (putter_queue script.shape q small))
-        ∙ any_flat bridge.is_last bridge_part (queue_puts (setting_of script) (slice_index_or run.queues q []))
-        ∙ queue_bye (setting_of script) (λ out. list_any bridge.is_last (bridge_part out)) refl (slice_index_or run.queues q []) (byes q small))
+        ∙ any_flat bridge.is_last bridge_part (queue_puts (setting_of script) q (slice_index_or run.queues q []))
+        ∙ queue_bye (setting_of script) (λ out. list_any bridge.is_last (bridge_part out)) refl q (slice_index_or run.queues q []) (byes q small))
         (λ port past within. absurd (omega arith));
     timers = by_timers_port script.shape (λ port who. port ≤ timers_port_of_bridge script.shape → list_any timers.is_last (by_port port run.timers) ≡ true)
         (λ c small within. any_weaker timers_done timers.is_last (by_port c run.timers) timers_done_last (timers_of_client c small))
         (λ q small within. ap (list_any timers.is_last) (edges.timers (clients_of script.shape + q) ∙ ap (put_on_timers (setting_of script) (client_puts script run.clients) run.queues run.bridge) (timers_queue script.shape q small))
-        ∙ any_flat timers.is_last timers_part (queue_puts (setting_of script) (slice_index_or run.queues q []))
-        ∙ queue_bye (setting_of script) (λ out. list_any timers.is_last (timers_part out)) refl (slice_index_or run.queues q []) (byes q small))
+        ∙ any_flat timers.is_last timers_part (queue_puts (setting_of script) q (slice_index_or run.queues q []))
+        ∙ queue_bye (setting_of script) (λ out. list_any timers.is_last (timers_part out)) refl q (slice_index_or run.queues q []) (byes q small))
         (λ within. any_weaker timers_fin_note timers.is_last (by_port (clients_of script.shape + queues_of script.shape) run.timers) timers_fin_last fin_to_timers)
         (λ port past within. absurd (omega arith));
     publishers = λ p inside.

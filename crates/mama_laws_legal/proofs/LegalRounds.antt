@@ -1,6 +1,6 @@
 -- The record of a run in rounds is legal, and in a legal record each object got its stream.
 use Rattle.mama_laws_legal.specs.Laws.{LegalRecordsHaveStreams, RoundsAreLegal}
-use Rattle.mama_laws_legal.proofs.Whole.{whole_edges, shaped, calls_told}
+use Rattle.mama_laws_legal.proofs.Whole.{whole_edges, shaped, calls_told, lists_told}
 use Rattle.mama_laws_legal.proofs.AllSent.{lines_done}
 use Rattle.mama_laws_legal.proofs.LastEvents.{all_last, some_client}
 use Rattle.mama_laws_legal.proofs.SubJournals.{sub_streams}
@@ -21,4 +21,5 @@ rounds_are_legal script run orderly is = record {
   lines = lines_done script run orderly.shaped is;
   edges = whole_edges script run is;
   calls = calls_told script run is;
+  lists = lists_told script run is;
 }

@@ -18,9 +18,9 @@ use Rattle.mama_rules_services.specs.Bridge as bridge
 use Rattle.mama_rules_services.specs.Timers.{timers_puts, timers_puts_at, timers_reaction}
 use Rattle.mama_rules_services.specs.Timers as timers
 use Rattle.mama_rules_services.specs.Ports.{ByPublisher, ByQueue, ByBridge, ByTimers, ByNobody, bridge_putter, timers_putter, queue_putter}
-use Rattle.mama_rules_queue.specs.Queue.{QueuePut, queue_puts_at}
+use Rattle.mama_rules_queue.specs.Queue.{QueuePut}
 use Rattle.mama_rules_rounds.specs.Client.{bridge_part, timers_part}
-use Rattle.mama_rules_rounds.specs.World.{Setting, no_section, orders_by, queue_part, timer_part}
+use Rattle.mama_rules_rounds.specs.World.{Setting, no_section, puts_on, queue_part, timer_part}
 use Rattle.mama_rules_legal.specs.Edges.{put_on_bridge, put_on_timers, put_on_queue, queue_puts}
 pub use Rattle.mama_rules_services.proofs.PutterPorts.{by_bridge_port, by_timers_port, by_queue_port}
 use Rattle.mama_laws_legal.proofs.Lists.{by_port-append, grows}
@@ -51,11 +51,11 @@ pub timers_part-push : (q : ℕ) (shape : Shape) (journal : List (ℕ × TimersN
 timers_part-push q shape journal e =
     ap (by_port q) (timers_puts-push shape journal e) ∙ by_port-append q (timers_puts shape journal) (timers_puts_at shape journal e)
 
-pub queue_part-push : {V : Type 0} (part : QueuePut → List V) (setting : Setting) (journal : List (ℕ × QueueNote)) (e : ℕ × QueueNote)
-    → flat_map part (queue_puts setting (journal ++ e ∷ [])) ≡ flat_map part (queue_puts setting journal) ++ flat_map part (queue_puts_at (orders_by setting) journal e)
-queue_part-push part setting journal e =
-    ap (flat_map part) (puts-push (queue_puts_at (orders_by setting)) journal e)
-    ∙ flat_map-append part (queue_puts setting journal) (queue_puts_at (orders_by setting) journal e)
+pub queue_part-push : {V : Type 0} (part : QueuePut → List V) (setting : Setting) (q : ℕ) (journal : List (ℕ × QueueNote)) (e : ℕ × QueueNote)
+    → flat_map part (queue_puts setting q (journal ++ e ∷ [])) ≡ flat_map part (queue_puts setting q journal) ++ flat_map part (puts_on setting q journal e)
+queue_part-push part setting q journal e =
+    ap (flat_map part) (puts-push (puts_on setting q) journal e)
+    ∙ flat_map-append part (queue_puts setting q journal) (puts_on setting q journal e)
 
 -- one of many journals grows by an entry
 pub grown_one : {E V : Type 0} (put : ℕ → List E → List V) (js : List (List E)) (p r : ℕ) (j : List E) (vs : List V) → p < length js
@@ -107,17 +107,17 @@ pub queue_more : (setting : Setting) (done : ℕ → List QueuePut) (ps : List (
     → q < queues_of setting.shape → q < length qs → (port : ℕ)
     → put_on_bridge setting done ps (slice_set qs q (slice_index_or qs q [] ++ e ∷ [])) (bridge_putter setting.shape port)
     ≡ put_on_bridge setting done ps qs (bridge_putter setting.shape port)
-    ++ cond (bridge_port_of_queue setting.shape q == port) (flat_map bridge_part (queue_puts_at (orders_by setting) (slice_index_or qs q []) e)) []
+    ++ cond (bridge_port_of_queue setting.shape q == port) (flat_map bridge_part (puts_on setting q (slice_index_or qs q []) e)) []
 queue_more setting done ps qs q e small inside =
     let j : List (ℕ × QueueNote) = slice_index_or qs q [] ++ e ∷ [] in
-    let vs : List BridgeNote = flat_map bridge_part (queue_puts_at (orders_by setting) (slice_index_or qs q []) e) in
-    let put : ℕ → List (ℕ × QueueNote) → List BridgeNote = λ n journal. flat_map bridge_part (queue_puts setting journal) in
+    let vs : List BridgeNote = flat_map bridge_part (puts_on setting q (slice_index_or qs q []) e) in
+    let put : ℕ → List (ℕ × QueueNote) → List BridgeNote = λ n journal. flat_map bridge_part (queue_puts setting n journal) in
     let base : ℕ = clients_of setting.shape + publishers_of setting.shape in
     by_bridge_port setting.shape (λ port who. put_on_bridge setting done ps (slice_set qs q j) who ≡ put_on_bridge setting done ps qs who ++ cond (clients_of setting.shape + publishers_of setting.shape + q == port) vs [])
     (λ c within. grows (base + q) c (flat_map bridge_part (done c)) vs (flat_map bridge_part (done c)) (λ same. absurd (omega arith)) (λ apart. refl))
     (λ p within. grows (base + q) (clients_of setting.shape + p) (put_on_bridge setting done ps qs (ByPublisher p)) vs (put_on_bridge setting done ps qs (ByPublisher p)) (λ same. absurd (omega arith)) (λ apart. refl))
     (λ r within. grows (base + q) (base + r) (put r (slice_index_or qs r [])) vs (put r (slice_index_or (slice_set qs q j) r []))
-    (λ same. grown_one put qs q r j vs inside (queue_part-push bridge_part setting (slice_index_or qs q []) e) (omega arith))
+    (λ same. grown_one put qs q r j vs inside (queue_part-push bridge_part setting q (slice_index_or qs q []) e) (omega arith))
     (λ apart. kept_one put qs q r j (λ same. apart (ap (λ (n : ℕ). base + n) same))))
     (λ port past. grows (base + q) port (put_on_bridge setting done ps qs ByNobody) vs (put_on_bridge setting done ps qs ByNobody) (λ same. absurd (omega arith)) (λ apart. refl))
 
@@ -142,15 +142,15 @@ pub queue_more_t : (setting : Setting) (done : ℕ → List QueuePut) (qs : List
     → q < queues_of setting.shape → q < length qs → (port : ℕ)
     → put_on_timers setting done (slice_set qs q (slice_index_or qs q [] ++ e ∷ [])) bridge (timers_putter setting.shape port)
     ≡ put_on_timers setting done qs bridge (timers_putter setting.shape port)
-    ++ cond (timers_port_of_queue setting.shape q == port) (flat_map timers_part (queue_puts_at (orders_by setting) (slice_index_or qs q []) e)) []
+    ++ cond (timers_port_of_queue setting.shape q == port) (flat_map timers_part (puts_on setting q (slice_index_or qs q []) e)) []
 queue_more_t setting done qs bridge q e small inside =
     let j : List (ℕ × QueueNote) = slice_index_or qs q [] ++ e ∷ [] in
-    let vs : List TimersNote = flat_map timers_part (queue_puts_at (orders_by setting) (slice_index_or qs q []) e) in
-    let put : ℕ → List (ℕ × QueueNote) → List TimersNote = λ n journal. flat_map timers_part (queue_puts setting journal) in
+    let vs : List TimersNote = flat_map timers_part (puts_on setting q (slice_index_or qs q []) e) in
+    let put : ℕ → List (ℕ × QueueNote) → List TimersNote = λ n journal. flat_map timers_part (queue_puts setting n journal) in
     by_timers_port setting.shape (λ port who. put_on_timers setting done (slice_set qs q j) bridge who ≡ put_on_timers setting done qs bridge who ++ cond (clients_of setting.shape + q == port) vs [])
     (λ c within. grows (clients_of setting.shape + q) c (flat_map timers_part (done c)) vs (flat_map timers_part (done c)) (λ same. absurd (omega arith)) (λ apart. refl))
     (λ r within. grows (clients_of setting.shape + q) (clients_of setting.shape + r) (put r (slice_index_or qs r [])) vs (put r (slice_index_or (slice_set qs q j) r []))
-    (λ same. grown_one put qs q r j vs inside (queue_part-push timers_part setting (slice_index_or qs q []) e) (omega arith))
+    (λ same. grown_one put qs q r j vs inside (queue_part-push timers_part setting q (slice_index_or qs q []) e) (omega arith))
     (λ apart. kept_one put qs q r j (λ same. apart (ap (λ (n : ℕ). clients_of setting.shape + n) same))))
     (grows (clients_of setting.shape + q) (clients_of setting.shape + queues_of setting.shape) (put_on_timers setting done qs bridge ByBridge) vs (put_on_timers setting done qs bridge ByBridge)
     (λ same. absurd (omega arith)) (λ apart. refl))

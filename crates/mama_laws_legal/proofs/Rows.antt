@@ -37,6 +37,8 @@ script = record {
   topics = [];
   publishers = [];
   clients = (line.Sub 0 Basic (Number 0) 0 0 [] [] ∷ []) ∷ [];
+  groups = [];
+  watches = [];
 }
 
 -- its record: the client's ClientDone brings the ending, which ends the subscription
@@ -49,6 +51,8 @@ run = record {
   queues = ((0, q.Create 0 (Sub s) (make.Sub Basic 0 strategy.One) (Sub s)) ∷ (0, q.Gone 0 (Sub s)) ∷ (0, q.Fin) ∷ (1, q.Fin) ∷ []) ∷ [];
   calls = record { object = Sub s; calls = record { call = on.Create; orders = [] } ∷ record { call = on.Destroy; orders = [] } ∷ [] } ∷ [];
   images = [];
+  groups = [];
+  watches = [];
 }
 
 -- it is what two steps of the client leave, each with the passes that drain it

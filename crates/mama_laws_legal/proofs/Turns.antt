@@ -21,7 +21,8 @@ use Rattle.mama_rules_services.specs.Timers.{TimersEvent, live_timers, gone, tim
 use Rattle.mama_rules_services.specs.Timers as timers
 use Rattle.mama_rules_queue.specs.Queue.{QueuePut, is_fin, bye_put, queue_puts_at, deeds_at, puts_of}
 use Rattle.mama_rules_queue.specs.Queue as lane
-use Rattle.mama_rules_rounds.specs.World.{Setting, orders_by}
+use Rattle.mama_rules_rounds.specs.World.{Setting, orders_by, rows_on, puts_on}
+use Rattle.mama_rules_queue.specs.Watch.{wishes_at}
 use Rattle.mama_rules_legal.specs.Edges.{queue_puts}
 use Rattle.mama_journal.specs.EntryLaws.{by_entries, puts-push, all_puts-push}
 
@@ -146,12 +147,14 @@ second before e turned =
     by_case true same now was = let one : count_of is_fin before ≡ 1 = omega arith in eq-eqb (count_of is_fin before) 1 one
     by_case false same now was = absurd (omega arith)
 
-pub queue_bye : (setting : Setting) (test : QueuePut → Bool) → list_any test (lane.to_bridge b.Bye ∷ lane.to_timers t.Bye ∷ []) ≡ true → (journal : List (ℕ × QueueNote)) → 2 ≤ count_of is_fin journal
-    → list_any test (queue_puts setting journal) ≡ true
-queue_bye setting test is journal two = puts_turn (queue_puts_at (orders_by setting)) twice test refl
-    (λ before e turned. list_any-append test (flat_map puts_of (deeds_at (orders_by setting) before e)) (bye_put before e)
+pub queue_bye : (setting : Setting) (test : QueuePut → Bool) → list_any test (lane.to_bridge b.Bye ∷ lane.to_timers t.Bye ∷ []) ≡ true → (q : ℕ) (journal : List (ℕ × QueueNote)) → 2 ≤ count_of is_fin journal
+    → list_any test (queue_puts setting q journal) ≡ true
+queue_bye setting test is q journal two = puts_turn (puts_on setting q) twice test refl
+    (λ before e turned. list_any-append test (queue_puts_at (orders_by setting) before e) (wishes_at (orders_by setting) (rows_on q setting.watches) before e)
+    ∙ or_left (list_any test (queue_puts_at (orders_by setting) before e)) (list_any test (wishes_at (orders_by setting) (rows_on q setting.watches) before e))
+    (list_any-append test (flat_map puts_of (deeds_at (orders_by setting) before e)) (bye_put before e)
     ∙ or_right (list_any test (flat_map puts_of (deeds_at (orders_by setting) before e))) (list_any test (bye_put before e))
-    (ap (λ (c : Bool). list_any test (cond c (lane.to_bridge b.Bye ∷ lane.to_timers t.Bye ∷ []) [])) (second before e turned) ∙ is))
+    (ap (λ (c : Bool). list_any test (cond c (lane.to_bridge b.Bye ∷ lane.to_timers t.Bye ∷ []) [])) (second before e turned) ∙ is)))
     journal (le-leb 2 (count_of is_fin journal) two)
 
 -- a Fin by each port makes two

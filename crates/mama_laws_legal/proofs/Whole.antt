@@ -24,7 +24,7 @@ use Rattle.mama_rules_rounds.specs.World.{Setting, World, no_section, publisher_
 use Rattle.mama_rules_rounds.specs.Stage.{Stage, client_stepped, client_step, entries_done, publisher_stepped, publisher_step, IsStageDrained, IsOver}
 use Rattle.mama_rules_rounds.specs.Round.{publishers_from, publisher_line_steps, publisher_steps, setting_of, no_journals, start, record_of, IsRound}
 use Rattle.mama_rules_legal.specs.Edges.{all_steps, client_puts, queue_puts, put_on_bridge, put_on_timers, put_on_queue, taken_in, taken_by, AreEdges}
-use Rattle.mama_rules_legal.specs.Calls.{AreCalls}
+use Rattle.mama_rules_legal.specs.Calls.{AreCalls, AreLists}
 use Rattle.mama_laws_legal.specs.Laws.{RoundsAreWhole, RoundsAreShaped, RoundsTellCalls}
 use Rattle.mama_laws_legal.proofs.Lists.{within, all_empty}
 use Rattle.mama_laws_legal.proofs.Putters.{by_bridge_port, by_timers_port, by_queue_port}
@@ -174,11 +174,11 @@ at_start script =
       bridge = by_bridge_port script.shape (λ port who. [] ≡ put_on_bridge setting (λ c. []) w.publishers w.queues who)
           (λ c small. refl)
           (λ p small. sym (ap (publisher_puts (slice_index_or setting.publishers p no_section)) (nothing_at script.publishers p)))
-          (λ q small. sym (ap (λ (j : List (ℕ × QueueNote)). flat_map bridge_part (queue_puts setting j)) (nothing_at (numbers_below (queues_of script.shape)) q)))
+          (λ q small. sym (ap (λ (j : List (ℕ × QueueNote)). flat_map bridge_part (queue_puts setting q j)) (nothing_at (numbers_below (queues_of script.shape)) q)))
           (λ port past. refl);
       timers = by_timers_port script.shape (λ port who. [] ≡ put_on_timers setting (λ c. []) w.queues [] who)
           (λ c small. refl)
-          (λ q small. sym (ap (λ (j : List (ℕ × QueueNote)). flat_map timers_part (queue_puts setting j)) (nothing_at (numbers_below (queues_of script.shape)) q)))
+          (λ q small. sym (ap (λ (j : List (ℕ × QueueNote)). flat_map timers_part (queue_puts setting q j)) (nothing_at (numbers_below (queues_of script.shape)) q)))
           refl
           (λ port past. refl);
       publishers = λ p inside. ap (λ (j : List PublisherEntry). taken_by j ++ slice_index_or w.to_publishers p []) (nothing_at script.publishers p) ∙ nothing_at script.publishers p;
@@ -263,3 +263,6 @@ shaped script run is =
 
 pub calls_told : RoundsTellCalls
 calls_told script run is = subst (AreCalls script) (sym is.told) (record { calls = refl; images = refl })
+
+pub lists_told : (script : ScriptData) (run : RunData) → IsRound script run → AreLists script run
+lists_told script run is = subst (AreLists script) (sym is.told) (record { groups = refl; watches = refl })

@@ -17,9 +17,9 @@ use Rattle.mama_event.specs.Publisher.{publisher_puts_at}
 use Rattle.mama_rules_services.specs.Bridge.{bridge_puts_at}
 use Rattle.mama_rules_services.specs.Timers.{timers_puts_at}
 use Rattle.mama_rules_services.specs.Ports.{bridge_putter, timers_putter, queue_putter}
-use Rattle.mama_rules_queue.specs.Queue.{QueuePut, queue_puts_at}
+use Rattle.mama_rules_queue.specs.Queue.{QueuePut}
 use Rattle.mama_rules_rounds.specs.Client.{bridge_part, timers_part}
-use Rattle.mama_rules_rounds.specs.World.{Setting, World, no_section, orders_by, publisher_part, queue_part, timer_part, with_puts, bridge_did, bridge_took, bridge_turn, timers_did, timers_took, timers_turn, publisher_did, publisher_took, publisher_turn, queue_did, queue_took, queue_turn}
+use Rattle.mama_rules_rounds.specs.World.{Setting, World, no_section, puts_on, publisher_part, queue_part, timer_part, with_puts, bridge_did, bridge_took, bridge_turn, timers_did, timers_took, timers_turn, publisher_did, publisher_took, publisher_turn, queue_did, queue_took, queue_turn}
 use Rattle.mama_rules_legal.specs.Edges.{put_on_bridge, put_on_timers, put_on_queue, put_to_publisher, taken_in, taken_by}
 use Rattle.mama_laws_legal.proofs.Lists.{within, extended-length, extended-first, taken_first, put_last}
 use Rattle.mama_laws_legal.proofs.Putters.{client_more, publisher_more, queue_more, client_more_t, queue_more_t, bridge_more_t, bridge_more_q, timers_more_q, bridge_part-push}
@@ -163,7 +163,7 @@ queue_keeps : (setting : Setting) (done : ℕ → List QueuePut) (q : ℕ) (w : 
 queue_keeps setting done q w e rest small is h =
     let old : List (ℕ × QueueNote) = slice_index_or w.queues q [] in
     let j : List (ℕ × QueueNote) = slice_index_or w.queues q [] ++ e ∷ [] in
-    let outs : List QueuePut = queue_puts_at (orders_by setting) (slice_index_or w.queues q []) e in
+    let outs : List QueuePut = puts_on setting q (slice_index_or w.queues q []) e in
     let inside : q < length w.queues = subst (λ (n : ℕ). q < n) (sym h.queues_len) small in
     record {
       publishers_len = h.publishers_len;

@@ -6,6 +6,7 @@ use Rattle.mama_payload.specs.Spelling.{spelling}
 use Rattle.mama_event.specs.declared.ids.ObjectId.{ObjectId}
 use Rattle.mama_event.specs.declared.ids.ObjectId.TheVariants.{Sub, Timer, Inbox}
 use Rattle.mama_event.specs.declared.market.MarketMsg.{MarketMsg}
+use Rattle.mama_event.specs.declared.watch.WatchRow.{WatchRow}
 use Rattle.mama_event.specs.declared.wire.PieceMsg.{PieceMsg}
 use Rattle.mama_event.specs.Wire.{Arrival, ReplyArrival}
 use Rattle.mama_event.specs.declared.callback.Callback.{Callback}
@@ -77,6 +78,11 @@ pub record IsSender (nums : Nums) (publisher : PublisherScript) : Type 0 where
   pub few : suc (length (updates_of publisher.lines)) < 2 ^ 32
   pub updates : AllByRecursion (IsBody nums) (updates_of publisher.lines)
   pub records : (n : ℕ) → n ≤ length (updates_of publisher.lines) → IsBody nums (record_after publisher.base (updates_of publisher.lines) n)
+
+-- a watch: its sender's id and the number of its retries fit their types
+pub record IsWatch (row : WatchRow) : Type 0 where
+  pub sender : row.sender < 2 ^ 32
+  pub retries : row.retries < 2 ^ 32
 
 -- ---- what actors put
 

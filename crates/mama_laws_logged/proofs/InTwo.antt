@@ -14,6 +14,8 @@ use Rattle.mama_event.specs.declared.callback.Callback.TheVariants as on
 use Rattle.mama_event.specs.declared.callback.CallNote.{CallNote}
 use Rattle.mama_event.specs.declared.order.Order.{Order}
 use Rattle.mama_event.specs.declared.order.Order.TheVariants as orders
+use Rattle.mama_event.specs.declared.group.GroupNote.{GroupNote}
+use Rattle.mama_event.specs.declared.group.GroupNote.TheVariants as grouped
 use Rattle.mama_event.specs.declared.to_publisher.PublisherNote.{PublisherNote}
 use Rattle.mama_event.specs.declared.to_publisher.PublisherNote.TheVariants as p
 use Rattle.mama_event.specs.declared.to_bridge.BridgeNote.{BridgeNote}
@@ -31,12 +33,12 @@ use Rattle.mama_words.proofs.FieldLaws.{message_known}
 use Rattle.mama_script.specs.Script.{ScriptData}
 use Rattle.mama_script.specs.Tree.{in_two}
 use Rattle.mama_rules_services.specs.Ports.{Putter, ByClient, ByPublisher, ByQueue, ByBridge, ByTimers, ByNobody, bridge_putter, timers_putter, queue_putter}
-use Rattle.mama_record.specs.RunData.{RunData, ObjectCalls, LastImage}
+use Rattle.mama_record.specs.RunData.{RunData, ObjectCalls, LastImage, GroupNotes}
 use Rattle.mama_rules_legal.specs.Form.{IsFormed}
 use Rattle.mama_rules_legal.specs.Legal.{IsLegal}
 use Rattle.mama_log_line.specs.Names.{NamesData, IsSub, IsTimer, IsInbox, IsTopic, names_of, make_of}
-use Rattle.mama_log_line.specs.Entering.{IsBody, IsMarketMsg, IsPublisherNote, MayEnterPublisher, BridgeFromClient, BridgeFromPublisher, BridgeFromQueue, BridgeFrom, MayEnterBridge, TimersFromClient, TimersFromQueue, TimersFrom, MayEnterTimers, IsLinked, IsTimed, QueueFromBridge, QueueFromTimers, QueueFrom, MayEnterQueue, SubHears, InboxHears, MayHear, MayOrder, IsLastImage}
-use Rattle.mama_log_read.specs.Logged.{MayCall, MayHearAll, IsLogged}
+use Rattle.mama_log_line.specs.Entering.{IsBody, IsMarketMsg, IsPublisherNote, MayEnterPublisher, BridgeFromClient, BridgeFromPublisher, BridgeFromQueue, BridgeFrom, MayEnterBridge, TimersFromClient, TimersFromQueue, TimersFrom, MayEnterTimers, IsLinked, IsTimed, QueueFromBridge, QueueFromTimers, QueueFrom, MayEnterQueue, SubHears, InboxHears, MayHear, MayOrder, MayHearGroup, IsLastImage}
+use Rattle.mama_log_read.specs.Logged.{MayCall, MayHearAll, MayHearNotes, IsLogged}
 use Rattle.mama_laws_logged.specs.InTwo.{RecordsStayInTwo}
 
 -- ---- messages
@@ -215,6 +217,13 @@ module _ (names : NamesData) where
   pub calls_two : (o : ObjectCalls) → MayHearAll names o → MayHearAll (known names) o
   calls_two o h = All-weaker (MayCall names o.object) (MayCall (known names) o.object) (call_two o.object) o.calls h
 
+  group_two : (n : GroupNote) → MayHearGroup names n → MayHearGroup (known names) n
+  group_two (grouped.Call sub call) h = (sub_two sub h.0, sub_hears_two call h.1)
+  group_two (grouped.State state) h = tt
+
+  pub notes_two : (g : GroupNotes) → MayHearNotes names g → MayHearNotes (known names) g
+  notes_two g h = All-weaker (MayHearGroup names) (MayHearGroup (known names)) group_two g.notes h
+
   pub image_two : (i : LastImage) → IsLastImage names i → IsLastImage (known names) i
   image_two i h = record { sub = sub_two i.sub h.sub; sender = h.sender; last = h.last; body = message_known names.nums i.body h.body }
 
@@ -222,7 +231,7 @@ module _ (names : NamesData) where
 
 formed_two : (script : ScriptData) (run : RunData) → IsFormed script run → IsFormed (in_two script) run
 formed_two script run h = record {
-  counted = record { clients = h.counted.clients; publishers = h.counted.publishers; queues = h.counted.queues; objects = h.counted.objects };
+  counted = record { clients = h.counted.clients; publishers = h.counted.publishers; queues = h.counted.queues; objects = h.counted.objects; groups = h.counted.groups; watches = h.counted.watches };
   images = h.images;
 }
 
@@ -239,6 +248,8 @@ logged_two script run h =
       queues = All-weaker (All (MayEnterQueue names)) (All (MayEnterQueue two)) (All-weaker (MayEnterQueue names) (MayEnterQueue two) (queue_two names)) run.queues h.queues;
       calls = All-weaker (MayHearAll names) (MayHearAll two) (calls_two names) run.calls h.calls;
       images = All-weaker (IsLastImage names) (IsLastImage two) (image_two names) run.images h.images;
+      groups = All-weaker (MayHearNotes names) (MayHearNotes two) (notes_two names) run.groups h.groups;
+      watches = h.watches;
     }
 
 legal_two : (script : ScriptData) (run : RunData) → IsLegal script run → IsLegal (in_two script) run
@@ -247,6 +258,7 @@ legal_two script run h = record {
   lines = record { clients = h.lines.clients; publishers = h.lines.publishers };
   edges = record { bridge = h.edges.bridge; timers = h.edges.timers; publishers = h.edges.publishers; queues = h.edges.queues };
   calls = record { calls = h.calls.calls; images = h.calls.images };
+  lists = record { groups = h.lists.groups; watches = h.lists.watches };
 }
 
 legal_back : (script : ScriptData) (run : RunData) → IsLegal (in_two script) run → IsLegal script run
@@ -255,6 +267,7 @@ legal_back script run h = record {
   lines = record { clients = h.lines.clients; publishers = h.lines.publishers };
   edges = record { bridge = h.edges.bridge; timers = h.edges.timers; publishers = h.edges.publishers; queues = h.edges.queues };
   calls = record { calls = h.calls.calls; images = h.calls.images };
+  lists = record { groups = h.lists.groups; watches = h.lists.watches };
 }
 
 pub records_stay : RecordsStayInTwo

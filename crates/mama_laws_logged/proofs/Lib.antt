@@ -15,6 +15,8 @@ pub mod TimersFit
 pub mod BridgeFits
 pub mod StrategyFits
 pub mod QueuesFit
+pub mod WatchesFit
+pub mod ListsFit
 pub mod Logged
 pub mod OneRecord
 pub mod InTwo

@@ -27,25 +27,27 @@ use Rattle.mama_rules_services.specs.Timers.{TimersEvent, arms, timers_puts}
 use Rattle.mama_rules_services.specs.Timers as timing
 use Rattle.mama_rules_queue.specs.Queue.{QueuePut, calls_of, deeds}
 use Rattle.mama_rules_queue.specs.Queue as queue
+use Rattle.mama_rules_queue.specs.Group.{group_notes}
+use Rattle.mama_rules_queue.specs.Watch.{watch_notes}
 use Rattle.mama_script.specs.Script.{ScriptData}
 use Rattle.mama_script.specs.Tree.{IsScript, script_text}
 use Rattle.mama_script.specs.Within.{IsWithin}
 use Rattle.mama_record.specs.RunData.{RunData}
 use Rattle.mama_rules_rounds.specs.Client.{Planned, bridge_part, timers_part}
-use Rattle.mama_rules_rounds.specs.World.{Setting, no_section, orders_by, publisher_part, queue_part, timer_part}
-use Rattle.mama_rules_rounds.specs.Round.{setting_of, object_calls, noted, last_image}
+use Rattle.mama_rules_rounds.specs.World.{Setting, Grouped, Watched, no_section, orders_by, rows_on, publisher_part, queue_part, timer_part}
+use Rattle.mama_rules_rounds.specs.Round.{setting_of, object_calls, noted, last_image, group_told, watch_told}
 use Rattle.mama_rules_legal.specs.Form.{IsFormed}
 use Rattle.mama_rules_legal.specs.Legal.{IsLegal}
 use Rattle.mama_rules_legal.specs.Edges.{AreEdges, client_puts, queue_puts, put_on_bridge, put_on_timers, put_on_queue, taken_by}
 use Rattle.mama_laws_legal.proofs.AllSent.{count_publishers}
 use Rattle.mama_laws_legal.proofs.Putters.{by_bridge_port, by_timers_port}
 use Rattle.mama_log_line.specs.Names.{NamesData, names_of}
-use Rattle.mama_log_line.specs.Entering.{IsPublisherNote, MayEnterPublisher, BridgeFromClient, BridgeFromPublisher, BridgeFromQueue, BridgeFrom, MayEnterBridge, TimersFromClient, TimersFromQueue, TimersFromBridge, TimersFrom, MayEnterTimers, IsLinked, IsTimed, QueueFromBridge, QueueFromTimers, QueueFrom, MayEnterQueue, MayOrder, IsLastImage}
-use Rattle.mama_log_read.specs.Logged.{IsMoment, MayCall, MayHearAll, IsLogged}
-use Rattle.mama_laws_genuine.proofs.Elements.{all_if, all_flat_map, all_map, all_any, all_weaker, all_by_port, all_by_ports}
+use Rattle.mama_log_line.specs.Entering.{IsPublisherNote, MayEnterPublisher, BridgeFromClient, BridgeFromPublisher, BridgeFromQueue, BridgeFrom, MayEnterBridge, TimersFromClient, TimersFromQueue, TimersFromBridge, TimersFrom, MayEnterTimers, IsLinked, IsTimed, QueueFromBridge, QueueFromTimers, QueueFrom, MayEnterQueue, MayOrder, MayHearGroup, MayNote, IsLastImage}
+use Rattle.mama_log_read.specs.Logged.{IsMoment, MayCall, MayHearAll, MayHearNotes, MayNoteAll, IsLogged}
+use Rattle.mama_laws_genuine.proofs.Elements.{all_if, all_flat_map, all_map, all_mapped, all_any, all_weaker, all_by_port, all_by_ports}
 use Rattle.mama_laws_genuine.proofs.Lines.{length-publishers}
 use Rattle.mama_laws_logged.specs.Telling.{AreMoments, LegalRecordsAreLogged}
-use Rattle.mama_laws_logged.proofs.Fits.{IsObject, Arrives, IsAnswered, IsPlan, IsSender, ClientPut, PublisherPut, QueuePutFits, OrderNote, OrderPut, Names, IsFin, Places, LinkPut, Any, AnyReply, Arms, Takes, IsCall}
+use Rattle.mama_laws_logged.proofs.Fits.{IsObject, Arrives, IsAnswered, IsPlan, IsSender, ClientPut, PublisherPut, IsWatch, QueuePutFits, OrderNote, OrderPut, Names, IsFin, Places, LinkPut, Any, AnyReply, Arms, Takes, IsCall}
 use Rattle.mama_laws_logged.proofs.Few.{IsFew, names_few}
 use Rattle.mama_laws_logged.proofs.SlotsFit.{free_slot_small}
 use Rattle.mama_laws_logged.proofs.ClientsFit.{clients_fit}
@@ -54,7 +56,9 @@ use Rattle.mama_laws_logged.proofs.SendersFit.{senders_fit, publisher_fits}
 use Rattle.mama_laws_logged.proofs.Fronts.{front_broken, arrives_cut, answered_cut}
 use Rattle.mama_laws_logged.proofs.BridgeFits.{Sends, any_sends, bridge_fits}
 use Rattle.mama_laws_logged.proofs.TimersFit.{timers_fit}
-use Rattle.mama_laws_logged.proofs.QueuesFit.{calls_fit, queue_fits, orders_put, images_fit}
+use Rattle.mama_laws_logged.proofs.QueuesFit.{calls_fit, images_fit}
+use Rattle.mama_laws_logged.proofs.WatchesFit.{watches_fit, rows_on_fit}
+use Rattle.mama_laws_logged.proofs.ListsFit.{group_fits, watch_fits, queue_fits, orders_put}
 
 at_place : {X : Type 0} (P : X → Type 0) (xs : List X) (n : ℕ) (x : X) → n < length xs → AllByRecursion P xs → P (get_or xs n x)
 at_place P [] n x within all = absurd (omega arith)
@@ -295,10 +299,10 @@ module _ (script : ScriptData) (is : IsScript script) (within : IsWithin script)
   abbrev journal_of : ℕ → List (ℕ × QueueNote)
   journal_of k = slice_index_or run.queues k []
 
-  order_bridge : (k : ℕ) → AllByRecursion (OrderNote names) (flat_map bridge_part (queue_puts setting (journal_of k)))
+  order_bridge : (k : ℕ) → AllByRecursion (OrderNote names) (flat_map bridge_part (queue_puts setting k (journal_of k)))
   order_bridge k =
-      all_flat_map (OrderPut names) (OrderNote names) bridge_part (bridge_of_orders names) (queue_puts setting (journal_of k))
-      (orders_put names (orders_by setting) orders (journal_of k))
+      all_flat_map (OrderPut names) (OrderNote names) bridge_part (bridge_of_orders names) (queue_puts setting k (journal_of k))
+      (orders_put names (orders_by setting) orders (rows_on k setting.watches) (journal_of k))
 
   -- ---- what the bridge took, for the names alone
 
@@ -365,10 +369,10 @@ module _ (script : ScriptData) (is : IsScript script) (within : IsWithin script)
 
   -- ---- the timer service
 
-  order_timers : (k : ℕ) → AllByRecursion (TimersFromQueue names) (flat_map timers_part (queue_puts setting (journal_of k)))
+  order_timers : (k : ℕ) → AllByRecursion (TimersFromQueue names) (flat_map timers_part (queue_puts setting k (journal_of k)))
   order_timers k =
-      all_flat_map (OrderPut names) (TimersFromQueue names) timers_part (timers_of_orders) (queue_puts setting (journal_of k))
-      (orders_put names (orders_by setting) orders (journal_of k))
+      all_flat_map (OrderPut names) (TimersFromQueue names) timers_part (timers_of_orders) (queue_puts setting k (journal_of k))
+      (orders_put names (orders_by setting) orders (rows_on k setting.watches) (journal_of k))
     where
       timers_of_orders : (put : QueuePut) → OrderPut names put → AllByRecursion (TimersFromQueue names) (timers_part put)
       timers_of_orders (queue.to_bridge note) h = tt
@@ -455,8 +459,8 @@ module _ (script : ScriptData) (is : IsScript script) (within : IsWithin script)
       (λ n inside. low_bridge (clients_of shape + n) (ByPublisher n) (omega (arith, ports_few)) (on_bridge (ByPublisher n))
       (all_weaker (PublisherPut names) (BridgeFromPublisher names) (from_publisher names) (on_bridge (ByPublisher n)) (published n (there n inside))))
       (λ k inside. low_bridge (clients_of shape + publishers_of shape + k) (ByQueue k) (omega (arith, ports_few)) (on_bridge (ByQueue k))
-      (all_flat_map (QueuePutFits names) (BridgeFromQueue names) bridge_part (bridge_of_queue names) (queue_puts setting (journal_of k))
-      (queue_fits names (orders_by setting) orders (journal_of k) (taken k))))
+      (all_flat_map (QueuePutFits names) (BridgeFromQueue names) bridge_part (bridge_of_queue names) (queue_puts setting k (journal_of k))
+      (queue_fits names (orders_by setting) orders (rows_on k setting.watches) (rows_on_fit script is within k) (journal_of k) (taken k))))
       (λ n past. tt) port
 
   bridge_enters : AllByRecursion (MayEnterBridge names) run.bridge
@@ -488,6 +492,26 @@ module _ (script : ScriptData) (is : IsScript script) (within : IsWithin script)
       (all_flat_map (IsPlan names) (IsLastImage names) (last_image setting run.queues) (λ p plan. images_fit names setting orders run.queues all_taken p plan.object)
       setting.objects (objects_fit script is within))
 
+  -- ---- groups and watches
+
+  heard_notes : (g : Grouped) → MayHearNotes names (group_told setting run.queues g)
+  heard_notes g =
+      All-from_recursion (MayHearGroup names) (group_notes (orders_by setting) g.members (journal_of g.queue))
+      (group_fits names (orders_by setting) orders g.members (journal_of g.queue) (taken g.queue))
+
+  all_groups : AllByRecursion (MayHearNotes names) run.groups
+  all_groups = subst (AllByRecursion (MayHearNotes names)) (sym legal.lists.groups) (all_mapped (MayHearNotes names) (group_told setting run.queues) heard_notes setting.groups)
+
+  noted_notes : (w : Watched) → IsWatch w.row → MayNoteAll (watch_told setting run.queues w)
+  noted_notes w fits =
+      All-from_recursion MayNote (watch_notes (orders_by setting) w.row (journal_of w.queue))
+      (watch_fits names (orders_by setting) orders w.row fits (journal_of w.queue) (taken w.queue))
+
+  all_watches : AllByRecursion MayNoteAll run.watches
+  all_watches =
+      subst (AllByRecursion MayNoteAll) (sym legal.lists.watches)
+      (all_map (λ (w : Watched). IsWatch w.row) MayNoteAll (watch_told setting run.queues) noted_notes setting.watches (watches_fit script is within))
+
   logged : IsFormed script run → IsLogged script run
   logged formed = record {
     formed = formed;
@@ -499,6 +523,8 @@ module _ (script : ScriptData) (is : IsScript script) (within : IsWithin script)
     queues = queues_enter;
     calls = All-from_recursion (MayHearAll names) run.calls all_calls;
     images = All-from_recursion (IsLastImage names) run.images all_images;
+    groups = All-from_recursion (MayHearNotes names) run.groups all_groups;
+    watches = All-from_recursion MayNoteAll run.watches all_watches;
   }
 
 pub records_are_logged : LegalRecordsAreLogged

@@ -43,10 +43,11 @@ plain_object names (Inbox id) known = plain_inbox (Inbox id) id refl (wide id.cl
 
 plain_heads : (v : Version) (script : ScriptData) → IsScript script → IsWithin script → ArePlainHeads v script
 plain_heads v script is within =
-    plain_sections v script.shape.strategy (length script.clients) (length script.publishers) (queues_of script.shape) (objects_of script)
+    plain_sections v script.shape.strategy (length script.clients) (length script.publishers) (queues_of script.shape) (objects_of script) (length script.groups) (length script.watches)
     (omega (arith, within.clients_few)) (omega (arith, within.publishers_few)) (omega (arith, within.queues_few))
     (all_map (IsPlan (names_of script)) (λ (o : ObjectId). HasPlainHead (s.Object o)) (λ (p : Planned). p.object)
     (λ p plan. plain_object (names_of script) p.object plan.object) (setting_of script).objects (objects_fit script is within))
+    (omega (arith, within.groups_few)) (omega (arith, within.watches_few))
 
 -- ---- a log is read as its record
 

@@ -1,8 +1,8 @@
--- What a queue does and puts is such as a log may have, where what it takes is.
+-- What a queue does, and puts by serving, is such as a log may have, where what it takes is.
 use Rattle.std.specs.Prelude.{◌&&◌, not, if◌then◌else◌, slice_index_or, Option, Some, None}
 use Rattle.std.specs.List.{AllByRecursion, flat_map}
 use Rattle.std.proofs.Common.{◌≡◌, ℕ, ◌+◌, ◌≤◌, ◌==◌, true, false, List, [], ◌∷◌, ◌++◌, length, map, refl, subst}
-use Rattle.mama_journal.specs.Journal.{first_said, count_of, puts}
+use Rattle.mama_journal.specs.Journal.{first_said, count_of}
 use Rattle.mama_event.specs.Object.{same_sub, same_object}
 use Rattle.mama_event.specs.EqualityLaws.{same_object-Decides}
 use Rattle.mama_event.specs.declared.ids.SubId.{SubId}
@@ -32,7 +32,7 @@ use Rattle.mama_rules_rounds.specs.Round.{noted, image_in, last_image}
 use Rattle.mama_words.specs.declared.nums.Nums.{Nums}
 use Rattle.mama_log_line.specs.Names.{NamesData, IsSub}
 use Rattle.mama_log_line.specs.Entering.{SubHears, MayHear, MayOrder, IsLastImage}
-use Rattle.mama_laws_genuine.proofs.Elements.{all_append, all_if, all_at, all_any, all_flat_map, all_map, all_puts_after, all_puts_known, all_puts_so_far}
+use Rattle.mama_laws_genuine.proofs.Elements.{all_append, all_if, all_at, all_flat_map, all_map, all_puts_so_far}
 use Rattle.mama_laws_logged.proofs.Fits.{IsSound, IsObject, Takes, IsCall, DeedFits, QueuePutFits, OrderPut}
 use Rattle.mama_laws_logged.proofs.Fronts.{code_fits}
 use Rattle.mama_laws_logged.proofs.StrategyFits.{calls_sound, image_sound}
@@ -160,6 +160,10 @@ module _ (names : NamesData) (orders : ObjectId → ℕ → List Order)
       all_puts_so_far (λ (e : ℕ × QueueNote). Takes names e.1) (DeedFits names) (λ before sofar (e : ℕ × QueueNote). served orders before sofar e.1)
       (λ before sofar e taken so h. served_fit before sofar e.1 so h) [] [] journal tt tt all
 
+  pub deeds_at_fit : (before : List (ℕ × QueueNote)) (e : ℕ × QueueNote) → AllByRecursion (λ (e : ℕ × QueueNote). Takes names e.1) before → Takes names e.1
+      → AllByRecursion (DeedFits names) (deeds_at orders before e)
+  deeds_at_fit before e all h = served_fit before (deeds orders before) e.1 (deeds_fit before all) h
+
   -- the callbacks of an object by a journal
   pub calls_fit : (o : ObjectId) (journal : List (ℕ × QueueNote)) → AllByRecursion (λ (e : ℕ × QueueNote). Takes names e.1) journal
       → AllByRecursion (λ (n : CallNote). IsCall names o n.call n.orders) (map noted (calls_of o (deeds orders journal)))
@@ -170,19 +174,13 @@ module _ (names : NamesData) (orders : ObjectId → ℕ → List Order)
 
   -- ---- puts
 
-  put_at_fits : (before : List (ℕ × QueueNote)) (e : ℕ × QueueNote) → AllByRecursion (λ (e : ℕ × QueueNote). Takes names e.1) before → Takes names e.1
+  -- what a queue puts by serving
+  pub put_at_fits : (before : List (ℕ × QueueNote)) (e : ℕ × QueueNote) → AllByRecursion (λ (e : ℕ × QueueNote). Takes names e.1) before → Takes names e.1
       → AllByRecursion (QueuePutFits names) (queue_puts_at orders before e)
   put_at_fits before e all h =
       all_append (QueuePutFits names) (flat_map puts_of (deeds_at orders before e)) (bye_put before e)
-      (all_flat_map (DeedFits names) (QueuePutFits names) puts_of (put_fits names) (deeds_at orders before e)
-      (served_fit before (deeds orders before) e.1 (deeds_fit before all) h))
+      (all_flat_map (DeedFits names) (QueuePutFits names) puts_of (put_fits names) (deeds_at orders before e) (deeds_at_fit before e all h))
       (all_if (QueuePutFits names) (is_fin e && count_of is_fin before == 1) (to_bridge b.Bye ∷ to_timers t.Bye ∷ []) [] (tt, (tt, tt)) tt)
-
-  -- what a queue puts
-  pub queue_fits : (journal : List (ℕ × QueueNote)) → AllByRecursion (λ (e : ℕ × QueueNote). Takes names e.1) journal
-      → AllByRecursion (QueuePutFits names) (puts (queue_puts_at orders) journal)
-  queue_fits journal all =
-      all_puts_known (λ (e : ℕ × QueueNote). Takes names e.1) (QueuePutFits names) (queue_puts_at orders) put_at_fits [] journal tt all
 
   -- ---- puts by any journal
 
@@ -208,17 +206,11 @@ module _ (names : NamesData) (orders : ObjectId → ℕ → List Order)
   served_ordered before sofar (q.Gone slot object) = made_ordered object sofar (on.Destroy ∷ [])
   served_ordered before sofar q.Fin = tt
 
-  ordered_at : (before : List (ℕ × QueueNote)) (e : ℕ × QueueNote) → AllByRecursion (OrderPut names) (queue_puts_at orders before e)
+  pub ordered_at : (before : List (ℕ × QueueNote)) (e : ℕ × QueueNote) → AllByRecursion (OrderPut names) (queue_puts_at orders before e)
   ordered_at before e =
       all_append (OrderPut names) (flat_map puts_of (deeds_at orders before e)) (bye_put before e)
       (all_flat_map (IsOrdered names) (OrderPut names) puts_of (ordered_put names) (deeds_at orders before e) (served_ordered before (deeds orders before) e.1))
       (all_if (OrderPut names) (is_fin e && count_of is_fin before == 1) (to_bridge b.Bye ∷ to_timers t.Bye ∷ []) [] (tt, (tt, tt)) tt)
-
-  -- what a queue puts by any journal
-  pub orders_put : (journal : List (ℕ × QueueNote)) → AllByRecursion (OrderPut names) (puts (queue_puts_at orders) journal)
-  orders_put journal =
-      all_puts_after (λ (e : ℕ × QueueNote). Unit {0}) (OrderPut names) (queue_puts_at orders) (λ before e h. ordered_at before e)
-      [] journal (all_any (λ (e : ℕ × QueueNote). Unit {0}) (λ e. tt) journal)
 
 -- ---- images
 

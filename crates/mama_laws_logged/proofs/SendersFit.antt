@@ -24,7 +24,7 @@ use Rattle.mama_words.specs.Value.{nums_of}
 use Rattle.mama_script.specs.Line.{IsLine, line_text, ended}
 use Rattle.mama_script.specs.Reading.{first_line, version_of}
 use Rattle.mama_script.specs.Script.{ScriptData}
-use Rattle.mama_script.specs.Tree.{topic_line, publisher_line, publisher_lines, client_lines, strategy_lines, lines_of, script_text, IsScript}
+use Rattle.mama_script.specs.Tree.{topic_line, publisher_line, publisher_lines, client_lines, strategy_lines, last_lines, lines_of, script_text, IsScript}
 use Rattle.mama_script.specs.Within.{AreSendsWithin, IsPublisherWithin, IsWithin}
 use Rattle.mama_rules_rounds.specs.Round.{sends_in, publishers_from}
 use Rattle.mama_rules_legal.specs.Edges.{taken_in, taken_by}
@@ -119,7 +119,7 @@ pub senders_fit : (script : ScriptData) → IsScript script → IsWithin script 
 senders_fit script is within short =
     let part : length (flat_map publisher_lines script.publishers) ≤ length (script_text script) =
     part_few (first_line (version_of (lines_of script)) ++ 10 ∷ []) (strategy_lines script.version script.shape.strategy) (lines.Queues script.shape.bounds.queues) (map topic_line script.topics)
-    (flat_map publisher_lines script.publishers) (flat_map client_lines script.clients) in
+    (flat_map publisher_lines script.publishers) (flat_map client_lines script.clients ++ last_lines script.groups script.watches) in
     senders_from script.version (length script.topics) 0 script.publishers (omega (arith, within.publishers_few)) (omega arith)
     (publishers_sound script is) within.publishers
 

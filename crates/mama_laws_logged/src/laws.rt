@@ -1,8 +1,8 @@
 ghost use Rattle.mama_laws_logged.specs.Telling.{LegalRecordsAreLogged, LogsTellOneRecord};
 ghost use Rattle.mama_laws_logged.specs.InTwo.{RecordsStayInTwo};
 
-/// A law: each entry, each callback, each order and each image of a legal record of a script is one that a log of the
-/// script may have, where the script's text has at most 67,108,864 bytes.
+/// A law: each entry, each callback, each order, each image and each note of a group or a watch of a legal record of a script
+/// is one that a log of the script may have, where the script's text has at most 67,108,864 bytes.
 pub fn legal_records_are_logged()
     ensures { LegalRecordsAreLogged }
 {}

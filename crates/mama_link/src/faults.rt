@@ -290,7 +290,7 @@ impl Faults {
         }
     }
 
-    /// Equal faults, which share the rows.
+    /// Equal faults, which share the rows. The error says that no more copies can be counted: it takes no memory.
     pub fn try_clone(&self) -> Result<Faults, OutOfMemory>
         ensures { IfOk result (λ copy. copy ≡ self.now) }
     {

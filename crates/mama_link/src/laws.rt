@@ -32,7 +32,7 @@ pub fn cuts_keep_all<T>()
     ensures { CutsKeepAll T }
 {}
 
-/// A cut of at least as many bytes as its message has is none. The contract is the law; the call does nothing.
+/// A cut that changes nothing of its message is none: so it is where it keeps at least as many bytes as that has. The contract is the law; the call does nothing.
 pub fn long_cuts_are_none<T>()
     ensures { LongCutsAreNone T }
 {}

@@ -1,39 +1,35 @@
 -- The entries of the bridge's journal: what is read is so spelled, and what is so spelled is read.
-use Rattle.std.proofs.Common.{◌≡◌, ℕ, ◌+◌, ◌<◌, ◌^◌, true, List, [], ◌∷◌, ◌++◌, map, Option, Some, Result, Ok, Err, refl, sym, ap, subst, ◌∙◌, inl, inr, arith}
+use Rattle.std.proofs.Common.{◌≡◌, ℕ, ◌+◌, ◌<◌, ◌^◌, true, List, [], ◌∷◌, ◌++◌, map, Result, Ok, Err, refl, sym, ap, subst, ◌∙◌, inl, inr, arith}
 use Rattle.std.specs.Prelude.{◌==◌, codes, cond}
 use Rattle.std.specs.List.{flat_map}
 use Rattle.std.proofs.lemmas.Bool.{eqb-true}
 use Rattle.mama_edge.specs.Decimal.{decimal}
-use Rattle.mama_msg.specs.Field.{FieldData}
 use Rattle.mama_event.specs.declared.ids.SubId.{SubId}
 use Rattle.mama_event.specs.declared.ids.InboxId.{InboxId}
 use Rattle.mama_event.specs.declared.ids.ObjectId.{ObjectId}
 use Rattle.mama_event.specs.declared.ids.ObjectId.TheVariants.{Sub, Inbox}
-use Rattle.mama_event.specs.declared.shape.Shape.{Shape}
 use Rattle.mama_event.specs.declared.to_bridge.BridgeNote.{BridgeNote}
 use Rattle.mama_event.specs.declared.to_bridge.BridgeNote.TheVariants as b
 use Rattle.mama_event.specs.Ports.{clients_of, publishers_of, queues_of}
-use Rattle.mama_words.specs.Reading.{◌>>=◌, or_fault}
-use Rattle.mama_words.specs.Id.{sub_word, inbox_word, sub_text, inbox_text}
-use Rattle.mama_words.specs.Kind.{msg_kind_text}
+use Rattle.mama_words.specs.Id.{sub_text, inbox_text}
 use Rattle.mama_words.specs.Field.{field_text}
 use Rattle.mama_words.specs.Order.{spaced_number}
 use Rattle.mama_words.specs.Sentence.{sentence}
 use Rattle.mama_words.specs.WordForm.{IsWord, AreWords}
 use Rattle.mama_words.proofs.Choices.{ok_is, chosen, bind_ok, step_ok}
-use Rattle.mama_words.proofs.Spellings.{id_word, decimal_word, msg_kind_word, field_words, fields_row}
-use Rattle.mama_rules_services.specs.Ports.{Putter, ByClient, ByPublisher, ByQueue, ByNobody, bridge_putter}
+use Rattle.mama_words.proofs.Spellings.{decimal_word, field_words, fields_row}
+use Rattle.mama_rules_services.specs.Ports.{Putter, ByClient, ByPublisher, ByQueue, bridge_putter}
 use Rattle.mama_record.specs.LogText.{putter_text, bridge_note_text, bridge_entry_line}
 use Rattle.mama_log_line.specs.declared.head.Head.{Head}
 use Rattle.mama_log_line.specs.declared.head.Head.TheVariants as heads
 use Rattle.mama_log_line.specs.Head.{head_text, head_in}
 use Rattle.mama_log_line.specs.Names.{NamesData, terms_of, inbox_terms_of, IsSub, IsInbox, IsTopic}
 use Rattle.mama_log_line.specs.Word.{sub_in, inbox_in, topic_in, few_fids_in, small_in, body_in, market_in}
-use Rattle.mama_log_line.specs.Entering.{AreFids, IsBody, IsMarketMsg, BridgeFromClient, BridgeFromPublisher, BridgeFromQueue, BridgeFrom, MayEnterBridge}
+use Rattle.mama_log_line.specs.Entering.{AreFids, BridgeFromClient, BridgeFromPublisher, BridgeFromQueue, BridgeFrom, MayEnterBridge}
 use Rattle.mama_log_line.specs.Journal.{alone_in, came_by, join_in, leave_in, open_in, close_in, ask_in, publish_in, image_in, answer_in, wish_in, bridge_client_in, bridge_publisher_in, bridge_queue_in, bridge_client_port, bridge_publisher_port, bridge_queue_port, bridge_by, bridge_words_in, bridge_line_in}
 use Rattle.mama_log_line.proofs.Heads.{head_again, head_found}
-use Rattle.mama_log_line.proofs.Ports.{by_bridge_port, bridge_client, bridge_publisher, bridge_queue, PortIs, port_found, port_again, client_port_again, numbered_word, came_found, came_again}
-use Rattle.mama_log_line.proofs.WordLaws.{market_words, sub_fits, sub_again, sub_found, inbox_fits, inbox_again, inbox_found, small_again, small_found, topic_again, topic_found, few_fids_again, few_fids_found, body_again, body_found, market_again, market_found}
+use Rattle.mama_log_line.proofs.Ports.{by_bridge_port, bridge_client, bridge_publisher, bridge_queue, port_found, port_again, client_port_again, numbered_word, came_found, came_again}
+use Rattle.mama_log_line.proofs.WordLaws.{market_words, sub_again, sub_found, inbox_again, inbox_found, small_again, small_found, topic_again, topic_found, few_fids_again, few_fids_found, body_again, body_found, market_again, market_found}
 use Rattle.mama_log_line.proofs.LineLaws.{head_word, fid_words, numbers_row, three, last_word, market_row, market_are_words, sub_is_word, inbox_is_word, alone_found, alone_again, line_found, line_again}
 
 abbrev pub head_of : BridgeNote → Head

@@ -1,15 +1,14 @@
 -- Callbacks: what is read is so spelled, and what is so spelled is read.
-use Rattle.std.proofs.Common.{◌≡◌, ℕ, ◌<◌, ◌^◌, List, [], ◌∷◌, ◌++◌, map, Option, Some, Result, Ok, Err, refl, sym, ap, subst, ◌∙◌, arith}
+use Rattle.std.proofs.Common.{◌≡◌, ℕ, ◌<◌, ◌^◌, List, [], ◌∷◌, ◌++◌, map, Ok, refl, sym, ap, subst, ◌∙◌, arith}
 use Rattle.std.specs.Prelude.{codes}
 use Rattle.mama_edge.specs.Decimal.{decimal}
-use Rattle.mama_msg.specs.Field.{FieldData}
 use Rattle.mama_event.specs.declared.ids.ObjectId.{ObjectId}
 use Rattle.mama_event.specs.declared.ids.ObjectId.TheVariants.{Sub, Timer, Inbox}
 use Rattle.mama_event.specs.declared.market.MarketMsg.{MarketMsg}
 use Rattle.mama_event.specs.declared.market.Quality.{Quality}
 use Rattle.mama_event.specs.declared.callback.Callback.{Callback}
 use Rattle.mama_event.specs.declared.callback.Callback.TheVariants as on
-use Rattle.mama_words.specs.Reading.{◌>>=◌, or_fault}
+use Rattle.mama_words.specs.Reading.{or_fault}
 use Rattle.mama_words.specs.Number.{number_in, below_in}
 use Rattle.mama_words.specs.Kind.{msg_kind_text, quality_text}
 use Rattle.mama_words.specs.KindIn.{msg_kind_in, quality_in}
@@ -34,7 +33,7 @@ use Rattle.mama_log_line.proofs.Heads.{head_again, head_found}
 use Rattle.mama_log_line.proofs.WordLaws.{small_again, small_found, body_again, body_found}
 use Rattle.mama_log_line.proofs.LineLaws.{head_word, five, last_word, small_word, alone_found, alone_again, line_found, line_again}
 
-abbrev head_of : Callback → Head
+abbrev pub head_of : Callback → Head
 head_of on.Create = heads.Create
 head_of (on.Msg msg quality) = heads.Msg
 head_of (on.Gap first to) = heads.Gap
@@ -47,7 +46,7 @@ head_of (on.Tick moment) = heads.Tick
 head_of (on.Reply body) = heads.Reply
 
 -- the words behind the head
-abbrev rest_of : Callback → List (List ℕ)
+abbrev pub rest_of : Callback → List (List ℕ)
 rest_of on.Create = []
 rest_of (on.Msg m quality) = msg_kind_text m.kind ∷ decimal m.sender ∷ decimal m.seq ∷ quality_text quality ∷ map field_text m.body
 rest_of (on.Gap first to) = decimal first ∷ decimal to ∷ []
@@ -59,10 +58,10 @@ rest_of on.Destroy = []
 rest_of (on.Tick moment) = decimal moment ∷ []
 rest_of (on.Reply body) = map field_text body
 
-abbrev words_of : Callback → List (List ℕ)
+abbrev pub words_of : Callback → List (List ℕ)
 words_of call = head_text (head_of call) ∷ rest_of call
 
-row : (call : Callback) → callback_text call ≡ sentence (words_of call)
+pub row : (call : Callback) → callback_text call ≡ sentence (words_of call)
 row on.Create = refl
 row (on.Msg m quality) =
     ap (λ (t : List ℕ). codes "msg " ++ t) (five (msg_kind_text m.kind) (spaced_number m.sender) (spaced_number m.seq) (32 ∷ quality_text quality) (fields_text m.body))
@@ -102,7 +101,7 @@ inbox_words nums (on.Error code) h = (head_word heads.Error, (decimal_word code 
 inbox_words nums on.Destroy h = (head_word heads.Destroy, tt)
 inbox_words nums _ h = absurd h
 
-are_words : (nums : Nums) (object : ObjectId) (call : Callback) → MayHear nums object call → AreWords (words_of call)
+pub are_words : (nums : Nums) (object : ObjectId) (call : Callback) → MayHear nums object call → AreWords (words_of call)
 are_words nums (Sub id) call h = sub_words nums call h
 are_words nums (Timer id) call h = timer_words call h
 are_words nums (Inbox id) call h = inbox_words nums call h
@@ -139,7 +138,7 @@ by_again nums (Sub id) call h = sub_again nums call h
 by_again nums (Timer id) call h = timer_again call h
 by_again nums (Inbox id) call h = inbox_again nums call h
 
-words_again : (nums : Nums) (object : ObjectId) (call : Callback) → MayHear nums object call → call_words_in nums object (words_of call) ≡ Ok call
+pub words_again : (nums : Nums) (object : ObjectId) (call : Callback) → MayHear nums object call → call_words_in nums object (words_of call) ≡ Ok call
 unfolding call_words_in
 words_again nums object call h = rw (head_again (head_of call)) (by_again nums object call h)
 
@@ -293,7 +292,7 @@ by_found nums (Sub id) head ws call h = sub_found nums head ws call h
 by_found nums (Timer id) head ws call h = timer_found head ws call h
 by_found nums (Inbox id) head ws call h = inbox_found nums head ws call h
 
-words_found : (nums : Nums) (object : ObjectId) (ws : List (List ℕ)) (call : Callback) → call_words_in nums object ws ≡ Ok call → MayHear nums object call × (ws ≡ words_of call)
+pub words_found : (nums : Nums) (object : ObjectId) (ws : List (List ℕ)) (call : Callback) → call_words_in nums object ws ≡ Ok call → MayHear nums object call × (ws ≡ words_of call)
 unfolding call_words_in
 words_found nums object [] call h = absurd cc
 words_found nums object (head ∷ ws) call h =

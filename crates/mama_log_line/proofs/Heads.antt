@@ -1,5 +1,5 @@
 -- First words: what is read is so spelled, and what is so spelled is read.
-use Rattle.std.proofs.Common.{◌≡◌, ℕ, List, Option, Some, refl}
+use Rattle.std.proofs.Common.{◌≡◌, ℕ, List, Some, refl}
 use Rattle.mama_words.proofs.Named.{named_found}
 use Rattle.mama_log_line.specs.declared.head.Head.{Head}
 use Rattle.mama_log_line.specs.declared.head.Head.TheVariants as heads
@@ -41,6 +41,9 @@ head_again heads.Error = refl
 head_again heads.Destroy = refl
 head_again heads.Order = refl
 head_again heads.Clock = refl
+head_again heads.State = refl
+head_again heads.Retry = refl
+head_again heads.Timeout = refl
 
 pub head_found : (word : List ℕ) (h : Head) → head_in word ≡ Some h → word ≡ head_text h
 unfolding head_in

@@ -7,5 +7,6 @@ pub mod BridgeLaws
 pub mod TimersLaws
 pub mod QueueLaws
 pub mod CallLaws
+pub mod ListLaws
 pub mod OtherLaws
 pub mod Turns

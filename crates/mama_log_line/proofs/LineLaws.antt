@@ -1,6 +1,6 @@
 -- What a line says, by its words.
 use Rattle.std.proofs.Common.{◌≡◌, ℕ, ◌<◌, ◌^◌, Bool, true, false, ltb, List, [], ◌∷◌, ◌++◌, map, Option, Some, None, Result, Ok, Err, refl, sym, ap, subst, ◌∙◌, arith, append_assoc}
-use Rattle.std.specs.Prelude.{◌&&◌, codes, nat_lt, option_map, IfSome, IfOk}
+use Rattle.std.specs.Prelude.{codes, option_map, IfSome, IfOk}
 use Rattle.std.specs.List.{list_all, flat_map}
 use Rattle.std.proofs.lemmas.Bool.{ltb-true, and_parts}
 use Rattle.std.proofs.lemmas.List.{append_cancel_right, append-nil}
@@ -69,6 +69,9 @@ head_word heads.Error = fixed (codes "error") refl refl
 head_word heads.Destroy = fixed (codes "destroy") refl refl
 head_word heads.Order = fixed (codes "order") refl refl
 head_word heads.Clock = fixed (codes "clock") refl refl
+head_word heads.State = fixed (codes "state") refl refl
+head_word heads.Retry = fixed (codes "retry") refl refl
+head_word heads.Timeout = fixed (codes "timeout") refl refl
 
 pub fid_words : (fids : List ℕ) → are_small fids ≡ true → AreWords (map decimal fids)
 fid_words [] h = tt

@@ -1,5 +1,5 @@
 -- Orders, moments of a clock and images: what is read is so spelled, and what is so spelled is read.
-use Rattle.std.proofs.Common.{◌≡◌, ℕ, ◌<◌, ◌^◌, true, false, List, [], ◌∷◌, ◌++◌, map, Option, Some, None, Result, Ok, Err, refl, sym, ap, subst, ◌∙◌, arith, eq-eqb}
+use Rattle.std.proofs.Common.{◌≡◌, ℕ, ◌<◌, ◌^◌, true, false, List, [], ◌∷◌, ◌++◌, map, Some, None, Ok, refl, sym, ap, subst, ◌∙◌, arith, eq-eqb}
 use Rattle.std.specs.Prelude.{codes}
 use Rattle.std.proofs.lemmas.Bool.{lt-ltb}
 use Rattle.mama_edge.specs.Decimal.{decimal}
@@ -8,9 +8,8 @@ use Rattle.mama_event.specs.declared.order.Order.{Order}
 use Rattle.mama_event.specs.declared.order.Order.TheVariants as orders
 use Rattle.mama_words.specs.declared.order.OrderWord.{OrderWord}
 use Rattle.mama_words.specs.declared.order.OrderWord.TheVariants as words
-use Rattle.mama_words.specs.Reading.{◌>>=◌, or_fault}
 use Rattle.mama_words.specs.Number.{number_in}
-use Rattle.mama_words.specs.Id.{sub_word, timer_word, inbox_word, sub_text}
+use Rattle.mama_words.specs.Id.{inbox_word, sub_text}
 use Rattle.mama_words.specs.Kind.{quality_text}
 use Rattle.mama_words.specs.KindIn.{quality_in}
 use Rattle.mama_words.specs.Field.{field_text, fields_text, message_in}

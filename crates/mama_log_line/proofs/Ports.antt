@@ -1,11 +1,11 @@
 -- Ports: who puts by which, and how they are spelled.
-use Rattle.std.proofs.Common.{◌≡◌, ℕ, ◌+◌, ◌-◌, ◌<◌, ◌≤◌, ◌^◌, Bool, true, false, ltb, List, [], ◌∷◌, length, Option, Some, None, Result, Ok, refl, sym, ap, subst, ◌∙◌, cond, arith, eq-eqb}
-use Rattle.std.specs.Prelude.{◌&&◌, ◌==◌, nat_lt, nat_le, option_and_then}
-use Rattle.std.proofs.lemmas.Bool.{and_parts, cond_both, ltb-true, ltb-false, lt-ltb, leb-true, eqb-true, eqb-false, le-leb, le-ltb}
+use Rattle.std.proofs.Common.{◌≡◌, ℕ, ◌+◌, ◌-◌, ◌<◌, ◌≤◌, ◌^◌, Bool, true, false, ltb, List, ◌∷◌, length, Option, Some, None, Result, Ok, refl, sym, ap, ◌∙◌, arith, eq-eqb}
+use Rattle.std.specs.Prelude.{option_and_then}
+use Rattle.std.proofs.lemmas.Bool.{ltb-true, lt-ltb, eqb-true, le-leb, le-ltb}
 use Rattle.mama_edge.specs.Decimal.{decimal}
 use Rattle.mama_event.specs.declared.shape.Shape.{Shape}
 use Rattle.mama_event.specs.Ports.{clients_of, publishers_of, queues_of, timers_port_of_bridge}
-use Rattle.mama_words.specs.Reading.{◌>>=◌, or_fault}
+use Rattle.mama_words.specs.Reading.{◌>>=◌}
 use Rattle.mama_words.specs.Number.{below_in}
 use Rattle.mama_words.specs.Parting.{is_empty_word}
 use Rattle.mama_words.specs.WordForm.{IsWord}
@@ -13,7 +13,7 @@ use Rattle.mama_words.proofs.Choices.{ok_is, chosen_some, and_then_some, bind_ok
 use Rattle.mama_words.proofs.Numbers.{below_in_again, below_in_found}
 use Rattle.mama_words.proofs.Sentences.{is_simple, piece_cons}
 use Rattle.mama_words.proofs.Spellings.{decimal_word}
-use Rattle.mama_rules_services.specs.Ports.{Putter, ByClient, ByPublisher, ByQueue, ByBridge, ByTimers, ByNobody, bridge_putter, timers_putter, queue_putter}
+use Rattle.mama_rules_services.specs.Ports.{ByClient, ByPublisher, ByQueue, ByBridge, bridge_putter, timers_putter}
 use Rattle.mama_log_line.specs.Journal.{port_of, port_in, came_by}
 pub use Rattle.mama_rules_services.proofs.PutterPorts.{by_bridge_port, by_timers_port, by_queue_port}
 

@@ -1,5 +1,5 @@
 -- The entries of the timer service's journal: what is read is so spelled, and what is so spelled is read.
-use Rattle.std.proofs.Common.{◌≡◌, ℕ, ◌+◌, ◌<◌, ◌^◌, true, List, [], ◌∷◌, ◌++◌, map, Option, Some, None, Result, Ok, Err, refl, sym, ap, subst, ◌∙◌, inl, inr, arith}
+use Rattle.std.proofs.Common.{◌≡◌, ℕ, ◌+◌, ◌<◌, ◌^◌, true, List, [], ◌∷◌, ◌++◌, Some, Result, Ok, Err, refl, sym, ap, subst, ◌∙◌, inl, inr, arith}
 use Rattle.std.specs.Prelude.{◌==◌, codes, cond}
 use Rattle.std.proofs.lemmas.Bool.{eqb-true}
 use Rattle.mama_edge.specs.Decimal.{decimal}
@@ -9,7 +9,6 @@ use Rattle.mama_event.specs.declared.ids.ObjectId.TheVariants.{Timer}
 use Rattle.mama_event.specs.declared.to_timers.TimersNote.{TimersNote}
 use Rattle.mama_event.specs.declared.to_timers.TimersNote.TheVariants as t
 use Rattle.mama_event.specs.Ports.{clients_of, queues_of, timers_port_of_bridge}
-use Rattle.mama_words.specs.Reading.{◌>>=◌, or_fault}
 use Rattle.mama_words.specs.Number.{number_in}
 use Rattle.mama_words.specs.Id.{timer_text}
 use Rattle.mama_words.specs.Sentence.{sentence}
@@ -17,7 +16,7 @@ use Rattle.mama_words.specs.WordForm.{IsWord, AreWords}
 use Rattle.mama_words.proofs.Choices.{ok_is, chosen, bind_ok, step_ok}
 use Rattle.mama_words.proofs.Numbers.{number_in_again, number_in_found}
 use Rattle.mama_words.proofs.Spellings.{decimal_word}
-use Rattle.mama_rules_services.specs.Ports.{Putter, ByClient, ByQueue, ByBridge, ByNobody, timers_putter}
+use Rattle.mama_rules_services.specs.Ports.{Putter, ByClient, ByQueue, ByBridge, timers_putter}
 use Rattle.mama_record.specs.LogText.{putter_text, timers_note_text, timers_entry_line}
 use Rattle.mama_log_line.specs.declared.head.Head.{Head}
 use Rattle.mama_log_line.specs.declared.head.Head.TheVariants as heads
@@ -26,9 +25,9 @@ use Rattle.mama_log_line.specs.Head.{head_text, head_in}
 use Rattle.mama_log_line.specs.Names.{NamesData, timer_terms_of, IsTimer}
 use Rattle.mama_log_line.specs.Word.{timer_in}
 use Rattle.mama_log_line.specs.Entering.{TimersFromClient, TimersFromQueue, TimersFromBridge, TimersFrom, MayEnterTimers}
-use Rattle.mama_log_line.specs.Journal.{alone_in, came_by, port_of, arm_in, disarm_in, now_in, timers_client_in, timers_queue_in, timers_bridge_in, timers_client_port, timers_queue_port, timers_bridge_port, timers_by, timers_words_in, timers_line_in}
+use Rattle.mama_log_line.specs.Journal.{alone_in, came_by, arm_in, disarm_in, now_in, timers_client_in, timers_queue_in, timers_bridge_in, timers_client_port, timers_queue_port, timers_bridge_port, timers_by, timers_words_in, timers_line_in}
 use Rattle.mama_log_line.proofs.Heads.{head_again, head_found}
-use Rattle.mama_log_line.proofs.Ports.{by_timers_port, timers_client, timers_queue, timers_bridge, PortIs, port_of_found, port_of_again, port_found, port_again, client_port_again, numbered_word, came_found, came_again}
+use Rattle.mama_log_line.proofs.Ports.{by_timers_port, timers_client, timers_queue, timers_bridge, port_of_found, port_of_again, port_found, port_again, client_port_again, numbered_word, came_found, came_again}
 use Rattle.mama_log_line.proofs.WordLaws.{timer_again, timer_found}
 use Rattle.mama_log_line.proofs.LineLaws.{fixed, head_word, last_word, timer_is_word, alone_found, alone_again, line_found, line_again}
 

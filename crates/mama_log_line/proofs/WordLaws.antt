@@ -1,6 +1,6 @@
 -- What is read as a word of a log is so spelled, and what is so spelled is read.
-use Rattle.std.proofs.Common.{◌≡◌, ℕ, ◌+◌, ◌<◌, ◌≤◌, ◌^◌, Bool, true, false, cond, ltb, leb, List, [], ◌∷◌, ◌++◌, length, map, Option, Some, None, Result, Ok, Err, refl, sym, ap, subst, ◌∙◌, inl, inr, arith}
-use Rattle.std.specs.Prelude.{◌&&◌, ◌==◌, nat_lt, nat_le, is_some, option_and_then}
+use Rattle.std.proofs.Common.{◌≡◌, ℕ, ◌<◌, ◌≤◌, ◌^◌, Bool, true, cond, ltb, leb, List, [], ◌∷◌, length, map, Option, Some, None, Result, Ok, refl, ap, subst, ◌∙◌, inl, inr, arith}
+use Rattle.std.specs.Prelude.{◌&&◌, ◌==◌, is_some}
 use Rattle.std.proofs.lemmas.Bool.{ltb-true, lt-ltb, leb-true, le-leb, and_parts, and_from}
 use Rattle.std.proofs.lemmas.List.{length-map}
 use Rattle.mama_edge.specs.Decimal.{decimal}
@@ -16,12 +16,12 @@ use Rattle.mama_event.specs.declared.market.MsgKind.{MsgKind}
 use Rattle.mama_event.specs.declared.market.MsgKind.TheVariants.{Initial, Update, Recap}
 use Rattle.mama_words.specs.declared.id.IdWord.{IdWord}
 use Rattle.mama_words.specs.Reading.{◌>>=◌, or_fault}
-use Rattle.mama_words.specs.Number.{number_in, below_in, between_in, if_between}
+use Rattle.mama_words.specs.Number.{number_in, below_in, between_in}
 use Rattle.mama_words.specs.Id.{id_text, id_in, sub_word, timer_word, inbox_word, sub_text, timer_text, inbox_text, object_text}
 use Rattle.mama_words.specs.Kind.{msg_kind_text}
 use Rattle.mama_words.specs.KindIn.{msg_kind_in}
 use Rattle.mama_words.specs.declared.nums.Nums.{Nums}
-use Rattle.mama_words.specs.Field.{field_text, message_in, IsMessage}
+use Rattle.mama_words.specs.Field.{field_text, message_in}
 use Rattle.mama_words.specs.Order.{IsId, are_small, cons_fid, fids_in, asked_or_fault, asked_in}
 use Rattle.mama_words.proofs.Choices.{some_is, ok_is, chosen, chosen_some, guard_ok, guard_step, bind_ok, or_fault_ok, step_ok, and_then_some}
 use Rattle.mama_words.proofs.Numbers.{number_in_again, number_in_found, below_in_again, below_in_found}

@@ -11,6 +11,10 @@ use Rattle.mama_event.specs.declared.market.MsgKind.{MsgKind}
 use Rattle.mama_event.specs.declared.market.MsgKind.TheVariants.{Update}
 use Rattle.mama_event.specs.declared.order.Order.{Order}
 use Rattle.mama_event.specs.declared.order.Order.TheVariants as orders
+use Rattle.mama_event.specs.declared.group.GroupNote.{GroupNote}
+use Rattle.mama_event.specs.declared.group.GroupNote.TheVariants as grouped
+use Rattle.mama_event.specs.declared.watch.WatchNote.{WatchNote}
+use Rattle.mama_event.specs.declared.watch.WatchNote.TheVariants as watched
 use Rattle.mama_event.specs.declared.callback.Callback.{Callback}
 use Rattle.mama_event.specs.declared.callback.Callback.TheVariants as on
 use Rattle.mama_event.specs.declared.to_bridge.BridgeNote.{BridgeNote}
@@ -214,6 +218,16 @@ MayOrder names (orders.Stop id) = IsSub names id
 MayOrder names (orders.Disarm id) = IsTimer names id
 MayOrder names (orders.Close id) = IsInbox names id
 MayOrder names (orders.Ask inbox topic fids) = IsInbox names inbox × IsTopic names topic × AreFids fids
+
+-- what a group may hear: a callback of a subscription of the script, whether it is a member or not, or a state
+abbrev pub MayHearGroup : NamesData → GroupNote → Type 0
+MayHearGroup names (grouped.Call sub call) = IsSub names sub × SubHears names.nums call
+MayHearGroup names (grouped.State _) = Unit {0}
+
+-- what a watch may note
+abbrev pub MayNote : WatchNote → Type 0
+MayNote (watched.Retry count moment) = (count < 2 ^ 32) × (moment < 2 ^ 64)
+MayNote (watched.Timeout moment) = moment < 2 ^ 64
 
 -- the last image of a subscription. It may have more than 64 fields.
 pub record IsLastImage (names : NamesData) (i : LastImage) : Type 0 where

@@ -39,13 +39,16 @@ head_text heads.Error = codes "error"
 head_text heads.Destroy = codes "destroy"
 head_text heads.Order = codes "order"
 head_text heads.Clock = codes "clock"
+head_text heads.State = codes "state"
+head_text heads.Retry = codes "retry"
+head_text heads.Timeout = codes "timeout"
 
 abbrev pub all_heads : List Head
 all_heads =
     heads.Send ∷ heads.Done ∷ heads.Want ∷ heads.Ask ∷ heads.Settle ∷ heads.Fin ∷ heads.Join ∷ heads.Leave ∷
     heads.Open ∷ heads.Close ∷ heads.Publish ∷ heads.Image ∷ heads.Reply ∷ heads.Recap ∷ heads.Settled ∷ heads.Bye ∷
     heads.Arm ∷ heads.Disarm ∷ heads.Now ∷ heads.Create ∷ heads.Data ∷ heads.Bad ∷ heads.BadReply ∷ heads.Tick ∷ heads.Gone ∷ heads.Msg ∷
-    heads.Gap ∷ heads.Quality ∷ heads.Request ∷ heads.Late ∷ heads.Error ∷ heads.Destroy ∷ heads.Order ∷ heads.Clock ∷ []
+    heads.Gap ∷ heads.Quality ∷ heads.Request ∷ heads.Late ∷ heads.Error ∷ heads.Destroy ∷ heads.Order ∷ heads.Clock ∷ heads.State ∷ heads.Retry ∷ heads.Timeout ∷ []
 
 -- what a word begins: the first head that has the word
 unfoldable pub head_in : List ℕ → Option Head

@@ -4,3 +4,4 @@ pub mod Entering
 pub mod Word
 pub mod Journal
 pub mod Calls
+pub mod Lists

@@ -198,8 +198,9 @@ fn call_by(
     }
 }
 
+/// The callback of an object that the words spell.
 #[tactic(auto, unfolding(crate::specs::Calls::call_words_in))]
-fn call_words(
+pub(crate) fn call_words(
     alloc: Global,
     nums: Nums,
     object: ObjectId,

@@ -39,10 +39,13 @@ pub enum Head {
     Destroy,
     Order,
     Clock,
+    State,
+    Retry,
+    Timeout,
 }
 
 impl Head {
-    const ALL: [Head; 34] = [
+    const ALL: [Head; 37] = [
         Head::Send,
         Head::Done,
         Head::Want,
@@ -77,6 +80,9 @@ impl Head {
         Head::Destroy,
         Head::Order,
         Head::Clock,
+        Head::State,
+        Head::Retry,
+        Head::Timeout,
     ];
 
     // The word.
@@ -118,6 +124,9 @@ impl Head {
             Head::Destroy => b"destroy",
             Head::Order => b"order",
             Head::Clock => b"clock",
+            Head::State => b"state",
+            Head::Retry => b"retry",
+            Head::Timeout => b"timeout",
         }
     }
 }

@@ -1,9 +1,9 @@
 -- What a log is that begins with some lines, by its parts.
 use Rattle.std.proofs.Common.{◌≡◌, ℕ, ◌^◌, ◌<◌, ◌≤◌, Bool, true, false, cond, eqb, List, [], ◌∷◌, ◌++◌, length, map, Option, Some, None, refl, sym, ap, subst, ◌∙◌, append_assoc, arith, inl, inr}
-use Rattle.std.specs.Prelude.{◌⊎◌, codes}
+use Rattle.std.specs.Prelude.{◌⊎◌, ◌||◌, ◌==◌, not, codes}
 use Rattle.std.specs.List.{All, AllByRecursion}
-use Rattle.std.proofs.lemmas.Bool.{or_from}
-use Rattle.std.proofs.lemmas.List.{append-nil, map-append}
+use Rattle.std.proofs.lemmas.Bool.{or_from, or_parts, eqb-true}
+use Rattle.std.proofs.lemmas.List.{append-nil, map-append, nil_from_length}
 use Rattle.std.proofs.lemmas.List.Concat.{flat_map-append}
 use Rattle.std.proofs.lemmas.List.Elements.{recursion_from_All, All-nil}
 use Rattle.mama_event.specs.declared.ids.ObjectId.{ObjectId}
@@ -22,8 +22,8 @@ use Rattle.mama_log_line.specs.Names.{NamesData, names_of}
 use Rattle.mama_log_read.specs.Logged.{HasLog, IsLogged}
 use Rattle.mama_log_read.specs.Unfit.{IsTellable, HasTellable, AreFirst, AreAtHand, BeginLog}
 use Rattle.mama_log_read.specs.Section.{head_of, has_count, first_of, has_feed, sections, HasPlainHead}
-use Rattle.mama_log_read.specs.Part.{Part, Bare, Moments, Sends, OnBridge, OnTimers, OnQueue, Heard, Pictures, Filled, Fits, FitsIn, bodies, lines_of, all_lines, nothing, run_after}
-use Rattle.mama_log_read.specs.Reading.{IsTold, Begins, IsFew, AreRead, begins_with, version_by}
+use Rattle.mama_log_read.specs.Part.{Part, Bare, Moments, Sends, OnBridge, OnTimers, OnQueue, Heard, Pictures, Grouped, Watched, Filled, Fits, FitsIn, bodies, lines_of, all_lines, nothing, run_after}
+use Rattle.mama_log_read.specs.Reading.{IsTold, Begins, IsFew, AreRead, begins_with, version_by, has_lists}
 use Rattle.mama_log_read.specs.declared.section.Section.{Section}
 use Rattle.mama_log_read.specs.declared.section.Section.TheVariants as s
 use Rattle.mama_log_read.specs.declared.section.Told.TheVariants as t
@@ -115,20 +115,23 @@ version_line : Version → List ℕ
 version_line One = codes "mama log 1"
 version_line Two = codes "mama log 2"
 
-abbrev KnownBy : Version → Version → Type 0
-KnownBy u One = Unit {0}
-KnownBy u Two = u ≡ Two
+abbrev KnownBy : Version → Bool → Version → Type 0
+KnownBy u lists One = lists ≡ false
+KnownBy u lists Two = u ≡ Two
 
-known_by : (script : ScriptData) (v : Version) → HasLog script v → KnownBy script.version v
-known_by script One h = tt
+known_by : (script : ScriptData) (v : Version) → HasLog script v → KnownBy script.version (has_lists script) v
+known_by script One h = rw (h.0, h.1) refl
 known_by script Two h = h
 
-is_version : (u v : Version) (text rest : List ℕ) → text ≡ version_line v ++ 10 ∷ rest → KnownBy u v → version_by u text ≡ v
+is_version : (u v : Version) (lists : Bool) (text rest : List ℕ) → text ≡ version_line v ++ 10 ∷ rest → KnownBy u lists v → version_by u lists text ≡ v
 unfolding version_line
-is_version One One text rest e k = refl
-is_version One Two text rest e k = k
-is_version Two One text rest e k = ap (λ (o : Option (List ℕ × List ℕ)). cond (begins_with (codes "mama log 2") o) Two One) (ap (cut_at 10) e ∙ cut_at_again 10 (codes "mama log 1") rest refl)
-is_version Two Two text rest e k = ap (λ (o : Option (List ℕ × List ℕ)). cond (begins_with (codes "mama log 2") o) Two One) (ap (cut_at 10) e ∙ cut_at_again 10 (codes "mama log 2") rest refl)
+is_version One One lists text rest e k = refl
+is_version One Two lists text rest e k = k
+is_version Two One lists text rest e k =
+    ap (λ (o : Option (List ℕ × List ℕ)). cond (begins_with (codes "mama log 2") o || lists) Two One) (ap (cut_at 10) e ∙ cut_at_again 10 (codes "mama log 1") rest refl)
+    ∙ ap (λ (b : Bool). cond b Two One) k
+is_version Two Two lists text rest e k =
+    ap (λ (o : Option (List ℕ × List ℕ)). cond (begins_with (codes "mama log 2") o || lists) Two One) (ap (cut_at 10) e ∙ cut_at_again 10 (codes "mama log 2") rest refl)
 
 title_first : (v : Version) (strategy : Strategy) (ls : List (List ℕ)) → head_or [] (title v strategy ++ ls) ≡ version_line v
 unfolding version_line
@@ -140,16 +143,16 @@ begun_version v shape run l ls (inl a) = sym (ap (head_or []) a.whole) ∙ title
 begun_version v shape run l ls (inr a) = ap (head_or []) a.lines_are ∙ title_first v shape.strategy _
 
 -- a text that begins with the first lines of a log has its version
-pub log_version : (script : ScriptData) (l : List ℕ) (ls : List (List ℕ)) (text rest : List ℕ) (log : BeginLog script (l ∷ ls)) → text ≡ lines_text (l ∷ ls) ++ rest → log.version ≡ version_by script.version text
+pub log_version : (script : ScriptData) (l : List ℕ) (ls : List (List ℕ)) (text rest : List ℕ) (log : BeginLog script (l ∷ ls)) → text ≡ lines_text (l ∷ ls) ++ rest → log.version ≡ version_by script.version (has_lists script) text
 log_version script l ls text rest log e =
     let first = begun_version log.version script.shape log.run l ls log.begun in
     let begins : text ≡ version_line log.version ++ 10 ∷ (lines_text ls ++ rest) = e ∙ first_line l ls rest ∙ ap (λ (x : List ℕ). x ++ 10 ∷ (lines_text ls ++ rest)) first in
-    sym (is_version script.version log.version text (lines_text ls ++ rest) begins (known_by script log.version log.known))
+    sym (is_version script.version log.version (has_lists script) text (lines_text ls ++ rest) begins (known_by script log.version log.known))
 
-pub whole_version : (script : ScriptData) (v : Version) (run : RunData) (text : List ℕ) → HasLog script v → text ≡ log_text v script.shape run → v ≡ version_by script.version text
+pub whole_version : (script : ScriptData) (v : Version) (run : RunData) (text : List ℕ) → HasLog script v → text ≡ log_text v script.shape run → v ≡ version_by script.version (has_lists script) text
 whole_version script v run text known e = by (log_lines v script.shape run) refl
   where
-    by : (ls : List (List ℕ)) → log_lines v script.shape run ≡ ls → v ≡ version_by script.version text
+    by : (ls : List (List ℕ)) → log_lines v script.shape run ≡ ls → v ≡ version_by script.version (has_lists script) text
     by [] same = absurd (none v same)
       where
         none : (v : Version) → log_lines v script.shape run ≡ [] → ⊥
@@ -158,7 +161,7 @@ whole_version script v run text known e = by (log_lines v script.shape run) refl
     by (l ∷ ls) same =
         let first : l ≡ version_line v = sym (ap (head_or []) same) ∙ title_first v script.shape.strategy _ in
         let begins : text ≡ version_line v ++ 10 ∷ lines_text ls = e ∙ ap lines_text same ∙ append_assoc l (10 ∷ []) (lines_text ls) ∙ ap (λ (x : List ℕ). x ++ 10 ∷ lines_text ls) first in
-        sym (is_version script.version v text (lines_text ls) begins (known_by script v known))
+        sym (is_version script.version v (has_lists script) text (lines_text ls) begins (known_by script v known))
 
 -- ---- the parts of a log, with few lines each
 
@@ -193,16 +196,33 @@ log_plain v script run plain logged few =
 
 -- ---- all sections were read, and nothing is left
 
-pub known_version : (script : ScriptData) (text : List ℕ) → HasLog script (version_by script.version text)
-known_version script text = by script.version refl
-  where
-    chosen : (b : Bool) → script.version ≡ Two → HasLog script (cond b Two One)
-    chosen true e = e
-    chosen false e = tt
+-- a script of version 1 has neither groups nor watches
+abbrev pub IsUnlisted : ScriptData → Type 0
+IsUnlisted script = script.version ≡ One → (script.groups ≡ []) × (script.watches ≡ [])
 
-    by : (u : Version) → script.version ≡ u → HasLog script (version_by script.version text)
-    by One e = let P : Version → Type 0 = λ x. HasLog script (version_by x text) in subst P (sym e) tt
-    by Two e = let P : Version → Type 0 = λ x. HasLog script (version_by x text) in subst P (sym e) (chosen (begins_with (codes "mama log 2") (cut_at 10 text)) e)
+lists_none : (script : ScriptData) → has_lists script ≡ false → (script.groups ≡ []) × (script.watches ≡ [])
+lists_none script h =
+    let p = or_parts (not (length script.groups == 0)) (not (length script.watches == 0)) h in
+    (nil_from_length script.groups (none (length script.groups) p.0), nil_from_length script.watches (none (length script.watches) p.1))
+  where
+    held : (b : Bool) → not b ≡ false → b ≡ true
+    held true e = refl
+    held false e = let bad : true ≡ false = e in absurd cc
+
+    none : (n : ℕ) → not (n == 0) ≡ false → n ≡ 0
+    none n e = eqb-true n 0 (held (n == 0) e)
+
+pub known_version : (script : ScriptData) (text : List ℕ) → IsUnlisted script → HasLog script (version_by script.version (has_lists script) text)
+known_version script text unlisted = by script.version refl
+  where
+    chosen : (begins lists : Bool) → script.version ≡ Two → has_lists script ≡ lists → HasLog script (cond (begins || lists) Two One)
+    chosen true lists e h = e
+    chosen false true e h = e
+    chosen false false e h = lists_none script h
+
+    by : (u : Version) → script.version ≡ u → HasLog script (version_by script.version (has_lists script) text)
+    by One e = let P : Version → Type 0 = λ x. HasLog script (version_by x (has_lists script) text) in subst P (sym e) (unlisted e)
+    by Two e = let P : Version → Type 0 = λ x. HasLog script (version_by x (has_lists script) text) in subst P (sym e) (chosen (begins_with (codes "mama log 2") (cut_at 10 text)) (has_lists script) e refl)
 
 pub found_whole : (v : Version) (script : ScriptData) (text : List ℕ) (run : RunData) → IsReadOf v script (sections v script) text run [] → IsLogged script run × (text ≡ log_text v script.shape run)
 found_whole v script text run r =
@@ -254,6 +274,8 @@ blank s.Bridge = OnBridge []
 blank s.Timers = OnTimers []
 blank (s.Queue n) = OnQueue []
 blank (s.Object o) = Heard (record { object = o; calls = [] })
+blank (s.Group n) = Grouped (record { group = n; notes = [] })
+blank (s.Watch n) = Watched (record { watch = n; notes = [] })
 blank s.Images = Pictures []
 blank s.End = Bare
 
@@ -267,6 +289,8 @@ blank_fits names objects s.Bridge = All-nil _
 blank_fits names objects s.Timers = All-nil _
 blank_fits names objects (s.Queue n) = All-nil _
 blank_fits names objects (s.Object o) = (refl, All-nil _)
+blank_fits names objects (s.Group n) = (refl, All-nil _)
+blank_fits names objects (s.Watch n) = (refl, All-nil _)
 blank_fits names objects s.Images = (objects, record { each = All-nil _; ordered = refl })
 blank_fits names objects s.End = tt
 
@@ -280,6 +304,8 @@ blank_lines shape s.Bridge = refl
 blank_lines shape s.Timers = refl
 blank_lines shape (s.Queue n) = refl
 blank_lines shape (s.Object o) = refl
+blank_lines shape (s.Group n) = refl
+blank_lines shape (s.Watch n) = refl
 blank_lines shape s.Images = refl
 blank_lines shape s.End = refl
 

@@ -6,8 +6,8 @@ use Rattle.mama_event.specs.declared.shape.Shape.{Shape}
 use Rattle.mama_event.specs.declared.shape.Strategy.{Strategy}
 use Rattle.mama_words.specs.declared.version.Version.{Version}
 use Rattle.mama_words.specs.declared.version.Version.TheVariants.{One, Two}
-use Rattle.mama_record.specs.RunData.{RunData, ObjectCalls}
-use Rattle.mama_record.specs.LogText.{LogSection, lines_text, numbered, client_section, publisher_section, bridge_section, timers_section, queue_section, object_section, images_section, log_sections, counted}
+use Rattle.mama_record.specs.RunData.{GroupNotes, WatchNotes, RunData, ObjectCalls}
+use Rattle.mama_record.specs.LogText.{LogSection, lines_text, numbered, client_section, publisher_section, bridge_section, timers_section, queue_section, object_section, group_section, watch_section, images_section, log_sections, counted}
 use Rattle.mama_log_read.specs.Unfit.{IsTellable, HasTellable}
 use Rattle.mama_log_read.specs.Section.{has_count}
 use Rattle.mama_log_read.specs.Part.{Part, Bare, Moments, Sends, OnBridge, OnTimers, OnQueue, Pictures, Filled, bodies, lines_of, all_lines}
@@ -15,7 +15,7 @@ use Rattle.mama_log_read.specs.Reading.{IsFew}
 use Rattle.mama_log_read.specs.declared.section.Section.{Section}
 use Rattle.mama_log_read.specs.declared.section.Section.TheVariants as s
 use Rattle.mama_log_read.proofs.Lines.{lines_text-append}
-use Rattle.mama_log_read.proofs.Whole.{numbered_parts, heard_part, title_parts, body_parts, shown, counted_lines, section_lines}
+use Rattle.mama_log_read.proofs.Whole.{numbered_parts, heard_part, group_part, watch_part, title_parts, body_parts, shown, counted_lines, section_lines}
 
 abbrev pub IsCounted : Filled → Type 0
 IsCounted f = has_count Two f.0 ≡ true
@@ -24,7 +24,7 @@ IsCounted f = has_count Two f.0 ≡ true
 abbrev pub core_parts : RunData → List Filled
 core_parts run =
     numbered_parts s.Client Moments 0 run.clients ++ (numbered_parts s.Publisher Sends 0 run.publishers ++ (
-    (s.Bridge, OnBridge run.bridge) ∷ (s.Timers, OnTimers run.timers) ∷ (numbered_parts s.Queue OnQueue 0 run.queues ++ (map heard_part run.calls ++ (s.Images, Pictures run.images) ∷ []))))
+    (s.Bridge, OnBridge run.bridge) ∷ (s.Timers, OnTimers run.timers) ∷ (numbered_parts s.Queue OnQueue 0 run.queues ++ (map heard_part run.calls ++ (map group_part run.groups ++ (map watch_part run.watches ++ (s.Images, Pictures run.images) ∷ []))))))
 
 abbrev pub end_part : Filled
 end_part = (s.End, Bare)
@@ -37,10 +37,12 @@ body_is_core run =
     let d = map heard_part run.calls in
     let i : List Filled = (s.Images, Pictures run.images) ∷ [] in
     let services : List Filled = (s.Bridge, OnBridge run.bridge) ∷ (s.Timers, OnTimers run.timers) ∷ [] in
-    regroup a b services c d i (end_part ∷ [])
+    let g = map group_part run.groups in
+    let w = map watch_part run.watches in
+    regroup a b services c d g w i (end_part ∷ [])
   where
-    regroup : (a b x c d i e : List Filled) → a ++ (b ++ (x ++ (c ++ (d ++ (i ++ e))))) ≡ (a ++ (b ++ (x ++ (c ++ (d ++ i))))) ++ e
-    regroup a b x c d i e = simp append_assoc
+    regroup : (a b x c d g w i e : List Filled) → a ++ (b ++ (x ++ (c ++ (d ++ (g ++ (w ++ (i ++ e))))))) ≡ (a ++ (b ++ (x ++ (c ++ (d ++ (g ++ (w ++ i))))))) ++ e
+    regroup a b x c d g w i e = simp append_assoc
 
 -- ---- what holds of each of them
 
@@ -67,14 +69,26 @@ heard_counted : (calls : List ObjectCalls) → AllByRecursion IsCounted (map hea
 heard_counted [] = tt
 heard_counted (c ∷ calls) = (refl, heard_counted calls)
 
+group_counted : (groups : List GroupNotes) → AllByRecursion IsCounted (map group_part groups)
+group_counted [] = tt
+group_counted (g ∷ groups) = (refl, group_counted groups)
+
+watch_counted : (watches : List WatchNotes) → AllByRecursion IsCounted (map watch_part watches)
+watch_counted [] = tt
+watch_counted (w ∷ watches) = (refl, watch_counted watches)
+
 pub core_counted : (run : RunData) → AllByRecursion IsCounted (core_parts run)
 core_counted run =
     let images : List Filled = (s.Images, Pictures run.images) ∷ [] in
-    let objects = map heard_part run.calls ++ images in
+    let watches = map watch_part run.watches ++ images in
+    let groups = map group_part run.groups ++ watches in
+    let objects = map heard_part run.calls ++ groups in
     let queues = numbered_parts s.Queue OnQueue 0 run.queues ++ objects in
     let bridge : List Filled = (s.Bridge, OnBridge run.bridge) ∷ (s.Timers, OnTimers run.timers) ∷ queues in
     let publishers = numbered_parts s.Publisher Sends 0 run.publishers ++ bridge in
-    let at_objects = all_append IsCounted (map heard_part run.calls) images (heard_counted run.calls) (refl, tt) in
+    let at_watches = all_append IsCounted (map watch_part run.watches) images (watch_counted run.watches) (refl, tt) in
+    let at_groups = all_append IsCounted (map group_part run.groups) watches (group_counted run.groups) at_watches in
+    let at_objects = all_append IsCounted (map heard_part run.calls) groups (heard_counted run.calls) at_groups in
     let at_queues = all_append IsCounted (numbered_parts s.Queue OnQueue 0 run.queues) objects (numbered_counted s.Queue OnQueue (λ n. refl) 0 run.queues) at_objects in
     let at_bridge : AllByRecursion IsCounted bridge = (refl, (refl, at_queues)) in
     let at_publishers = all_append IsCounted (numbered_parts s.Publisher Sends 0 run.publishers) bridge (numbered_counted s.Publisher Sends (λ n. refl) 0 run.publishers) at_bridge in
@@ -91,20 +105,34 @@ heard_shown : (shape : Shape) (calls : List ObjectCalls) → map (shown shape) (
 heard_shown shape [] = refl
 heard_shown shape (c ∷ calls) = ap (λ (t : List LogSection). object_section c ∷ t) (heard_shown shape calls)
 
+groups_shown : (shape : Shape) (groups : List GroupNotes) → map (shown shape) (map group_part groups) ≡ map group_section groups
+groups_shown shape [] = refl
+groups_shown shape (g ∷ groups) = ap (λ (t : List LogSection). group_section g ∷ t) (groups_shown shape groups)
+
+watches_shown : (shape : Shape) (watches : List WatchNotes) → map (shown shape) (map watch_part watches) ≡ map watch_section watches
+watches_shown shape [] = refl
+watches_shown shape (w ∷ watches) = ap (λ (t : List LogSection). watch_section w ∷ t) (watches_shown shape watches)
+
 shown_both : (shape : Shape) (fs ws : List Filled) (ss ts : List LogSection) → map (shown shape) fs ≡ ss → map (shown shape) ws ≡ ts → map (shown shape) (fs ++ ws) ≡ ss ++ ts
 shown_both shape fs ws ss ts h k = map-append (shown shape) fs ws ∙ ap (λ (t : List LogSection). t ++ map (shown shape) ws) h ∙ ap (λ (t : List LogSection). ss ++ t) k
 
 pub core_shown : (shape : Shape) (run : RunData) → map (shown shape) (core_parts run) ≡ log_sections shape run
 core_shown shape run =
     let i : List Filled = (s.Images, Pictures run.images) ∷ [] in
-    let d = map heard_part run.calls ++ i in
+    let w = map watch_part run.watches ++ i in
+    let g = map group_part run.groups ++ w in
+    let d = map heard_part run.calls ++ g in
     let c = numbered_parts s.Queue OnQueue 0 run.queues ++ d in
     let x : List Filled = (s.Bridge, OnBridge run.bridge) ∷ (s.Timers, OnTimers run.timers) ∷ c in
     let b = numbered_parts s.Publisher Sends 0 run.publishers ++ x in
-    let objects = map object_section run.calls ++ images_section run.images ∷ [] in
+    let watches = map watch_section run.watches ++ images_section run.images ∷ [] in
+    let groups = map group_section run.groups ++ watches in
+    let objects = map object_section run.calls ++ groups in
     let queues = numbered queue_section 0 run.queues ++ objects in
     let bridge = bridge_section shape run.bridge ∷ timers_section shape run.timers ∷ queues in
-    let d_is : map (shown shape) d ≡ objects = shown_both shape (map heard_part run.calls) i (map object_section run.calls) (images_section run.images ∷ []) (heard_shown shape run.calls) refl in
+    let w_is : map (shown shape) w ≡ watches = shown_both shape (map watch_part run.watches) i (map watch_section run.watches) (images_section run.images ∷ []) (watches_shown shape run.watches) refl in
+    let g_is : map (shown shape) g ≡ groups = shown_both shape (map group_part run.groups) w (map group_section run.groups) watches (groups_shown shape run.groups) w_is in
+    let d_is : map (shown shape) d ≡ objects = shown_both shape (map heard_part run.calls) g (map object_section run.calls) groups (heard_shown shape run.calls) g_is in
     let c_is : map (shown shape) c ≡ queues = shown_both shape (numbered_parts s.Queue OnQueue 0 run.queues) d (numbered queue_section 0 run.queues) objects (numbered_shown shape s.Queue OnQueue queue_section (λ n y. refl) 0 run.queues) d_is in
     let x_is : map (shown shape) x ≡ bridge = ap (λ (t : List LogSection). bridge_section shape run.bridge ∷ timers_section shape run.timers ∷ t) c_is in
     let b_is = shown_both shape (numbered_parts s.Publisher Sends 0 run.publishers) x (numbered publisher_section 0 run.publishers) bridge (numbered_shown shape s.Publisher Sends publisher_section (λ n y. refl) 0 run.publishers) x_is in

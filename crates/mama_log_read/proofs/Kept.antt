@@ -4,17 +4,19 @@ use Rattle.mama_event.specs.declared.ids.ObjectId.{ObjectId}
 use Rattle.mama_event.specs.declared.shape.Strategy.{Strategy}
 use Rattle.mama_words.specs.declared.version.Version.{Version}
 use Rattle.mama_event.specs.declared.callback.CallNote.{CallNote}
+use Rattle.mama_event.specs.declared.group.GroupNote.{GroupNote}
+use Rattle.mama_event.specs.declared.watch.WatchNote.{WatchNote}
 use Rattle.mama_event.specs.declared.to_bridge.BridgeNote.{BridgeNote}
 use Rattle.mama_event.specs.declared.to_timers.TimersNote.{TimersNote}
 use Rattle.mama_event.specs.declared.to_queue.QueueNote.{QueueNote}
 use Rattle.mama_event.specs.declared.publisher_entry.PublisherEntry.{PublisherEntry}
-use Rattle.mama_record.specs.RunData.{RunData, ObjectCalls, LastImage}
-use Rattle.mama_record.specs.LogText.{publisher_entry_text, bridge_entry_text, clock_text, queue_entry_text, timers_entry_text}
+use Rattle.mama_record.specs.RunData.{RunData, GroupNotes, WatchNotes, ObjectCalls, LastImage}
+use Rattle.mama_record.specs.LogText.{group_note_text, watch_note_text, publisher_entry_text, bridge_entry_text, clock_text, queue_entry_text, timers_entry_text}
 use Rattle.mama_words.proofs.Choices.{some_is}
 use Rattle.mama_log_line.specs.Names.{NamesData}
-use Rattle.mama_log_line.specs.Entering.{MayEnterPublisher, MayEnterBridge, MayEnterTimers, MayEnterQueue}
+use Rattle.mama_log_line.specs.Entering.{MayEnterPublisher, MayEnterBridge, MayEnterTimers, MayEnterQueue, MayHearGroup, MayNote}
 use Rattle.mama_log_read.specs.Logged.{IsMoment}
-use Rattle.mama_log_read.specs.Part.{Bare, Moments, Sends, OnBridge, OnTimers, OnQueue, Heard, Pictures, Fits, put}
+use Rattle.mama_log_read.specs.Part.{Bare, Moments, Sends, OnBridge, OnTimers, OnQueue, Heard, Pictures, Grouped, Watched, Fits, put}
 use Rattle.mama_log_read.specs.Reading.{AreTaken, AreCallsTaken, AreImagesTaken, IsPartRead, GoesOn, IsPicture}
 use Rattle.mama_log_read.specs.declared.section.Section.{Section}
 use Rattle.mama_log_read.specs.declared.section.Section.TheVariants as s
@@ -53,6 +55,26 @@ object_read names objects o text calls rest old new t e = record {
   put = e;
   taken = t.taken;
   stops = λ l more at g. calls_stop names objects o text calls rest l more t at g;
+}
+
+pub group_read : (names : NamesData) (objects : List ObjectId) (n : ℕ) (text : List ℕ) (xs : List GroupNote) (rest : List ℕ) (old new : RunData) → AreTaken (MayHearGroup names) group_note_text text xs rest → new ≡ put (Grouped (record { group = n; notes = xs })) old
+    → IsPartRead names objects (s.Group n) text old new rest
+group_read names objects n text xs rest old new t e = record {
+  part = Grouped (record { group = n; notes = xs });
+  fits = (refl, t.each);
+  put = e;
+  taken = t.taken;
+  stops = λ l more at g. t.stops g.0 more g.1 (ends l (group_note_text g.0) more rest at g.2);
+}
+
+pub watch_read : (names : NamesData) (objects : List ObjectId) (n : ℕ) (text : List ℕ) (xs : List WatchNote) (rest : List ℕ) (old new : RunData) → AreTaken MayNote watch_note_text text xs rest → new ≡ put (Watched (record { watch = n; notes = xs })) old
+    → IsPartRead names objects (s.Watch n) text old new rest
+watch_read names objects n text xs rest old new t e = record {
+  part = Watched (record { watch = n; notes = xs });
+  fits = (refl, t.each);
+  put = e;
+  taken = t.taken;
+  stops = λ l more at g. t.stops g.0 more g.1 (ends l (watch_note_text g.0) more rest at g.2);
 }
 
 images_stop : (names : NamesData) (objects : List ObjectId) (text : List ℕ) (images : List LastImage) (rest l more : List ℕ) → AreImagesTaken names objects text images rest → rest ≡ l ++ 10 ∷ more → GoesOn names objects (Pictures images) l → ⊥
@@ -107,6 +129,16 @@ pub object_kept : (names : NamesData) (objects : List ObjectId) (o : ObjectId) (
     → IsPartRead names objects (s.Object o) text old (record r { calls = grown }) rest
 object_kept names objects o text calls rest r old grown is e t =
     object_read names objects o text calls rest old (record r { calls = grown }) t (ap (λ (x : List ObjectCalls). let g : RunData = record r { calls = x } in g) e ∙ ap (put (Heard (record { object = o; calls = calls }))) is)
+
+pub group_kept : (names : NamesData) (objects : List ObjectId) (n : ℕ) (text : List ℕ) (xs : List GroupNote) (rest : List ℕ) (r old : RunData) (grown : List GroupNotes) → r ≡ old → grown ≡ r.groups ++ record { group = n; notes = xs } ∷ [] → AreTaken (MayHearGroup names) group_note_text text xs rest
+    → IsPartRead names objects (s.Group n) text old (record r { groups = grown }) rest
+group_kept names objects n text xs rest r old grown is e t =
+    group_read names objects n text xs rest old (record r { groups = grown }) t (ap (λ (x : List GroupNotes). let g : RunData = record r { groups = x } in g) e ∙ ap (put (Grouped (record { group = n; notes = xs }))) is)
+
+pub watch_kept : (names : NamesData) (objects : List ObjectId) (n : ℕ) (text : List ℕ) (xs : List WatchNote) (rest : List ℕ) (r old : RunData) (grown : List WatchNotes) → r ≡ old → grown ≡ r.watches ++ record { watch = n; notes = xs } ∷ [] → AreTaken MayNote watch_note_text text xs rest
+    → IsPartRead names objects (s.Watch n) text old (record r { watches = grown }) rest
+watch_kept names objects n text xs rest r old grown is e t =
+    watch_read names objects n text xs rest old (record r { watches = grown }) t (ap (λ (x : List WatchNotes). let g : RunData = record r { watches = x } in g) e ∙ ap (put (Watched (record { watch = n; notes = xs }))) is)
 
 pub images_kept : (names : NamesData) (objects : List ObjectId) (text : List ℕ) (images : List LastImage) (rest : List ℕ) (r old : RunData) → r ≡ old → AreImagesTaken names objects text images rest → IsPartRead names objects s.Images text old (record r { images = images }) rest
 images_kept names objects text images rest r old is t = images_read names objects text images rest old (record r { images = images }) t (ap (put (Pictures images)) is)

@@ -19,7 +19,8 @@ use Rattle.mama_log_line.specs.Names.{names_of}
 use Rattle.mama_log_read.specs.Unfit.{BeginLog, IsFirstUnfit}
 use Rattle.mama_log_read.specs.Section.{head_of, has_count, titles, numbered_from, sections, HasPlainHead}
 use Rattle.mama_log_read.specs.Part.{Part, Bare, Filled, Fits, bodies, all_lines}
-use Rattle.mama_log_read.specs.Reading.{Begins, IsFew, GoesOn, last_part, IsMiscounted, version_by}
+use Rattle.mama_log_read.specs.Logged.{HasLog}
+use Rattle.mama_log_read.specs.Reading.{Begins, IsFew, GoesOn, last_part, IsMiscounted, version_by, has_lists}
 use Rattle.mama_log_read.specs.declared.section.Section.{Section}
 use Rattle.mama_log_read.specs.declared.section.Section.TheVariants as s
 use Rattle.mama_log_read.specs.declared.section.Told.TheVariants as t
@@ -34,7 +35,7 @@ use Rattle.mama_log_read.proofs.Tallies.{Tally, Suits, tally_at, suits_end, suit
 use Rattle.mama_log_read.proofs.Shortened.{shortened, within_or, take_and_drop}
 use Rattle.mama_log_read.proofs.Cores.{IsCounted, core_parts, end_part, body_is_core, core_counted, core_shown, counted_core, all_front, all_back, all_joined, few_tellable, among}
 use Rattle.mama_log_read.proofs.Begun.{ArePlainHeads, FitsScript, fit_of, few_of, with_counts, counts_lines, counts_filled, counts_begun, blanks, blanks_named, blanks_fit, fit-append, name_of, IsBegunBy, begun_by, begun_tally}
-use Rattle.mama_log_read.proofs.Unfitting.{ReadHere, next_follows, next_begun, unfit_at, read_plain, known_of}
+use Rattle.mama_log_read.proofs.Unfitting.{ReadHere, next_follows, next_begun, unfit_at, read_plain}
 
 length_take : {A : Type 0} (k : ℕ) (xs : List A) → length (take k xs) ≤ k
 length_take zero xs = omega arith
@@ -101,11 +102,13 @@ sections_end v script =
     let d : List Section = s.Bridge ∷ s.Timers ∷ [] in
     let e = numbered_from s.Queue 0 (queues_of script.shape) in
     let f = map s.Object (objects_of script) in
+    let m = numbered_from s.Group 0 (length script.groups) in
+    let w = numbered_from s.Watch 0 (length script.watches) in
     let g : List Section = s.Images ∷ [] in
-    (a ++ (b ++ (c ++ (d ++ (e ++ (f ++ g))))), regroup a b c d e f g (s.End ∷ []))
+    (a ++ (b ++ (c ++ (d ++ (e ++ (f ++ (m ++ (w ++ g))))))), regroup a b c d e f m w g (s.End ∷ []))
   where
-    regroup : (a b c d e f g h : List Section) → a ++ (b ++ (c ++ (d ++ (e ++ (f ++ (g ++ h)))))) ≡ (a ++ (b ++ (c ++ (d ++ (e ++ (f ++ g)))))) ++ h
-    regroup a b c d e f g h = simp append_assoc
+    regroup : (a b c d e f m w g h : List Section) → a ++ (b ++ (c ++ (d ++ (e ++ (f ++ (m ++ (w ++ (g ++ h)))))))) ≡ (a ++ (b ++ (c ++ (d ++ (e ++ (f ++ (m ++ (w ++ g)))))))) ++ h
+    regroup a b c d e f m w g h = simp append_assoc
 
 not_last : (v : Version) (script : ScriptData) (done left : List Section) (section : Section) → has_count Two section ≡ true → done ++ section ∷ left ≡ sections v script → left ≡ [] → ⊥
 not_last v script done left section h all none =
@@ -159,7 +162,7 @@ strictly zero (suc n) le d = omega arith
 strictly (suc m) zero le d = absurd (omega (arith, le))
 strictly (suc m) (suc n) le d = let lt = strictly m n (omega (arith, le)) (λ e. d (ap suc e)) in omega (arith, lt)
 
-module _ (script : ScriptData) (text : List ℕ) (number : ℕ) (short : length text < 2 ^ 64) (version : Two ≡ version_by script.version text) (plain : ArePlainHeads Two script)
+module _ (script : ScriptData) (text : List ℕ) (number : ℕ) (short : length text < 2 ^ 64) (version : Two ≡ version_by script.version (has_lists script) text) (known : HasLog script Two) (plain : ArePlainHeads Two script)
     (k : IsMiscounted Two (names_of script) (objects_of script) (sections Two script) text number) where
   abbrev bs : List (List ℕ)
   bs = bodies script.shape k.part
@@ -242,7 +245,7 @@ module _ (script : ScriptData) (text : List ℕ) (number : ℕ) (short : length 
       let few_lines = length_take k.count bs in
       record {
         version = Two;
-        known = known_of Two script text version;
+        known = known;
         run = w.run;
         logged = w.logged;
         begun = inr (record {

@@ -1,4 +1,5 @@
--- No line of an entry is the line that begins a section: their first three bytes differ.
+-- No line of an entry is the line that begins a section: their first three bytes differ, or the first six, since "timeout" begins as
+-- "timers" does.
 use Rattle.std.proofs.Common.{◌≡◌, ℕ, ◌-◌, ◌<◌, ◌^◌, Bool, true, false, cond, eqb, List, [], ◌∷◌, ◌++◌, length, refl, sym, ap, ◌∙◌, append_assoc, arith}
 use Rattle.std.specs.Prelude.{◌&&◌, ◌||◌, ◌==◌}
 use Rattle.std.specs.List.{list_all}
@@ -9,6 +10,10 @@ use Rattle.mama_words.proofs.Cutting.{is_digit, decimal_digits}
 use Rattle.mama_event.specs.declared.order.Order.{Order}
 use Rattle.mama_event.specs.declared.callback.Callback.{Callback}
 use Rattle.mama_event.specs.declared.callback.Callback.TheVariants as on
+use Rattle.mama_event.specs.declared.group.GroupNote.{GroupNote}
+use Rattle.mama_event.specs.declared.group.GroupNote.TheVariants as grouped
+use Rattle.mama_event.specs.declared.watch.WatchNote.{WatchNote}
+use Rattle.mama_event.specs.declared.watch.WatchNote.TheVariants as watched
 use Rattle.mama_event.specs.declared.shape.Shape.{Shape}
 use Rattle.mama_event.specs.declared.to_bridge.BridgeNote.{BridgeNote}
 use Rattle.mama_event.specs.declared.to_publisher.PublisherNote.TheVariants as p
@@ -19,7 +24,7 @@ use Rattle.mama_event.specs.declared.publisher_entry.PublisherEntry.TheVariants.
 use Rattle.mama_event.specs.Ports.{clients_of, publishers_of, queue_port_of_bridge, queue_port_of_timers, is_bridge_port_of_client, is_bridge_port_of_publisher, is_bridge_port_of_queue, is_timers_port_of_client, is_timers_port_of_queue, is_timers_port_of_bridge}
 use Rattle.mama_rules_services.specs.Ports.{Putter, ByClient, ByPublisher, ByQueue, ByBridge, ByTimers, ByNobody, bridge_putter, timers_putter, queue_putter}
 use Rattle.mama_record.specs.RunData.{LastImage}
-use Rattle.mama_record.specs.LogText.{putter_text, bridge_note_text, timers_note_text, queue_note_text, publisher_entry_text, callback_text, bridge_entry_text, clock_text, given_text, image_text, queue_entry_text, timers_entry_text, told}
+use Rattle.mama_record.specs.LogText.{putter_text, bridge_note_text, timers_note_text, queue_note_text, publisher_entry_text, callback_text, bridge_entry_text, clock_text, given_text, group_note_text, watch_note_text, image_text, queue_entry_text, timers_entry_text, told}
 use Rattle.mama_log_line.specs.Names.{NamesData}
 use Rattle.mama_log_line.specs.Entering.{MayEnterBridge, MayEnterTimers, MayEnterQueue, BridgeFrom, TimersFrom, QueueFrom}
 use Rattle.mama_words.specs.Kind.{quality_text}
@@ -46,10 +51,13 @@ others (b ∷ bs) = bs
 abbrev begins : ℕ → ℕ → ℕ → List ℕ → Bool
 begins a b c l = first l == a && (first (others l) == b && first (others (others l)) == c)
 
--- the first three bytes are those of a line that begins a section
+abbrev begins_timers : List ℕ → Bool
+begins_timers l = begins 116 105 109 l && begins 101 114 115 (others (others (others l)))
+
+-- the first bytes are those of a line that begins a section
 abbrev pub is_head : List ℕ → Bool
 is_head l =
-    begins 109 97 109 l || (begins 99 108 105 l || (begins 112 117 98 l || (begins 98 114 105 l || (begins 116 105 109 l || (begins 113 117 101 l || (begins 111 110 32 l || (begins 105 109 97 l || (begins 115 116 114 l || begins 101 110 100 l))))))))
+    begins 109 97 109 l || (begins 99 108 105 l || (begins 112 117 98 l || (begins 98 114 105 l || (begins_timers l || (begins 113 117 101 l || (begins 111 110 32 l || (begins 103 114 111 l || (begins 119 97 116 l || (begins 105 109 97 l || (begins 115 116 114 l || begins 101 110 100 l))))))))))
 
 pub head_is : (section : Section) → is_head (head_of section) ≡ true
 head_is (s.Title version.One) = refl
@@ -62,6 +70,8 @@ head_is s.Bridge = refl
 head_is s.Timers = refl
 head_is (s.Queue n) = refl
 head_is (s.Object o) = refl
+head_is (s.Group n) = refl
+head_is (s.Watch n) = refl
 head_is s.Images = refl
 head_is s.End = refl
 
@@ -75,6 +85,8 @@ more_is s.Bridge t h = refl
 more_is s.Timers t h = refl
 more_is (s.Queue n) t h = refl
 more_is (s.Object o) t h = refl
+more_is (s.Group n) t h = refl
+more_is (s.Watch n) t h = refl
 more_is s.Images t h = refl
 more_is s.End t h = absurd cc
 
@@ -141,6 +153,11 @@ first_digit (d ∷ ds) t b h some not_b = ne_eqb d b (λ e. let p = and_parts (i
 number_first : (n : ℕ) (t : List ℕ) (b : ℕ) → n < 2 ^ 64 → is_digit b ≡ false → eqb (first (decimal n ++ t)) b ≡ false
 number_first n t b small not_b = first_digit (decimal n) t b (decimal_digits n small) (decimal_nonempty n small) not_b
 
+-- a note of a member names a client whose number is below 2 ^ 64
+abbrev pub IsSmallNote : GroupNote → Type 0
+IsSmallNote (grouped.Call sub call) = sub.client < 2 ^ 64
+IsSmallNote (grouped.State state) = Unit {0}
+
 -- an image begins with the id of a subscription
 pub image_no_head : (i : LastImage) → i.sub.client < 2 ^ 64 → is_head (image_text i) ≡ false
 image_no_head i small =
@@ -155,6 +172,19 @@ image_no_head i small =
   where
     regroup : (id a b c d e : List ℕ) → ((((id ++ a) ++ b) ++ c) ++ d) ++ e ≡ id ++ (a ++ (b ++ (c ++ (d ++ e))))
     regroup id a b c d e = simp append_assoc
+
+pub watch_no_head : (n : WatchNote) → is_head (watch_note_text n) ≡ false
+watch_no_head (watched.Retry count moment) = refl
+watch_no_head (watched.Timeout moment) = refl
+
+-- so does what a group hears of a member
+pub group_no_head : (n : GroupNote) → IsSmallNote n → is_head (group_note_text n) ≡ false
+group_no_head (grouped.State state) small = refl
+group_no_head (grouped.Call sub call) small =
+    let id = decimal sub.client in
+    let rest = (46 ∷ decimal sub.number) ++ 32 ∷ callback_text call in
+    let same : group_note_text (grouped.Call sub call) ≡ 115 ∷ (id ++ rest) = ap (λ (t : List ℕ). 115 ∷ t) (append_assoc id (46 ∷ decimal sub.number) (32 ∷ callback_text call)) in
+    ap is_head same ∙ (rw (number_first sub.client rest 116 small refl) refl)
 
 client_no_head : (c : ℕ) (t : List ℕ) → c < 2 ^ 64 → is_head (99 ∷ (decimal c ++ t)) ≡ false
 client_no_head c t small = rw (number_first c t 108 small refl) refl

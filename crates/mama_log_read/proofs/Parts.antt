@@ -7,12 +7,15 @@ use Rattle.mama_event.specs.declared.ids.SubId.{SubId}
 use Rattle.mama_event.specs.declared.ids.ObjectId.{ObjectId}
 use Rattle.mama_event.specs.declared.callback.CallNote.{CallNote}
 use Rattle.mama_words.proofs.Choices.{some_is, and_then_some}
-use Rattle.mama_record.specs.RunData.{ObjectCalls, LastImage}
-use Rattle.mama_record.specs.LogText.{publisher_entry_text, bridge_entry_text, clock_text, image_text, queue_entry_text, timers_entry_text}
+use Rattle.mama_event.specs.declared.group.GroupNote.{GroupNote}
+use Rattle.mama_event.specs.declared.group.GroupNote.TheVariants.{Call, State}
+use Rattle.mama_event.specs.declared.watch.WatchNote.{WatchNote}
+use Rattle.mama_record.specs.RunData.{ObjectCalls, LastImage, GroupNotes, WatchNotes}
+use Rattle.mama_record.specs.LogText.{publisher_entry_text, bridge_entry_text, clock_text, group_note_text, watch_note_text, image_text, queue_entry_text, timers_entry_text}
 use Rattle.mama_log_line.specs.Names.{NamesData}
-use Rattle.mama_log_line.specs.Entering.{MayEnterPublisher, MayEnterBridge, MayEnterTimers, MayEnterQueue, IsLastImage}
+use Rattle.mama_log_line.specs.Entering.{MayEnterPublisher, MayEnterBridge, MayEnterTimers, MayEnterQueue, MayHearGroup, MayNote, IsLastImage}
 use Rattle.mama_log_read.specs.Logged.{IsMoment, MayCall}
-use Rattle.mama_log_read.specs.Part.{Part, Bare, Moments, Sends, OnBridge, OnTimers, OnQueue, Heard, Pictures, Fits, bodies, behind, behind_all}
+use Rattle.mama_log_read.specs.Part.{Part, Bare, Moments, Sends, OnBridge, OnTimers, OnQueue, Heard, Pictures, Grouped, Watched, Fits, bodies, behind, behind_all}
 use Rattle.mama_log_read.specs.Reading.{GoesOn}
 use Rattle.mama_log_read.specs.declared.section.Section.{Section}
 use Rattle.mama_log_read.specs.declared.section.Section.TheVariants as s
@@ -21,7 +24,7 @@ use Rattle.mama_log_read.proofs.Spelled as spelled
 use Rattle.mama_log_read.proofs.NoHead as heads
 use Rattle.mama_log_read.proofs.Alike.{each_map, same_map, beyond_map}
 use Rattle.mama_log_read.proofs.Callbacks.{each_call, same_calls, beyond_calls}
-use Rattle.mama_log_read.proofs.Whole.{moments_in, sends_in, bridge_in, timers_in, queue_in, heard_in, pictures_in, title_in, strategy_in, end_in}
+use Rattle.mama_log_read.proofs.Whole.{moments_in, sends_in, bridge_in, timers_in, queue_in, heard_in, grouped_in, watched_in, pictures_in, title_in, strategy_in, end_in}
 
 pub part_plain : (names : NamesData) (objects : List ObjectId) (section : Section) (part : Part) → Fits names objects section part → ArePlain (bodies names.shape part)
 part_plain names objects (s.Title v) Bare h = tt
@@ -34,11 +37,17 @@ part_plain names objects (s.Queue n) (OnQueue xs) h = each_map (MayEnterQueue na
 part_plain names objects (s.Object o) (Heard x) h =
     each_call names x.object IsPlain (spelled.plain_call names.nums x.object) (spelled.plain_order names) x.calls (recursion_from_All (MayCall names x.object) x.calls h.1)
 part_plain names objects s.Images (Pictures xs) h = each_map (IsLastImage names) IsPlain image_text (spelled.plain_image names) xs (recursion_from_All (IsLastImage names) xs h.1.each)
+part_plain names objects (s.Group n) (Grouped g) h = each_map (MayHearGroup names) IsPlain group_note_text (spelled.plain_group names) g.notes (recursion_from_All (MayHearGroup names) g.notes h.1)
+part_plain names objects (s.Watch n) (Watched w) h = each_map MayNote IsPlain watch_note_text spelled.plain_watch w.notes (recursion_from_All MayNote w.notes h.1)
 part_plain names objects s.End Bare h = tt
 part_plain names objects _ _ h = absurd h
 
 abbrev pub IsNoHead : List ℕ → Type 0
 IsNoHead l = heads.is_head l ≡ false
+
+small_note : (names : NamesData) (n : GroupNote) → MayHearGroup names n → heads.IsSmallNote n
+small_note names (Call sub call) h = let c = h.0.client in omega (arith, c)
+small_note names (State state) h = tt
 
 pub part_no_head : (names : NamesData) (objects : List ObjectId) (section : Section) (part : Part) → Fits names objects section part → AllByRecursion IsNoHead (bodies names.shape part)
 part_no_head names objects (s.Title v) Bare h = tt
@@ -51,6 +60,8 @@ part_no_head names objects (s.Queue n) (OnQueue xs) h = each_map (MayEnterQueue 
 part_no_head names objects (s.Object o) (Heard x) h =
     each_call names x.object IsNoHead (λ c m. heads.call_no_head c) (λ o m. heads.order_no_head o) x.calls (recursion_from_All (MayCall names x.object) x.calls h.1)
 part_no_head names objects s.Images (Pictures xs) h = each_map (IsLastImage names) IsNoHead image_text (λ i m. heads.image_no_head i (let h = m.sub.client in omega (arith, h))) xs (recursion_from_All (IsLastImage names) xs h.1.each)
+part_no_head names objects (s.Group n) (Grouped g) h = each_map (MayHearGroup names) IsNoHead group_note_text (λ n m. heads.group_no_head n (small_note names n m)) g.notes (recursion_from_All (MayHearGroup names) g.notes h.1)
+part_no_head names objects (s.Watch n) (Watched w) h = each_map MayNote IsNoHead watch_note_text (λ n m. heads.watch_no_head n) w.notes (recursion_from_All MayNote w.notes h.1)
 part_no_head names objects s.End Bare h = tt
 part_no_head names objects _ _ h = absurd h
 
@@ -59,6 +70,14 @@ part_no_head names objects _ _ h = absurd h
 heard_is : (x y : ObjectCalls) → x.object ≡ y.object → x.calls ≡ y.calls → x ≡ y
 heard_is x y e f =
     ap (λ (o : ObjectId). let r : ObjectCalls = record { object = o; calls = x.calls } in r) e ∙ ap (λ (c : List CallNote). let r : ObjectCalls = record { object = y.object; calls = c } in r) f
+
+notes_are : (x y : GroupNotes) → x.group ≡ y.group → x.notes ≡ y.notes → x ≡ y
+notes_are x y e f =
+    ap (λ (n : ℕ). let r : GroupNotes = record { group = n; notes = x.notes } in r) e ∙ ap (λ (c : List GroupNote). let r : GroupNotes = record { group = y.group; notes = c } in r) f
+
+noted_are : (x y : WatchNotes) → x.watch ≡ y.watch → x.notes ≡ y.notes → x ≡ y
+noted_are x y e f =
+    ap (λ (n : ℕ). let r : WatchNotes = record { watch = n; notes = x.notes } in r) e ∙ ap (λ (c : List WatchNote). let r : WatchNotes = record { watch = y.watch; notes = c } in r) f
 
 pub part_same : (names : NamesData) (objects : List ObjectId) (section : Section) (v w : Part) → Fits names objects section v → Fits names objects section w → bodies names.shape v ≡ bodies names.shape w → v ≡ w
 part_same names objects (s.Title x) v w h k e = let a = title_in names objects x v h in let b = title_in names objects x w k in a.1 ∙ sym b.1
@@ -102,6 +121,17 @@ part_same names objects s.Images v w h k e =
     let b = pictures_in names objects w k in
     let same = sym (ap (bodies names.shape) a.1) ∙ e ∙ ap (bodies names.shape) b.1 in
     a.1 ∙ ap Pictures (same_map (IsLastImage names) image_text (spelled.same_image names) a.0 b.0 (recursion_from_All (IsLastImage names) a.0 a.2.1.each) (recursion_from_All (IsLastImage names) b.0 b.2.1.each) same) ∙ sym b.1
+part_same names objects (s.Group n) v w h k e =
+    let May = MayHearGroup names in
+    let a = grouped_in names objects n v h in
+    let b = grouped_in names objects n w k in
+    let same = sym (ap (bodies names.shape) a.1) ∙ e ∙ ap (bodies names.shape) b.1 in
+    a.1 ∙ ap Grouped (notes_are a.0 b.0 (a.2.0 ∙ sym b.2.0) (same_map May group_note_text (spelled.same_group names) a.0.notes b.0.notes (recursion_from_All May a.0.notes a.2.1) (recursion_from_All May b.0.notes b.2.1) same)) ∙ sym b.1
+part_same names objects (s.Watch n) v w h k e =
+    let a = watched_in names objects n v h in
+    let b = watched_in names objects n w k in
+    let same = sym (ap (bodies names.shape) a.1) ∙ e ∙ ap (bodies names.shape) b.1 in
+    a.1 ∙ ap Watched (noted_are a.0 b.0 (a.2.0 ∙ sym b.2.0) (same_map MayNote watch_note_text spelled.same_watch a.0.notes b.0.notes (recursion_from_All MayNote a.0.notes a.2.1) (recursion_from_All MayNote b.0.notes b.2.1) same)) ∙ sym b.1
 part_same names objects s.End v w h k e = let a = end_in names objects v h in let b = end_in names objects w k in a.1 ∙ sym b.1
 
 -- ---- a line more
@@ -182,4 +212,19 @@ part_beyond names objects s.Images v w l ls h k e =
     let later = behind_split objects (map (λ i. i.sub) a.0) (map (λ i. i.sub) r.others) r.entry.sub a.2.0 b.2.0 (sym (ap (behind_all objects) subs) ∙ b.2.1.ordered) a.2.1.ordered in
     let P : Part → Type 0 = λ x. GoesOn names objects x l in
     subst P (sym a.1) (a.2.0, a.2.1.ordered, (r.entry, (r.may, later), r.spelled))
+part_beyond names objects (s.Group n) v w l ls h k e =
+    let May = MayHearGroup names in
+    let a = grouped_in names objects n v h in
+    let b = grouped_in names objects n w k in
+    let more : bodies names.shape (Grouped b.0) ≡ bodies names.shape (Grouped a.0) ++ l ∷ ls = sym (ap (bodies names.shape) b.1) ∙ e ∙ ap (λ (x : Part). bodies names.shape x ++ l ∷ ls) a.1 in
+    let r = beyond_map May group_note_text (spelled.same_group names) a.0.notes b.0.notes l ls (recursion_from_All May a.0.notes a.2.1) (recursion_from_All May b.0.notes b.2.1) more in
+    let P : Part → Type 0 = λ x. GoesOn names objects x l in
+    subst P (sym a.1) (r.entry, r.may, r.spelled)
+part_beyond names objects (s.Watch n) v w l ls h k e =
+    let a = watched_in names objects n v h in
+    let b = watched_in names objects n w k in
+    let more : bodies names.shape (Watched b.0) ≡ bodies names.shape (Watched a.0) ++ l ∷ ls = sym (ap (bodies names.shape) b.1) ∙ e ∙ ap (λ (x : Part). bodies names.shape x ++ l ∷ ls) a.1 in
+    let r = beyond_map MayNote watch_note_text spelled.same_watch a.0.notes b.0.notes l ls (recursion_from_All MayNote a.0.notes a.2.1) (recursion_from_All MayNote b.0.notes b.2.1) more in
+    let P : Part → Type 0 = λ x. GoesOn names objects x l in
+    subst P (sym a.1) (r.entry, r.may, r.spelled)
 part_beyond names objects s.End v w l ls h k e = absurd (bare_beyond names v w l ls (end_in names objects w k).1 e)

@@ -47,6 +47,8 @@ bare_few names objects section part none fits = by section none fits
     by s.Timers e fits = absurd cc
     by (s.Queue n) e fits = absurd cc
     by (s.Object o) e fits = absurd cc
+    by (s.Group n) e fits = absurd cc
+    by (s.Watch n) e fits = absurd cc
     by s.Images e fits = absurd cc
 
 pub told_first : (v : Version) (names : NamesData) (objects : List ObjectId) (section : Section) (part : Part) (told : Told) (line : List ℕ) → Fits names objects section part → IsTold v section told line → IsTally told (length (bodies names.shape part))

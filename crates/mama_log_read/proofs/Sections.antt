@@ -116,12 +116,24 @@ plain_titles : (v : Version) (strategy : Strategy) → AllByRecursion HasPlainHe
 plain_titles One strategy = (refl, tt)
 plain_titles Two strategy = (refl, (plain_strategy strategy, tt))
 
--- each section of a log with few clients, publishers and queues begins with one line
-pub plain_sections : (v : Version) (strategy : Strategy) (clients publishers queues : ℕ) (objects : List ObjectId) → clients < 2 ^ 64 → publishers < 2 ^ 64 → queues < 2 ^ 64 → AllByRecursion (λ o. HasPlainHead (s.Object o)) objects → AllByRecursion HasPlainHead (sections_with v strategy clients publishers queues objects)
-plain_sections v strategy clients publishers queues objects c p q h =
-    let at_end : AllByRecursion HasPlainHead (s.Images ∷ s.End ∷ []) = (refl, (refl, tt)) in
-    let at_objects = joined (map s.Object objects) (s.Images ∷ s.End ∷ []) (plain_objects objects h) at_end in
-    let objects_part : List Section = map s.Object objects ++ (s.Images ∷ s.End ∷ []) in
+plain_group : (n : ℕ) → n < 2 ^ 64 → HasPlainHead (s.Group n)
+plain_group n h = decimal_lacks 10 n refl h
+
+plain_watch : (n : ℕ) → n < 2 ^ 64 → HasPlainHead (s.Watch n)
+plain_watch n h = decimal_lacks 10 n refl h
+
+-- each section of a log with few clients, publishers, queues, groups and watches begins with one line
+pub plain_sections : (v : Version) (strategy : Strategy) (clients publishers queues : ℕ) (objects : List ObjectId) (groups watches : ℕ) → clients < 2 ^ 64 → publishers < 2 ^ 64 → queues < 2 ^ 64 → AllByRecursion (λ o. HasPlainHead (s.Object o)) objects → groups < 2 ^ 32 → watches < 2 ^ 32
+    → AllByRecursion HasPlainHead (sections_with v strategy clients publishers queues objects groups watches)
+plain_sections v strategy clients publishers queues objects groups watches c p q h g w =
+    let end_part : List Section = s.Images ∷ s.End ∷ [] in
+    let at_end : AllByRecursion HasPlainHead end_part = (refl, (refl, tt)) in
+    let at_watches = joined (numbered_from s.Watch 0 watches) end_part (plain_from s.Watch plain_watch 0 watches (omega (arith, w))) at_end in
+    let watches_part : List Section = numbered_from s.Watch 0 watches ++ end_part in
+    let at_groups = joined (numbered_from s.Group 0 groups) watches_part (plain_from s.Group plain_group 0 groups (omega (arith, g))) at_watches in
+    let groups_part : List Section = numbered_from s.Group 0 groups ++ watches_part in
+    let at_objects = joined (map s.Object objects) groups_part (plain_objects objects h) at_groups in
+    let objects_part : List Section = map s.Object objects ++ groups_part in
     let at_queues = joined (numbered_from s.Queue 0 queues) objects_part (plain_from s.Queue plain_queue 0 queues (omega (arith, q))) at_objects in
     let bridge_part : List Section = s.Bridge ∷ s.Timers ∷ (numbered_from s.Queue 0 queues ++ objects_part) in
     let at_bridge : AllByRecursion HasPlainHead bridge_part = (refl, (refl, at_queues)) in
@@ -130,31 +142,32 @@ plain_sections v strategy clients publishers queues objects c p q h =
     joined (titles v strategy) client_part (plain_titles v strategy) (joined (numbered_from s.Client 0 clients) (numbered_from s.Publisher 0 publishers ++ bridge_part) (plain_from s.Client plain_client 0 clients (omega (arith, c))) at_publishers)
 
 -- so do those of a script
-pub plain_of : {X : Type 0} (v : Version) (strategy : Strategy) (script : ScriptData) (clients publishers queues : ℕ) (objects : List ObjectId) (items : X → List Section) {E : Type 0} (r : Result X E) → IsWithin script → clients ≡ length script.clients → publishers ≡ length script.publishers → queues ≡ queues_of script.shape
-    → IfOk r (λ x. items x ≡ sections_with v strategy clients publishers queues objects) → IfOk r (λ x. All (λ o. HasPlainHead (s.Object o)) objects → All (λ x. HasPlainHead x) (items x))
-plain_of v strategy script clients publishers queues objects items (Ok x) within c p q h = λ plain.
+pub plain_of : {X : Type 0} (v : Version) (strategy : Strategy) (script : ScriptData) (clients publishers queues : ℕ) (objects : List ObjectId) (groups watches : ℕ) (items : X → List Section) {E : Type 0} (r : Result X E) → IsWithin script → clients ≡ length script.clients → publishers ≡ length script.publishers → queues ≡ queues_of script.shape → groups < 2 ^ 32 → watches < 2 ^ 32
+    → IfOk r (λ x. items x ≡ sections_with v strategy clients publishers queues objects groups watches) → IfOk r (λ x. All (λ o. HasPlainHead (s.Object o)) objects → All (λ x. HasPlainHead x) (items x))
+plain_of v strategy script clients publishers queues objects groups watches items (Ok x) within c p q g w h = λ plain.
     let P : List Section → Type 0 = λ t. All (λ x. HasPlainHead x) t in
-    subst P (sym h) (All-from_recursion (λ x. HasPlainHead x) (sections_with v strategy clients publishers queues objects) (plain_sections v strategy clients publishers queues objects (few clients 64 c within.clients_few (omega arith)) (few publishers 1024 p within.publishers_few (omega arith)) (few queues 64 q within.queues_few (omega arith)) (recursion_from_All (λ o. HasPlainHead (s.Object o)) objects plain)))
+    subst P (sym h) (All-from_recursion (λ x. HasPlainHead x) (sections_with v strategy clients publishers queues objects groups watches) (plain_sections v strategy clients publishers queues objects groups watches (few clients 64 c within.clients_few (omega arith)) (few publishers 1024 p within.publishers_few (omega arith)) (few queues 64 q within.queues_few (omega arith)) (recursion_from_All (λ o. HasPlainHead (s.Object o)) objects plain) g w))
   where
     few : {m : ℕ} (n most : ℕ) → n ≡ m → m ≤ most → most < 2 ^ 64 → n < 2 ^ 64
     few n most e le lt = omega (arith, e, le, lt)
-plain_of v strategy script clients publishers queues objects items (Err e) within c p q h = tt
+plain_of v strategy script clients publishers queues objects groups watches items (Err e) within c p q g w h = tt
 
 -- ---- sections in a row
 
-abbrev with_sections : List Section → List Section → List Section → List Section → List Section → List Section
-with_sections t c p q o = t ++ (c ++ (p ++ (s.Bridge ∷ s.Timers ∷ (q ++ (o ++ (s.Images ∷ s.End ∷ []))))))
+abbrev with_sections : List Section → List Section → List Section → List Section → List Section → List Section → List Section → List Section
+with_sections t c p q o m w = t ++ (c ++ (p ++ (s.Bridge ∷ s.Timers ∷ (q ++ (o ++ (m ++ (w ++ (s.Images ∷ s.End ∷ []))))))))
 
-one_by_one : (t c p q o : List Section) → (((((((([] ++ t) ++ c) ++ p) ++ s.Bridge ∷ []) ++ s.Timers ∷ []) ++ q) ++ o) ++ s.Images ∷ []) ++ s.End ∷ [] ≡ with_sections t c p q o
-one_by_one t c p q o = simp append_assoc
+one_by_one : (t c p q o m w : List Section) → (((((((((([] ++ t) ++ c) ++ p) ++ s.Bridge ∷ []) ++ s.Timers ∷ []) ++ q) ++ o) ++ m) ++ w) ++ s.Images ∷ []) ++ s.End ∷ [] ≡ with_sections t c p q o m w
+one_by_one t c p q o m w = simp append_assoc
 
 -- the sections of a log, listed one after the other
-pub in_a_row : {none titled clients publishers bridge timers queues objects images all : List Section} (t c p q o : List Section) → none ≡ [] → titled ≡ none ++ t → clients ≡ titled ++ c → publishers ≡ clients ++ p → bridge ≡ publishers ++ s.Bridge ∷ [] → timers ≡ bridge ++ s.Timers ∷ []
-    → queues ≡ timers ++ q → objects ≡ queues ++ o → images ≡ objects ++ s.Images ∷ [] → all ≡ images ++ s.End ∷ [] → all ≡ with_sections t c p q o
-in_a_row t c p q o none titled clients publishers bridge timers queues objects images all =
+pub in_a_row : {none titled clients publishers bridge timers queues objects groups watches images all : List Section} (t c p q o m w : List Section) → none ≡ [] → titled ≡ none ++ t → clients ≡ titled ++ c → publishers ≡ clients ++ p → bridge ≡ publishers ++ s.Bridge ∷ [] → timers ≡ bridge ++ s.Timers ∷ []
+    → queues ≡ timers ++ q → objects ≡ queues ++ o → groups ≡ objects ++ m → watches ≡ groups ++ w → images ≡ watches ++ s.Images ∷ [] → all ≡ images ++ s.End ∷ [] → all ≡ with_sections t c p q o m w
+in_a_row t c p q o m w none titled clients publishers bridge timers queues objects groups watches images all =
     let add : List Section → List Section → List Section = λ x y. y ++ x in
     let before = titled ∙ ap (add t) none in
     let sent = publishers ∙ ap (add p) (clients ∙ ap (add c) before) in
     let timed = timers ∙ ap (add (s.Timers ∷ [])) (bridge ∙ ap (add (s.Bridge ∷ [])) sent) in
     let heard = objects ∙ ap (add o) (queues ∙ ap (add q) timed) in
-    all ∙ ap (add (s.End ∷ [])) (images ∙ ap (add (s.Images ∷ [])) heard) ∙ one_by_one t c p q o
+    let listed = watches ∙ ap (add w) (groups ∙ ap (add m) heard) in
+    all ∙ ap (add (s.End ∷ [])) (images ∙ ap (add (s.Images ∷ [])) listed) ∙ one_by_one t c p q o m w

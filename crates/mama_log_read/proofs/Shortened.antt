@@ -11,9 +11,9 @@ use Rattle.mama_words.proofs.Choices.{and_then_some}
 use Rattle.mama_record.specs.RunData.{LastImage}
 use Rattle.mama_record.specs.LogText.{callback_text, given_text, call_texts}
 use Rattle.mama_log_line.specs.Names.{NamesData}
-use Rattle.mama_log_line.specs.Entering.{MayEnterPublisher, MayEnterBridge, MayEnterTimers, MayEnterQueue, MayOrder, IsLastImage}
+use Rattle.mama_log_line.specs.Entering.{MayEnterPublisher, MayEnterBridge, MayEnterTimers, MayEnterQueue, MayHearGroup, MayNote, MayOrder, IsLastImage}
 use Rattle.mama_log_read.specs.Logged.{IsMoment, MayCall}
-use Rattle.mama_log_read.specs.Part.{Part, Bare, Moments, Sends, OnBridge, OnTimers, OnQueue, Heard, Pictures, Fits, ArePictures, bodies, behind, behind_all}
+use Rattle.mama_log_read.specs.Part.{Part, Bare, Moments, Sends, OnBridge, OnTimers, OnQueue, Heard, Pictures, Grouped, Watched, Fits, ArePictures, bodies, behind, behind_all}
 use Rattle.mama_log_read.specs.declared.section.Section.{Section}
 use Rattle.mama_log_read.specs.declared.section.Section.TheVariants as s
 
@@ -130,5 +130,7 @@ shortened names objects (s.Object o) (Heard x) k h =
     let f = few_calls names x.object k x.calls (recursion_from_All (MayCall names x.object) x.calls h.1) in
     record { short = Heard (record { object = x.object; calls = f.few }); fits = (h.0, All-from_recursion (MayCall names x.object) f.few f.may); is = f.is }
 shortened names objects s.Images (Pictures xs) k h = record { short = Pictures (take k xs); fits = few_pictures names objects k xs h.0 h.1; is = map_take _ k xs }
+shortened names objects (s.Group n) (Grouped g) k h = record { short = Grouped (record { group = g.group; notes = take k g.notes }); fits = (h.0, All-take (MayHearGroup names) k g.notes h.1); is = map_take _ k g.notes }
+shortened names objects (s.Watch n) (Watched w) k h = record { short = Watched (record { watch = w.watch; notes = take k w.notes }); fits = (h.0, All-take MayNote k w.notes h.1); is = map_take _ k w.notes }
 shortened names objects s.End Bare k h = record { short = Bare; fits = tt; is = take_none k }
 shortened names objects _ _ k h = absurd h

@@ -6,6 +6,8 @@ use Rattle.std.proofs.lemmas.Bool.{and_parts}
 use Rattle.mama_event.specs.declared.ids.ObjectId.{ObjectId}
 use Rattle.mama_event.specs.declared.order.Order.{Order}
 use Rattle.mama_event.specs.declared.callback.Callback.{Callback}
+use Rattle.mama_event.specs.declared.group.GroupNote.{GroupNote}
+use Rattle.mama_event.specs.declared.watch.WatchNote.{WatchNote}
 use Rattle.mama_event.specs.declared.to_bridge.BridgeNote.{BridgeNote}
 use Rattle.mama_event.specs.declared.to_timers.TimersNote.{TimersNote}
 use Rattle.mama_event.specs.declared.to_queue.QueueNote.{QueueNote}
@@ -16,10 +18,10 @@ use Rattle.mama_words.specs.declared.parting.Place.TheVariants.{Outside}
 use Rattle.mama_words.proofs.Choices.{ok_is, step_ok, chosen_some}
 use Rattle.mama_words.proofs.Cutting.{all_lack}
 use Rattle.mama_record.specs.RunData.{LastImage}
-use Rattle.mama_record.specs.LogText.{publisher_entry_text, callback_text, bridge_entry_text, clock_text, given_text, image_text, queue_entry_text, timers_entry_text}
+use Rattle.mama_record.specs.LogText.{publisher_entry_text, callback_text, bridge_entry_text, clock_text, given_text, group_note_text, watch_note_text, image_text, queue_entry_text, timers_entry_text}
 use Rattle.mama_words.specs.declared.nums.Nums.{Nums}
 use Rattle.mama_log_line.specs.Names.{NamesData}
-use Rattle.mama_log_line.specs.Entering.{MayEnterPublisher, MayEnterBridge, MayEnterTimers, MayEnterQueue, MayHear, MayOrder, IsLastImage}
+use Rattle.mama_log_line.specs.Entering.{MayEnterPublisher, MayEnterBridge, MayEnterTimers, MayEnterQueue, MayHear, MayOrder, MayHearGroup, MayNote, IsLastImage}
 use Rattle.mama_log_line.specs.Journal.{publisher_line_in, publisher_words_in, bridge_line_in, bridge_words_in, timers_line_in, timers_words_in, queue_line_in, queue_words_in}
 use Rattle.mama_log_line.specs.Calls.{call_line_in, call_words_in, order_line_in, order_words_in, clock_line_in, clock_words_in, image_line_in, image_words_in}
 use Rattle.mama_log_line.proofs.PublisherLaws.{publisher_again}
@@ -27,6 +29,8 @@ use Rattle.mama_log_line.proofs.BridgeLaws.{bridge_again}
 use Rattle.mama_log_line.proofs.TimersLaws.{timers_again}
 use Rattle.mama_log_line.proofs.QueueLaws.{queue_again}
 use Rattle.mama_log_line.proofs.CallLaws.{call_again}
+use Rattle.mama_log_line.specs.Lists.{group_line_in, group_words_in, watch_line_in, watch_words_in}
+use Rattle.mama_log_line.proofs.ListLaws.{group_again, watch_again}
 use Rattle.mama_log_line.proofs.OtherLaws.{order_line_again, clock_again, image_again}
 use Rattle.mama_log_read.specs.Logged.{IsMoment}
 use Rattle.mama_log_read.proofs.Lines.{IsPlain}
@@ -115,3 +119,21 @@ pub same_image : (names : NamesData) (i j : LastImage) → IsLastImage names i �
 same_image names i j h k same =
     let text = image_text i in
     one_read (image_line_in names text) i j (image_again names text i h refl) (image_again names text j k (ended text (image_text j) same))
+
+pub plain_group : (names : NamesData) (n : GroupNote) → MayHearGroup names n → IsPlain (group_note_text n)
+unfolding group_line_in
+plain_group names n h = plain_read (group_words_in names) (group_note_text n) n (group_again names (group_note_text n) n h refl)
+
+pub same_group : (names : NamesData) (m n : GroupNote) → MayHearGroup names m → MayHearGroup names n → group_note_text m ≡ group_note_text n → m ≡ n
+same_group names m n h k same =
+    let text = group_note_text m in
+    one_read (group_line_in names text) m n (group_again names text m h refl) (group_again names text n k (ended text (group_note_text n) same))
+
+pub plain_watch : (n : WatchNote) → MayNote n → IsPlain (watch_note_text n)
+unfolding watch_line_in
+plain_watch n h = plain_read watch_words_in (watch_note_text n) n (watch_again (watch_note_text n) n h refl)
+
+pub same_watch : (m n : WatchNote) → MayNote m → MayNote n → watch_note_text m ≡ watch_note_text n → m ≡ n
+same_watch m n h k same =
+    let text = watch_note_text m in
+    one_read (watch_line_in text) m n (watch_again text m h refl) (watch_again text n k (ended text (watch_note_text n) same))

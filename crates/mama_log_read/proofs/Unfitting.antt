@@ -17,14 +17,14 @@ use Rattle.mama_log_read.specs.Logged.{HasLog}
 use Rattle.mama_log_read.specs.Unfit.{AreFirst, AreAtHand, BeginLog, IsLogOf, Unfit, IsFirstUnfit}
 use Rattle.mama_log_read.specs.Section.{sections, HasPlainHead}
 use Rattle.mama_log_read.specs.Part.{Part, all_lines}
-use Rattle.mama_log_read.specs.Reading.{Begins, GoesOn, last_part, IsNumbered, IsStuck, version_by}
+use Rattle.mama_log_read.specs.Reading.{Begins, GoesOn, last_part, IsNumbered, IsStuck, version_by, has_lists}
 use Rattle.mama_log_read.specs.declared.section.Section.{Section}
 use Rattle.mama_log_read.proofs.Lines.{IsPlain, ArePlain, lines_begin, lines_text-append, pieces_lines, first_line}
 use Rattle.mama_log_read.proofs.Whole.{named, parts_of, parts_lines}
 use Rattle.mama_log_read.proofs.Record.{parts_named, parts_fit}
 use Rattle.mama_log_read.proofs.Following.{Headed, headed_lines, filled, AreBegun, BeginsFirst, Follows, follows}
 use Rattle.mama_log_read.proofs.Cores.{all_front, all_back}
-use Rattle.mama_log_read.proofs.Begun.{ArePlainHeads, IsReadOf, FitsScript, fit_of, few_of, with_counts, counts_lines, counts_filled, counts_begun, counts_fit, parts_are_plain, no_cut, plain_behind, log_version, whole_version, whole_few, log_plain, known_version, begins_log, IsBegunBy, begun_by}
+use Rattle.mama_log_read.proofs.Begun.{ArePlainHeads, IsReadOf, FitsScript, fit_of, few_of, with_counts, counts_lines, counts_filled, counts_begun, counts_fit, parts_are_plain, no_cut, plain_behind, log_version, whole_version, whole_few, log_plain, begins_log, IsBegunBy, begun_by}
 
 -- ---- the first line that does not fit
 
@@ -54,7 +54,7 @@ next_follows v script text left rest lines part r next b =
     subst P r.last (follows v (names_of script) (objects_of script) r.fs b.ws left (next ∷ b.more) r.fits b.fits r.begun b.begun (b.name ∙ sym r.name) whole)
 
 -- no log is this text, where what is left is a line that is not ended, or nothing, and sections are to come
-not_ended : (v : Version) (script : ScriptData) (text : List ℕ) (left : List Section) (rest : List ℕ) (lines : List (List ℕ)) (part : Part) → length text < 2 ^ 64 → v ≡ version_by script.version text → ArePlainHeads v script → ReadHere v script text left rest lines part
+not_ended : (v : Version) (script : ScriptData) (text : List ℕ) (left : List Section) (rest : List ℕ) (lines : List (List ℕ)) (part : Part) → length text < 2 ^ 64 → v ≡ version_by script.version (has_lists script) text → ArePlainHeads v script → ReadHere v script text left rest lines part
     → (rest ≡ [] → left ≡ [] → ⊥) → cut_at 10 rest ≡ None → IsLogOf script text → ⊥
 not_ended v script text left rest lines part short version plain r no_end uncut log =
     let shape = script.shape in
@@ -77,7 +77,7 @@ not_ended v script text left rest lines part short version plain r no_end uncut 
         no_cut (l, lines_text ls) (sym uncut ∙ ap (cut_at 10) at ∙ cut_at_again 10 l (lines_text ls) p.0)
 
 -- a log that begins with the lines so far and the next one is of the version by which the text was read
-pub next_begun : (v : Version) (script : ScriptData) (text : List ℕ) (lines : List (List ℕ)) (rest next after : List ℕ) → v ≡ version_by script.version text → text ≡ lines_text lines ++ rest → rest ≡ next ++ 10 ∷ after
+pub next_begun : (v : Version) (script : ScriptData) (text : List ℕ) (lines : List (List ℕ)) (rest next after : List ℕ) → v ≡ version_by script.version (has_lists script) text → text ≡ lines_text lines ++ rest → rest ≡ next ++ 10 ∷ after
     → (log : BeginLog script (lines ++ next ∷ [])) → AreFirst v script.shape log.run (lines ++ next ∷ []) ⊎ AreAtHand v script.shape log.run (lines ++ next ∷ [])
 next_begun v script text lines rest next after version taken at log =
     let P : Version → Type 0 = λ x. AreFirst x script.shape log.run (lines ++ next ∷ []) ⊎ AreAtHand x script.shape log.run (lines ++ next ∷ []) in
@@ -87,12 +87,12 @@ next_begun v script text lines rest next after version taken at log =
     grown ls =
         ap (λ (t : List ℕ). t ++ after) (lines_text-append ls (next ∷ [])) ∙ append_assoc (lines_text ls) (lines_text (next ∷ [])) after ∙ ap (λ (t : List ℕ). lines_text ls ++ t) (first_line next [] after)
 
-    by : (ls : List (List ℕ)) (log : BeginLog script (ls ++ next ∷ [])) → text ≡ lines_text (ls ++ next ∷ []) ++ after → log.version ≡ version_by script.version text
+    by : (ls : List (List ℕ)) (log : BeginLog script (ls ++ next ∷ [])) → text ≡ lines_text (ls ++ next ∷ []) ++ after → log.version ≡ version_by script.version (has_lists script) text
     by [] log e = log_version script next [] text after log e
     by (l ∷ ls) log e = log_version script l (ls ++ next ∷ []) text after log e
 
 -- what is unfit, by the pieces of what is left
-unfit_pieces : (v : Version) (script : ScriptData) (text : List ℕ) (left : List Section) (rest : List ℕ) (lines : List (List ℕ)) (part : Part) → length text < 2 ^ 64 → v ≡ version_by script.version text → ArePlainHeads v script → ReadHere v script text left rest lines part
+unfit_pieces : (v : Version) (script : ScriptData) (text : List ℕ) (left : List Section) (rest : List ℕ) (lines : List (List ℕ)) (part : Part) → length text < 2 ^ 64 → v ≡ version_by script.version (has_lists script) text → ArePlainHeads v script → ReadHere v script text left rest lines part
     → (rest ≡ [] → left ≡ [] → ⊥) → ((next after : List ℕ) → cut_at 10 rest ≡ Some (next, after) → BeginLog script (lines ++ next ∷ []) → ⊥) → (o : Option (List ℕ × List ℕ)) → cut_at 10 rest ≡ o → Unfit script text lines (pieces 10 rest)
 unfit_pieces v script text left rest lines part short version plain r no_end not_next None e =
     let P : List (List ℕ) → Type 0 = λ x. Unfit script text lines x in
@@ -105,7 +105,7 @@ unfit_pieces v script text left rest lines part short version plain r no_end not
     by [] some = absurd (omega arith)
     by (p ∷ ps) some = not_next cut.0 cut.1 e
 
-pub unfit_at : (v : Version) (script : ScriptData) (text : List ℕ) (left : List Section) (rest : List ℕ) (lines : List (List ℕ)) (part : Part) (number : ℕ) → length text < 2 ^ 64 → v ≡ version_by script.version text → ArePlainHeads v script
+pub unfit_at : (v : Version) (script : ScriptData) (text : List ℕ) (left : List Section) (rest : List ℕ) (lines : List (List ℕ)) (part : Part) (number : ℕ) → length text < 2 ^ 64 → v ≡ version_by script.version (has_lists script) text → ArePlainHeads v script
     → ReadHere v script text left rest lines part → (rest ≡ [] → left ≡ [] → ⊥) → ((next after : List ℕ) → cut_at 10 rest ≡ Some (next, after) → BeginLog script (lines ++ next ∷ []) → ⊥)
     → BeginLog script lines → IsNumbered text rest number → IsFirstUnfit script text number
 unfit_at v script text left rest lines part number short version plain r no_end not_next fits counted = record {
@@ -144,17 +144,14 @@ still : (v : Version) (left : List Section) (rest : List ℕ) → AllByRecursion
 still v [] rest plain no_head l more e h = h
 still v (next ∷ others) rest plain no_head l more e h = no_head next others refl plain.0 l more h e
 
-pub known_of : (v : Version) (script : ScriptData) (text : List ℕ) → v ≡ version_by script.version text → HasLog script v
-known_of v script text version = let V : Version → Type 0 = λ x. HasLog script x in subst V (sym version) (known_version script text)
-
-pub stuck_unfit : (v : Version) (script : ScriptData) (text : List ℕ) (number : ℕ) → length text < 2 ^ 64 → v ≡ version_by script.version text → ArePlainHeads v script → IsStuck v (names_of script) (objects_of script) (sections v script) text number → IsFirstUnfit script text number
-stuck_unfit v script text number short version plain k =
+pub stuck_unfit : (v : Version) (script : ScriptData) (text : List ℕ) (number : ℕ) → length text < 2 ^ 64 → v ≡ version_by script.version (has_lists script) text → HasLog script v → ArePlainHeads v script → IsStuck v (names_of script) (objects_of script) (sections v script) text number → IsFirstUnfit script text number
+stuck_unfit v script text number short version known plain k =
     let lines = all_lines v script.shape k.read.parts in
     let S : List Section → Type 0 = λ x. AllByRecursion HasPlainHead x in
     let r = read_here v script k.done k.left text k.run k.rest plain k.read k.all in
     let left_plain = all_back HasPlainHead k.done k.left (subst S (sym k.all) plain) in
     unfit_at v script text k.left k.rest lines (last_part k.read.parts) number short version plain r k.no_end (not_next left_plain r)
-    (begins_log v script k.done k.left text k.run k.rest k.read (known_of v script text version) k.all) k.counted
+    (begins_log v script k.done k.left text k.run k.rest k.read known k.all) k.counted
   where
     not_next : AllByRecursion HasPlainHead k.left → ReadHere v script text k.left k.rest (all_lines v script.shape k.read.parts) (last_part k.read.parts)
         → (next after : List ℕ) → cut_at 10 k.rest ≡ Some (next, after) → BeginLog script (all_lines v script.shape k.read.parts ++ next ∷ []) → ⊥

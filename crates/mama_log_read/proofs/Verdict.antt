@@ -17,14 +17,14 @@ use Rattle.mama_log_line.specs.Names.{NamesData, names_of}
 use Rattle.mama_log_read.specs.Logged.{HasLog, IsLogged}
 use Rattle.mama_log_read.specs.Unfit.{HasTellable, IsLogOf, Unfit, IsFirstUnfit, IfBad, GivesRun}
 use Rattle.mama_log_read.specs.Section.{sections, HasPlainHead}
-use Rattle.mama_log_read.specs.Reading.{IsStuck, IsMiscounted, IsReadOrStuck, version_by}
+use Rattle.mama_log_read.specs.Reading.{IsStuck, IsMiscounted, IsReadOrStuck, version_by, has_lists}
 use Rattle.mama_log_read.specs.declared.fault.LogFault.{LogFault}
 use Rattle.mama_log_read.specs.declared.fault.LogFault.TheVariants as faults
 use Rattle.mama_log_read.specs.declared.section.Section.{Section}
 use Rattle.mama_log_read.specs.declared.section.Section.TheVariants as s
 use Rattle.mama_log_read.proofs.Lines.{pieces_lines, first_line}
 use Rattle.mama_log_read.proofs.Alike.{head_or, tail_of}
-use Rattle.mama_log_read.proofs.Begun.{ArePlainHeads, whole_version, whole_few, log_plain, known_version, found_whole, again_whole, few_record}
+use Rattle.mama_log_read.proofs.Begun.{ArePlainHeads, whole_version, whole_few, log_plain, found_whole, again_whole, few_record}
 use Rattle.mama_log_read.proofs.Unfitting.{stuck_unfit}
 use Rattle.mama_log_read.proofs.Miscounted.{miscounted_unfit}
 
@@ -48,7 +48,7 @@ cut_last (x ∷ xs) z (a ∷ bs) n m os e =
     let more = cut_last xs z bs n m os (ap tail_of e) in
     (more.0, ap (λ (t : List ℕ). t ∷ xs) (ap (head_or []) e) ∙ ap (λ (t : List (List ℕ)). a ∷ t) more.1)
 
-pub no_unfit : (v : Version) (script : ScriptData) (text : List ℕ) (number : ℕ) → length text < 2 ^ 64 → v ≡ version_by script.version text → ArePlainHeads v script → IsFirstUnfit script text number → IsLogOf script text → ⊥
+pub no_unfit : (v : Version) (script : ScriptData) (text : List ℕ) (number : ℕ) → length text < 2 ^ 64 → v ≡ version_by script.version (has_lists script) text → ArePlainHeads v script → IsFirstUnfit script text number → IsLogOf script text → ⊥
 no_unfit v script text number short version plain u log =
     let same : log.version ≡ v = whole_version script log.version log.run text log.known log.whole ∙ sym version in
     let W : Version → Type 0 = λ x. text ≡ log_text x script.shape log.run in
@@ -72,35 +72,34 @@ no_unfit v script text number short version plain u log =
 abbrev pub IsAnswer : Version → ScriptData → List ℕ → Result RunData LogFault → Type 0
 IsAnswer v script text r = IsReadOrStuck v (names_of script) (objects_of script) (sections v script) text r
 
-pub answer_found : (v : Version) (script : ScriptData) (text : List ℕ) (r : Result RunData LogFault) → v ≡ version_by script.version text → IsAnswer v script text r
+pub answer_found : (v : Version) (script : ScriptData) (text : List ℕ) (r : Result RunData LogFault) → HasLog script v → IsAnswer v script text r
     → IfOk r (λ run. IsLogged script run × ((w : Version) × HasLog script w × (text ≡ log_text w script.shape run)))
-answer_found v script text (Ok run) version h =
+answer_found v script text (Ok run) known h =
     let f = found_whole v script text run h in
-    let K : Version → Type 0 = λ x. HasLog script x in
-    (f.0, (v, subst K (sym version) (known_version script text), f.1))
-answer_found v script text (Err fault) version h = tt
+    (f.0, (v, known, f.1))
+answer_found v script text (Err fault) known h = tt
 
 -- version 1 tells no numbers, so none is wrong
-answer_unfit : (v : Version) (script : ScriptData) (text : List ℕ) (number : ℕ) → length text < 2 ^ 64 → v ≡ version_by script.version text → ArePlainHeads v script
+answer_unfit : (v : Version) (script : ScriptData) (text : List ℕ) (number : ℕ) → length text < 2 ^ 64 → v ≡ version_by script.version (has_lists script) text → HasLog script v → ArePlainHeads v script
     → IsStuck v (names_of script) (objects_of script) (sections v script) text number ⊎ IsMiscounted v (names_of script) (objects_of script) (sections v script) text number → IsFirstUnfit script text number
-answer_unfit v script text number short version plain (inl k) = stuck_unfit v script text number short version plain k
-answer_unfit One script text number short version plain (inr k) = absurd (let bad : false ≡ true = k.tells.0 in cc)
-answer_unfit Two script text number short version plain (inr k) = miscounted_unfit script text number short version plain k
+answer_unfit v script text number short version known plain (inl k) = stuck_unfit v script text number short version known plain k
+answer_unfit One script text number short version known plain (inr k) = absurd (let bad : false ≡ true = k.tells.0 in cc)
+answer_unfit Two script text number short version known plain (inr k) = miscounted_unfit script text number short version known plain k
 
-pub answer_again : (v : Version) (script : ScriptData) (text : List ℕ) (r : Result RunData LogFault) → length text < 2 ^ 64 → v ≡ version_by script.version text → ArePlainHeads v script → IsAnswer v script text r
+pub answer_again : (v : Version) (script : ScriptData) (text : List ℕ) (r : Result RunData LogFault) → length text < 2 ^ 64 → v ≡ version_by script.version (has_lists script) text → HasLog script v → ArePlainHeads v script → IsAnswer v script text r
     → (w : Version) (run : RunData) → HasLog script w → IsLogged script run → text ≡ log_text w script.shape run → GivesRun run r
-answer_again v script text (Ok given) short version plain h w run known logged e =
+answer_again v script text (Ok given) short version own plain h w run known logged e =
     let same : w ≡ v = whole_version script w run text known e ∙ sym version in
     let W : Version → Type 0 = λ x. text ≡ log_text x script.shape run in
     again_whole v script text given run short plain h logged (subst W same e)
-answer_again v script text (Err (faults.Bad number)) short version plain h w run known logged e =
-    no_unfit v script text number short version plain (answer_unfit v script text number short version plain h) (record { version = w; known = known; run = run; logged = logged; whole = e })
-answer_again v script text (Err faults.OutOfMemory) short version plain h w run known logged e = tt
+answer_again v script text (Err (faults.Bad number)) short version own plain h w run known logged e =
+    no_unfit v script text number short version plain (answer_unfit v script text number short version own plain h) (record { version = w; known = known; run = run; logged = logged; whole = e })
+answer_again v script text (Err faults.OutOfMemory) short version own plain h w run known logged e = tt
 
-pub answer_bad : (v : Version) (script : ScriptData) (text : List ℕ) (r : Result RunData LogFault) → length text < 2 ^ 64 → v ≡ version_by script.version text → ArePlainHeads v script → IsAnswer v script text r → IfErr r (λ fault. IfBad fault (λ line. IsFirstUnfit script text line))
-answer_bad v script text (Ok given) short version plain h = tt
-answer_bad v script text (Err (faults.Bad number)) short version plain h = answer_unfit v script text number short version plain h
-answer_bad v script text (Err faults.OutOfMemory) short version plain h = tt
+pub answer_bad : (v : Version) (script : ScriptData) (text : List ℕ) (r : Result RunData LogFault) → length text < 2 ^ 64 → v ≡ version_by script.version (has_lists script) text → HasLog script v → ArePlainHeads v script → IsAnswer v script text r → IfErr r (λ fault. IfBad fault (λ line. IsFirstUnfit script text line))
+answer_bad v script text (Ok given) short version known plain h = tt
+answer_bad v script text (Err (faults.Bad number)) short version known plain h = answer_unfit v script text number short version known plain h
+answer_bad v script text (Err faults.OutOfMemory) short version known plain h = tt
 
 -- the same, where names, objects and sections are those of the script
 pub answer_of : (v : Version) (script : ScriptData) (names : NamesData) (objects : List ObjectId) (those : List Section) (text : List ℕ) (r : Result RunData LogFault) → names ≡ names_of script → objects ≡ objects_of script → those ≡ sections v script

@@ -1,8 +1,9 @@
 -- A record is its parts, and the text of the parts is its log.
-use Rattle.std.proofs.Common.{◌≡◌, ℕ, zero, suc, true, List, [], ◌∷◌, ◌++◌, length, map, refl, sym, ap, subst, ◌∙◌, append_assoc}
+use Rattle.std.proofs.Common.{◌≡◌, ℕ, zero, suc, true, List, [], ◌∷◌, ◌++◌, length, map, refl, sym, ap, subst, ◌∙◌, ◌+◌, arith, append_assoc}
 use Rattle.std.specs.Prelude.{codes}
 use Rattle.std.specs.List.{flat_map, All, AllByRecursion}
-use Rattle.std.proofs.lemmas.List.{append-nil}
+use Rattle.std.proofs.lemmas.List.{append-nil, map-append}
+use Rattle.mama_journal.specs.Journal.{numbers_below}
 use Rattle.std.proofs.lemmas.List.Concat.{flat_map-append}
 use Rattle.mama_event.specs.declared.ids.ObjectId.{ObjectId}
 use Rattle.mama_event.specs.declared.shape.Shape.{Shape}
@@ -13,13 +14,13 @@ use Rattle.mama_event.specs.declared.to_bridge.BridgeNote.{BridgeNote}
 use Rattle.mama_event.specs.declared.to_timers.TimersNote.{TimersNote}
 use Rattle.mama_event.specs.declared.to_queue.QueueNote.{QueueNote}
 use Rattle.mama_event.specs.declared.publisher_entry.PublisherEntry.{PublisherEntry}
-use Rattle.mama_record.specs.RunData.{RunData, ObjectCalls, LastImage}
-use Rattle.mama_record.specs.LogText.{LogSection, lines_text, client_section, publisher_section, bridge_section, timers_section, queue_section, object_section, images_section, numbered, log_sections, counted, title, log_lines, log_text}
+use Rattle.mama_record.specs.RunData.{RunData, ObjectCalls, LastImage, GroupNotes, WatchNotes}
+use Rattle.mama_record.specs.LogText.{LogSection, lines_text, client_section, publisher_section, bridge_section, timers_section, queue_section, object_section, group_section, watch_section, images_section, numbered, log_sections, counted, title, log_lines, log_text}
 use Rattle.mama_log_line.specs.Names.{NamesData}
 use Rattle.mama_log_line.specs.Entering.{MayEnterPublisher, MayEnterBridge, MayEnterTimers, MayEnterQueue}
-use Rattle.mama_log_read.specs.Logged.{IsMoment, MayHearAll}
+use Rattle.mama_log_read.specs.Logged.{IsMoment, MayHearAll, MayHearNotes, MayNoteAll}
 use Rattle.mama_log_read.specs.Section.{head_of, has_count, titles, numbered_from}
-use Rattle.mama_log_read.specs.Part.{Part, Bare, Moments, Sends, OnBridge, OnTimers, OnQueue, Heard, Pictures, Filled, Fits, FitsIn, ArePictures, bodies, lines_of, all_lines, nothing, put, run_after}
+use Rattle.mama_log_read.specs.Part.{Part, Bare, Moments, Sends, OnBridge, OnTimers, OnQueue, Heard, Pictures, Grouped, Watched, Filled, Fits, FitsIn, ArePictures, bodies, lines_of, all_lines, nothing, put, run_after}
 use Rattle.mama_log_read.specs.declared.section.Section.{Section}
 use Rattle.mama_log_read.specs.declared.section.Section.TheVariants as s
 
@@ -32,6 +33,12 @@ numbered_parts section wrap n (x ∷ xs) = (section n, wrap x) ∷ numbered_part
 abbrev pub heard_part : ObjectCalls → Filled
 heard_part c = (s.Object c.object, Heard c)
 
+abbrev pub group_part : GroupNotes → Filled
+group_part g = (s.Group g.group, Grouped g)
+
+abbrev pub watch_part : WatchNotes → Filled
+watch_part w = (s.Watch w.watch, Watched w)
+
 abbrev pub last_parts : List LastImage → List Filled
 last_parts images = (s.Images, Pictures images) ∷ (s.End, Bare) ∷ []
 
@@ -43,7 +50,7 @@ title_parts version.Two strategy = (s.Title version.Two, Bare) ∷ (s.Strategy s
 abbrev pub body_parts : RunData → List Filled
 body_parts run =
     numbered_parts s.Client Moments 0 run.clients ++ (numbered_parts s.Publisher Sends 0 run.publishers ++ (
-    (s.Bridge, OnBridge run.bridge) ∷ (s.Timers, OnTimers run.timers) ∷ (numbered_parts s.Queue OnQueue 0 run.queues ++ (map heard_part run.calls ++ last_parts run.images))))
+    (s.Bridge, OnBridge run.bridge) ∷ (s.Timers, OnTimers run.timers) ∷ (numbered_parts s.Queue OnQueue 0 run.queues ++ (map heard_part run.calls ++ (map group_part run.groups ++ (map watch_part run.watches ++ last_parts run.images))))))
 
 abbrev pub parts_of : Version → Strategy → RunData → List Filled
 parts_of v strategy run = title_parts v strategy ++ body_parts run
@@ -79,6 +86,18 @@ heard_lines v shape (c ∷ calls) =
     ap (λ (t : List (List ℕ)). t ++ all_lines v shape (map heard_part calls)) (counted_lines v shape (heard_part c) refl)
     ∙ ap (λ (t : List (List ℕ)). counted v (object_section c) ++ t) (heard_lines v shape calls)
 
+group_lines : (v : Version) (shape : Shape) (groups : List GroupNotes) → all_lines v shape (map group_part groups) ≡ section_lines v (map group_section groups)
+group_lines v shape [] = refl
+group_lines v shape (g ∷ groups) =
+    ap (λ (t : List (List ℕ)). t ++ all_lines v shape (map group_part groups)) (counted_lines v shape (group_part g) refl)
+    ∙ ap (λ (t : List (List ℕ)). counted v (group_section g) ++ t) (group_lines v shape groups)
+
+watch_lines : (v : Version) (shape : Shape) (watches : List WatchNotes) → all_lines v shape (map watch_part watches) ≡ section_lines v (map watch_section watches)
+watch_lines v shape [] = refl
+watch_lines v shape (w ∷ watches) =
+    ap (λ (t : List (List ℕ)). t ++ all_lines v shape (map watch_part watches)) (counted_lines v shape (watch_part w) refl)
+    ∙ ap (λ (t : List (List ℕ)). counted v (watch_section w) ++ t) (watch_lines v shape watches)
+
 abbrev end : List (List ℕ)
 end = codes "end" ∷ []
 
@@ -101,13 +120,17 @@ in_front v shape fs ws ss ts h k =
 pub body_lines : (v : Version) (shape : Shape) (run : RunData) → all_lines v shape (body_parts run) ≡ section_lines v (log_sections shape run) ++ end
 body_lines v shape run =
     let images = images_section run.images ∷ [] in
-    let objects = map object_section run.calls ++ images in
+    let watches = map watch_section run.watches ++ images in
+    let groups = map group_section run.groups ++ watches in
+    let objects = map object_section run.calls ++ groups in
     let queues = numbered queue_section 0 run.queues ++ objects in
     let services = bridge_section shape run.bridge ∷ timers_section shape run.timers ∷ [] in
     let bridge = services ++ queues in
     let publishers = numbered publisher_section 0 run.publishers ++ bridge in
     let at_end = last_parts run.images in
-    let at_objects = map heard_part run.calls ++ at_end in
+    let at_watches = map watch_part run.watches ++ at_end in
+    let at_groups = map group_part run.groups ++ at_watches in
+    let at_objects = map heard_part run.calls ++ at_groups in
     let at_queues = numbered_parts s.Queue OnQueue 0 run.queues ++ at_objects in
     let service_parts : List Filled = (s.Bridge, OnBridge run.bridge) ∷ (s.Timers, OnTimers run.timers) ∷ [] in
     let at_bridge = service_parts ++ at_queues in
@@ -119,7 +142,9 @@ body_lines v shape run =
     (in_front v shape (numbered_parts s.Publisher Sends 0 run.publishers) at_bridge (numbered publisher_section 0 run.publishers) bridge (numbered_lines v shape s.Publisher Sends publisher_section (λ n. refl) (λ n x. refl) 0 run.publishers)
     (in_front v shape service_parts at_queues services queues services_are
     (in_front v shape (numbered_parts s.Queue OnQueue 0 run.queues) at_objects (numbered queue_section 0 run.queues) objects (numbered_lines v shape s.Queue OnQueue queue_section (λ n. refl) (λ n x. refl) 0 run.queues)
-    (in_front v shape (map heard_part run.calls) at_end (map object_section run.calls) images (heard_lines v shape run.calls) (last_lines v shape run.images)))))
+    (in_front v shape (map heard_part run.calls) at_groups (map object_section run.calls) groups (heard_lines v shape run.calls)
+    (in_front v shape (map group_part run.groups) at_watches (map group_section run.groups) watches (group_lines v shape run.groups)
+    (in_front v shape (map watch_part run.watches) at_end (map watch_section run.watches) images (watch_lines v shape run.watches) (last_lines v shape run.images)))))))
 
 pub title_lines : (v : Version) (shape : Shape) (strategy : Strategy) → all_lines v shape (title_parts v strategy) ≡ title v strategy
 title_lines version.One shape strategy = refl
@@ -157,20 +182,36 @@ after_calls r [] fs = ap (λ (c : List ObjectCalls). run_after (record r { calls
 after_calls r (x ∷ xs) fs =
     after_calls (record r { calls = r.calls ++ x ∷ [] }) xs fs ∙ ap (λ (c : List ObjectCalls). run_after (record r { calls = c }) fs) (append_assoc r.calls (x ∷ []) xs)
 
+after_groups : (r : RunData) (xs : List GroupNotes) (fs : List Filled) → run_after r (map group_part xs ++ fs) ≡ run_after (record r { groups = r.groups ++ xs }) fs
+after_groups r [] fs = ap (λ (c : List GroupNotes). run_after (record r { groups = c }) fs) (sym (append-nil r.groups))
+after_groups r (x ∷ xs) fs =
+    after_groups (record r { groups = r.groups ++ x ∷ [] }) xs fs ∙ ap (λ (c : List GroupNotes). run_after (record r { groups = c }) fs) (append_assoc r.groups (x ∷ []) xs)
+
+after_watches : (r : RunData) (xs : List WatchNotes) (fs : List Filled) → run_after r (map watch_part xs ++ fs) ≡ run_after (record r { watches = r.watches ++ xs }) fs
+after_watches r [] fs = ap (λ (c : List WatchNotes). run_after (record r { watches = c }) fs) (sym (append-nil r.watches))
+after_watches r (x ∷ xs) fs =
+    after_watches (record r { watches = r.watches ++ x ∷ [] }) xs fs ∙ ap (λ (c : List WatchNotes). run_after (record r { watches = c }) fs) (append_assoc r.watches (x ∷ []) xs)
+
 body_make : (run : RunData) → run_after nothing (body_parts run) ≡ run
 body_make run =
     let at_end = last_parts run.images in
-    let at_objects = map heard_part run.calls ++ at_end in
+    let at_watches = map watch_part run.watches ++ at_end in
+    let at_groups = map group_part run.groups ++ at_watches in
+    let at_objects = map heard_part run.calls ++ at_groups in
     let at_queues = numbered_parts s.Queue OnQueue 0 run.queues ++ at_objects in
     let at_bridge : List Filled = (s.Bridge, OnBridge run.bridge) ∷ (s.Timers, OnTimers run.timers) ∷ at_queues in
     let r1 : RunData = record nothing { clients = run.clients } in
     let r2 : RunData = record r1 { publishers = run.publishers } in
     let r3 : RunData = record r2 { bridge = run.bridge; timers = run.timers } in
     let r4 : RunData = record r3 { queues = run.queues } in
+    let r5 : RunData = record r4 { calls = run.calls } in
+    let r6 : RunData = record r5 { groups = run.groups } in
     after_clients nothing 0 run.clients (numbered_parts s.Publisher Sends 0 run.publishers ++ at_bridge)
     ∙ after_publishers r1 0 run.publishers at_bridge
     ∙ after_queues r3 0 run.queues at_objects
-    ∙ after_calls r4 run.calls at_end
+    ∙ after_calls r4 run.calls at_groups
+    ∙ after_groups r5 run.groups at_watches
+    ∙ after_watches r6 run.watches at_end
 
 -- putting the parts of a record together gives the record
 pub parts_make : (v : Version) (strategy : Strategy) (run : RunData) → run_after nothing (parts_of v strategy run) ≡ run
@@ -213,6 +254,14 @@ timers_in names objects _ h = absurd h
 pub heard_in : (names : NamesData) (objects : List ObjectId) (o : ObjectId) (p : Part) → Fits names objects (s.Object o) p → (x : ObjectCalls) × (p ≡ Heard x) × ((x.object ≡ o) × MayHearAll names x)
 heard_in names objects o (Heard x) h = (x, refl, h)
 heard_in names objects o _ h = absurd h
+
+pub grouped_in : (names : NamesData) (objects : List ObjectId) (n : ℕ) (p : Part) → Fits names objects (s.Group n) p → (x : GroupNotes) × (p ≡ Grouped x) × ((x.group ≡ n) × MayHearNotes names x)
+grouped_in names objects n (Grouped x) h = (x, refl, h)
+grouped_in names objects n _ h = absurd h
+
+pub watched_in : (names : NamesData) (objects : List ObjectId) (n : ℕ) (p : Part) → Fits names objects (s.Watch n) p → (x : WatchNotes) × (p ≡ Watched x) × ((x.watch ≡ n) × MayNoteAll x)
+watched_in names objects n (Watched x) h = (x, refl, h)
+watched_in names objects n _ h = absurd h
 
 pub pictures_in : (names : NamesData) (objects : List ObjectId) (p : Part) → Fits names objects s.Images p → (x : List LastImage) × (p ≡ Pictures x) × ((left : List ObjectId) × ArePictures names objects x left)
 pictures_in names objects (Pictures x) h = (x, refl, h)
@@ -300,6 +349,47 @@ split_calls names objects (o ∷ those) left fs e h =
       name = r.name;
       fits = r.fits;
     }
+
+-- parts that tell the numbers of their sections themselves
+pub record SplitListed {A : Type 0} (names : NamesData) (objects : List ObjectId) (section : ℕ → Section) (wrap : A → Part) (number : A → ℕ) (May : A → Type 0) (those : List ℕ) (left : List Section) (fs : List Filled) : Type 0 where
+  pub entries : List A
+  pub rest : List Filled
+  pub is : fs ≡ map (λ (x : A). let f : Filled = (section (number x), wrap x) in f) entries ++ rest
+  pub of : map number entries ≡ those
+  pub may : AllByRecursion May entries
+  pub name : named rest ≡ left
+  pub fits : AllFit names objects rest
+
+pub split_listed : {A : Type 0} (names : NamesData) (objects : List ObjectId) (section : ℕ → Section) (wrap : A → Part) (number : A → ℕ) (May : A → Type 0) → ((n : ℕ) (p : Part) → Fits names objects (section n) p → (x : A) × (p ≡ wrap x) × ((number x ≡ n) × May x))
+    → (those : List ℕ) (left : List Section) (fs : List Filled) → named fs ≡ map section those ++ left → AllFit names objects fs → SplitListed names objects section wrap number May those left fs
+split_listed names objects section wrap number May get [] left fs e h = record { entries = []; rest = fs; is = refl; of = refl; may = tt; name = e; fits = h }
+split_listed {A} names objects section wrap number May get (n ∷ those) left fs e h =
+    let f = first names objects (section n) wrap (λ x. (number x ≡ n) × May x) (get n) (map section those ++ left) fs e h in
+    let r = split_listed names objects section wrap number May get those left f.rest f.name f.fits in
+    let part : A → Filled = λ x. (section (number x), wrap x) in
+    let here : fs ≡ part f.entries ∷ f.rest = f.is ∙ ap (λ (k : ℕ). let g : Filled = (section k, wrap f.entries) in g ∷ f.rest) (sym f.may.0) in
+    record {
+      entries = f.entries ∷ r.entries;
+      rest = r.rest;
+      is = here ∙ ap (λ (x : List Filled). part f.entries ∷ x) r.is;
+      of = ap (λ (k : ℕ). k ∷ map number r.entries) f.may.0 ∙ ap (λ (ks : List ℕ). n ∷ ks) r.of;
+      may = (f.may.1, r.may);
+      name = r.name;
+      fits = r.fits;
+    }
+
+-- sections that are numbered from 0 are those of the numbers below
+from_more : (section : ℕ → Section) (n c : ℕ) → numbered_from section n (suc c) ≡ numbered_from section n c ++ section (n + c) ∷ []
+from_more section n zero = ap (λ (k : ℕ). section k ∷ []) (omega arith)
+from_more section n (suc c) =
+    ap (λ (t : List Section). section n ∷ t) (from_more section (suc n) c)
+    ∙ ap (λ (k : ℕ). section n ∷ (numbered_from section (suc n) c ++ section k ∷ [])) (omega arith)
+
+pub numbers_are : (section : ℕ → Section) (c : ℕ) → numbered_from section 0 c ≡ map section (numbers_below c)
+numbers_are section zero = refl
+numbers_are section (suc c) =
+    from_more section 0 c ∙ ap (λ (t : List Section). t ++ section (0 + c) ∷ []) (numbers_are section c)
+    ∙ ap (λ (k : ℕ). map section (numbers_below c) ++ section k ∷ []) (omega arith) ∙ sym (map-append section (numbers_below c) (c ∷ []))
 
 pub record SplitTitles (v : Version) (strategy : Strategy) (names : NamesData) (objects : List ObjectId) (left : List Section) (fs : List Filled) : Type 0 where
   pub rest : List Filled

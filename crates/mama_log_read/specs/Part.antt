@@ -10,11 +10,11 @@ use Rattle.mama_event.specs.declared.to_bridge.BridgeNote.{BridgeNote}
 use Rattle.mama_event.specs.declared.to_timers.TimersNote.{TimersNote}
 use Rattle.mama_event.specs.declared.to_queue.QueueNote.{QueueNote}
 use Rattle.mama_event.specs.declared.publisher_entry.PublisherEntry.{PublisherEntry}
-use Rattle.mama_record.specs.RunData.{RunData, ObjectCalls, LastImage}
-use Rattle.mama_record.specs.LogText.{clock_text, publisher_entry_text, bridge_entry_text, timers_entry_text, queue_entry_text, call_texts, image_text}
+use Rattle.mama_record.specs.RunData.{RunData, ObjectCalls, LastImage, GroupNotes, WatchNotes}
+use Rattle.mama_record.specs.LogText.{clock_text, publisher_entry_text, bridge_entry_text, timers_entry_text, queue_entry_text, call_texts, image_text, group_note_text, watch_note_text}
 use Rattle.mama_words.specs.declared.version.Version.{Version}
 use Rattle.mama_log_line.specs.Names.{NamesData}
-use Rattle.mama_log_line.specs.Entering.{MayEnterPublisher, MayEnterBridge, MayEnterTimers, MayEnterQueue, IsLastImage}
+use Rattle.mama_log_line.specs.Entering.{MayEnterPublisher, MayEnterBridge, MayEnterTimers, MayEnterQueue, MayHearGroup, MayNote, IsLastImage}
 use Rattle.mama_log_read.specs.Logged.{IsMoment, MayHearAll}
 use Rattle.mama_log_read.specs.Section.{first_of}
 use Rattle.mama_log_read.specs.declared.section.Section.{Section}
@@ -30,6 +30,8 @@ pub data Part : Type 0 where
   OnQueue : List (ℕ × QueueNote) → Part
   Heard : ObjectCalls → Part
   Pictures : List LastImage → Part
+  Grouped : GroupNotes → Part
+  Watched : WatchNotes → Part
 
 -- the lines of a part's entries
 abbrev pub bodies : Shape → Part → List (List ℕ)
@@ -41,6 +43,8 @@ bodies shape (OnTimers entries) = map (timers_entry_text shape) entries
 bodies shape (OnQueue entries) = map queue_entry_text entries
 bodies shape (Heard heard) = flat_map call_texts heard.calls
 bodies shape (Pictures images) = map image_text images
+bodies shape (Grouped g) = map group_note_text g.notes
+bodies shape (Watched w) = map watch_note_text w.notes
 
 -- WHICH ENTRIES A SECTION MAY HAVE
 
@@ -69,6 +73,8 @@ Fits names objects s.Bridge (OnBridge entries) = All (MayEnterBridge names) entr
 Fits names objects s.Timers (OnTimers entries) = All (MayEnterTimers names) entries
 Fits names objects (s.Queue n) (OnQueue entries) = All (MayEnterQueue names) entries
 Fits names objects (s.Object o) (Heard heard) = (heard.object ≡ o) × MayHearAll names heard
+Fits names objects (s.Group n) (Grouped g) = (g.group ≡ n) × All (MayHearGroup names) g.notes
+Fits names objects (s.Watch n) (Watched w) = (w.watch ≡ n) × All MayNote w.notes
 Fits names objects s.Images (Pictures images) = (left : List ObjectId) × ArePictures names objects images left
 Fits names objects s.End Bare = Unit {0}
 Fits names objects _ _ = ⊥
@@ -91,7 +97,7 @@ all_lines v shape fs = flat_map (lines_of v shape) fs
 
 -- the record of nothing
 abbrev pub nothing : RunData
-nothing = record { clients = []; publishers = []; bridge = []; timers = []; queues = []; calls = []; images = [] }
+nothing = record { clients = []; publishers = []; bridge = []; timers = []; queues = []; calls = []; images = []; groups = []; watches = [] }
 
 -- a record with a part more
 abbrev pub put : Part → RunData → RunData
@@ -103,6 +109,8 @@ put (OnTimers entries) r = record r { timers = entries }
 put (OnQueue entries) r = record r { queues = r.queues ++ entries ∷ [] }
 put (Heard heard) r = record r { calls = r.calls ++ heard ∷ [] }
 put (Pictures images) r = record r { images = images }
+put (Grouped g) r = record r { groups = r.groups ++ g ∷ [] }
+put (Watched w) r = record r { watches = r.watches ++ w ∷ [] }
 
 -- a record with these parts more, one after the other
 abbrev pub run_after : RunData → List Filled → RunData

@@ -1,5 +1,5 @@
 -- inner: How far a text was read.
-use Rattle.std.specs.Prelude.{◌≡◌, ◌≢◌, ◌==◌, ℕ, suc, Bool, true, false, Result, Ok, Err, ◌-◌, ◌^◌, ◌<◌, codes, List, [], ◌∷◌, ◌++◌, ◌⊎◌, length, drop, map, Option, Some, None, if◌then◌else◌}
+use Rattle.std.specs.Prelude.{◌≡◌, ◌≢◌, ◌==◌, ◌||◌, not, ℕ, suc, Bool, true, false, Result, Ok, Err, ◌-◌, ◌^◌, ◌<◌, codes, List, [], ◌∷◌, ◌++◌, ◌⊎◌, length, drop, map, Option, Some, None, if◌then◌else◌}
 use Rattle.std.specs.List.{All, flat_map}
 use Rattle.std.specs.Str.{bytes_eq}
 use Rattle.mama_event.specs.declared.ids.ObjectId.{ObjectId}
@@ -7,9 +7,9 @@ use Rattle.mama_event.specs.declared.order.Order.{Order}
 use Rattle.mama_event.specs.declared.callback.Callback.{Callback}
 use Rattle.mama_event.specs.declared.callback.CallNote.{CallNote}
 use Rattle.mama_record.specs.RunData.{RunData, LastImage}
-use Rattle.mama_record.specs.LogText.{lines_text, told, clock_text, publisher_entry_text, bridge_entry_text, timers_entry_text, queue_entry_text, callback_text, given_text, call_texts, image_text}
+use Rattle.mama_record.specs.LogText.{lines_text, told, clock_text, publisher_entry_text, bridge_entry_text, timers_entry_text, queue_entry_text, callback_text, given_text, call_texts, group_note_text, watch_note_text, image_text}
 use Rattle.mama_log_line.specs.Names.{NamesData}
-use Rattle.mama_log_line.specs.Entering.{MayEnterPublisher, MayEnterBridge, MayEnterTimers, MayEnterQueue, MayHear, MayOrder, IsLastImage}
+use Rattle.mama_log_line.specs.Entering.{MayEnterPublisher, MayEnterBridge, MayEnterTimers, MayEnterQueue, MayHear, MayOrder, MayHearGroup, MayNote, IsLastImage}
 use Rattle.mama_log_read.specs.Logged.{IsMoment, MayCall}
 use Rattle.mama_log_read.specs.Unfit.{IsTellable, IfBad}
 use Rattle.mama_log_read.specs.Section.{head_of, has_count, has_feed, HasPlainHead}
@@ -24,6 +24,7 @@ use Rattle.mama_words.specs.declared.version.Version.TheVariants as version
 use Rattle.mama_words.specs.Parting.{cut_at}
 use Rattle.mama_words.specs.Number.{number_in}
 use Rattle.mama_event.specs.declared.shape.Shape.{Shape}
+use Rattle.mama_script.specs.Script.{ScriptData}
 
 -- no entry of this kind stands at the head of a text
 abbrev pub Stops : {A : Type 0} → (A → Type 0) → (A → List ℕ) → List ℕ → Type 0
@@ -93,6 +94,8 @@ GoesOn names objects (part.OnBridge entries) line = (e : _) × MayEnterBridge na
 GoesOn names objects (part.OnTimers entries) line = (e : _) × MayEnterTimers names e × (line ≡ timers_entry_text names.shape e)
 GoesOn names objects (part.OnQueue entries) line = (e : _) × MayEnterQueue names e × (line ≡ queue_entry_text e)
 GoesOn names objects (part.Heard heard) line = ((c : Callback) × MayHear names.nums heard.object c × (line ≡ callback_text c)) ⊎ ((0 < room heard.calls) × ((o : Order) × MayOrder names o × (line ≡ given_text o)))
+GoesOn names objects (part.Grouped g) line = (n : _) × MayHearGroup names n × (line ≡ group_note_text n)
+GoesOn names objects (part.Watched w) line = (n : _) × MayNote n × (line ≡ watch_note_text n)
 GoesOn names objects (part.Pictures images) line = (left : List ObjectId) × (behind_all objects (map (λ i. i.sub) images) ≡ Some left) × ((i : LastImage) × IsPicture names left i × (line ≡ image_text i))
 
 -- a part was read, and its entries go on no further
@@ -194,7 +197,11 @@ abbrev pub begins_with : List ℕ → Option (List ℕ × List ℕ) → Bool
 begins_with line None = false
 begins_with line (Some cut) = bytes_eq cut.0 line
 
--- the version of a log of a script, by its first line
-abbrev pub version_by : Version → List ℕ → Version
-version_by version.One text = version.One
-version_by version.Two text = if begins_with (codes "mama log 2") (cut_at 10 text) then version.Two else version.One
+-- a script has groups or watches
+abbrev pub has_lists : ScriptData → Bool
+has_lists script = not (length script.groups == 0) || not (length script.watches == 0)
+
+-- the version of a log of a script, by the script's version, by whether it has groups or watches, and by the log's first line
+abbrev pub version_by : Version → Bool → List ℕ → Version
+version_by version.One lists text = version.One
+version_by version.Two lists text = if begins_with (codes "mama log 2") (cut_at 10 text) || lists then version.Two else version.One

@@ -26,6 +26,8 @@ head_of s.Bridge = codes "bridge"
 head_of s.Timers = codes "timers"
 head_of (s.Queue n) = codes "queue " ++ decimal n
 head_of (s.Object o) = codes "on " ++ object_text o
+head_of (s.Group n) = codes "group " ++ decimal n
+head_of (s.Watch n) = codes "watch " ++ decimal n
 head_of s.Images = codes "images"
 head_of s.End = codes "end"
 
@@ -51,15 +53,15 @@ abbrev pub numbered_from : (ℕ → Section) → ℕ → ℕ → List Section
 numbered_from section n zero = []
 numbered_from section n (suc count) = section n ∷ numbered_from section (suc n) count
 
--- the sections of a log with so many clients, publishers and queues, and these objects
-abbrev pub sections_with : Version → Strategy → ℕ → ℕ → ℕ → List ObjectId → List Section
-sections_with v strategy clients publishers queues objects =
+-- the sections of a log with so many clients, publishers and queues, these objects, and so many groups and watches
+abbrev pub sections_with : Version → Strategy → ℕ → ℕ → ℕ → List ObjectId → ℕ → ℕ → List Section
+sections_with v strategy clients publishers queues objects groups watches =
     titles v strategy ++ (numbered_from s.Client 0 clients ++ (numbered_from s.Publisher 0 publishers ++ (s.Bridge ∷ s.Timers ∷
-    (numbered_from s.Queue 0 queues ++ (map s.Object objects ++ (s.Images ∷ s.End ∷ []))))))
+    (numbered_from s.Queue 0 queues ++ (map s.Object objects ++ (numbered_from s.Group 0 groups ++ (numbered_from s.Watch 0 watches ++ (s.Images ∷ s.End ∷ []))))))))
 
 -- the sections of a log of a script in a version, in order
 abbrev pub sections : Version → ScriptData → List Section
-sections v script = sections_with v script.shape.strategy (length script.clients) (length script.publishers) (queues_of script.shape) (objects_of script)
+sections v script = sections_with v script.shape.strategy (length script.clients) (length script.publishers) (queues_of script.shape) (objects_of script) (length script.groups) (length script.watches)
 
 -- whether a text has a line feed in it
 abbrev pub has_feed : List ℕ → Bool

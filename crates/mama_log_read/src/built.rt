@@ -5,13 +5,14 @@ ghost use Rattle.mama_log_read.specs.Reading.{IsPartRead};
 
 use crate::calls::read_calls;
 use crate::entries::{
-    read_bridge_entries, read_moments, read_publisher_entries, read_queue_entries,
-    read_timers_entries,
+    read_bridge_entries, read_group_notes, read_moments, read_publisher_entries,
+    read_queue_entries, read_timers_entries, read_watch_notes,
 };
 use crate::images::read_images;
 use crate::section::Section;
 use mama_event::{
-    BridgeNote, CallNote, ImageHead, ObjectId, PublisherEntry, QueueNote, SubId, TimersNote,
+    BridgeNote, CallNote, GroupNote, ImageHead, ObjectId, PublisherEntry, QueueNote, SubId,
+    TimersNote, WatchNote,
 };
 use mama_log_line::Names;
 use mama_memory::OutOfMemory;
@@ -30,6 +31,8 @@ pub struct Built {
     queues: Vec<Vec<(u32, QueueNote)>>,
     calls: Vec<(ObjectId, Vec<CallNote>)>,
     images: Vec<(SubId, ImageHead, Msg)>,
+    groups: Vec<(u32, Vec<GroupNote>)>,
+    watches: Vec<(u32, Vec<WatchNote>)>,
 }
 
 impl Model for Built {
@@ -37,7 +40,7 @@ impl Model for Built {
 
     ghost Value = { RunData };
 
-    ghost use Rattle.mama_record.specs.RunView.{moments_of, entries_of, events_of, calls_of, images_of};
+    ghost use Rattle.mama_record.specs.RunView.{moments_of, entries_of, events_of, calls_of, images_of, groups_of, watches_of};
 
     ghost view = { λ b. record {
       clients = moments_of b.clients.items;
@@ -47,6 +50,8 @@ impl Model for Built {
       queues = events_of b.queues.items;
       calls = calls_of b.calls.items;
       images = images_of b.images.items;
+      groups = groups_of b.groups.items;
+      watches = watches_of b.watches.items;
     } };
 }
 
@@ -63,6 +68,8 @@ impl Built {
             queues: Vec::new(alloc),
             calls: Vec::new(alloc),
             images: Vec::new(alloc),
+            groups: Vec::new(alloc),
+            watches: Vec::new(alloc),
         }
     }
 
@@ -78,8 +85,12 @@ impl Built {
             queues,
             calls,
             images,
+            groups,
+            watches,
         } = self;
-        RunRecord::new(clients, publishers, bridge, timers, queues, calls, images)
+        RunRecord::new(
+            clients, publishers, bridge, timers, queues, calls, images, groups, watches,
+        )
     }
 
     fn read_client<'a>(
@@ -170,6 +181,36 @@ impl Built {
         Ok(rest)
     }
 
+    fn read_group<'a>(
+        &mut self,
+        alloc: Global,
+        names: &Names,
+        objects: &[ObjectId],
+        number: u32,
+        text: &'a [u8],
+    ) -> Result<&'a [u8], OutOfMemory>
+        ensures { IfOk result (λ rest. IsPartRead names.now objects.now (kind.Group number) text.now self.old self.new rest.now) }
+    {
+        let (notes, rest) = read_group_notes(alloc, names, text)?;
+        self.groups.push((number, notes))?;
+        Ok(rest)
+    }
+
+    fn read_watch<'a>(
+        &mut self,
+        alloc: Global,
+        names: &Names,
+        objects: &[ObjectId],
+        number: u32,
+        text: &'a [u8],
+    ) -> Result<&'a [u8], OutOfMemory>
+        ensures { IfOk result (λ rest. IsPartRead names.now objects.now (kind.Watch number) text.now self.old self.new rest.now) }
+    {
+        let (notes, rest) = read_watch_notes(alloc, text)?;
+        self.watches.push((number, notes))?;
+        Ok(rest)
+    }
+
     fn read_images<'a>(
         &mut self,
         alloc: Global,
@@ -204,6 +245,8 @@ impl Built {
             Section::Timers => self.read_timers(alloc, names, objects, text),
             Section::Queue(number) => self.read_queue(alloc, names, objects, number, text),
             Section::Object(object) => self.read_object(alloc, names, objects, object, text),
+            Section::Group(number) => self.read_group(alloc, names, objects, number, text),
+            Section::Watch(number) => self.read_watch(alloc, names, objects, number, text),
             Section::Images => self.read_images(alloc, names, objects, text),
             Section::End => Ok(text),
         }

@@ -1,14 +1,15 @@
 //! The entries of each kind of section, as many as stand at the head of a text.
 ghost use Rattle.std.specs.Prelude.{◌≡◌, ℕ, map, IfOk};
 ghost use Rattle.std.specs.Option.{option_map};
-ghost use Rattle.mama_record.specs.LogText.{clock_text, publisher_entry_text, bridge_entry_text, timers_entry_text, queue_entry_text};
-ghost use Rattle.mama_log_line.specs.Entering.{MayEnterPublisher, MayEnterBridge, MayEnterTimers, MayEnterQueue};
+ghost use Rattle.mama_record.specs.LogText.{clock_text, publisher_entry_text, bridge_entry_text, timers_entry_text, queue_entry_text, group_note_text, watch_note_text};
+ghost use Rattle.mama_log_line.specs.Entering.{MayEnterPublisher, MayEnterBridge, MayEnterTimers, MayEnterQueue, MayHearGroup, MayNote};
 ghost use Rattle.mama_log_read.specs.Logged.{IsMoment};
 ghost use Rattle.mama_log_read.specs.Reading as reading;
 
-use mama_event::{BridgeNote, PublisherEntry, QueueNote, TimersNote};
+use mama_event::{BridgeNote, GroupNote, PublisherEntry, QueueNote, TimersNote, WatchNote};
 use mama_log_line::{
-    Names, bridge_entry_in, clock_in, publisher_entry_in, queue_entry_in, timers_entry_in,
+    Names, bridge_entry_in, clock_in, group_note_in, publisher_entry_in, queue_entry_in,
+    timers_entry_in, watch_note_in,
 };
 use mama_memory::OutOfMemory;
 use mama_words::cut_at;
@@ -170,6 +171,70 @@ pub fn read_queue_entries<'a>(
     let mut entries = Vec::new(alloc);
     let mut rest = text;
     while let Some((entry, after)) = next_queue_entry(alloc, names, rest)? {
+        entries.push(entry)?;
+        rest = after;
+    }
+    Ok((entries, rest))
+}
+
+fn next_group_note<'a>(
+    alloc: Global,
+    names: &Names,
+    text: &'a [u8],
+) -> Result<Option<(GroupNote, &'a [u8])>, OutOfMemory>
+    ensures { IfOk result (λ o. reading.IsNext (MayHearGroup names.now) group_note_text text.now (option_map (λ next. (next.0, next.1.now)) o)) }
+{
+    match cut_at(b'\n', text) {
+        Some((line, after)) => match group_note_in(alloc, names, line)? {
+            Some(entry) => Ok(Some((entry, after))),
+            None => Ok(None),
+        },
+        None => Ok(None),
+    }
+}
+
+/// Reads what a group heard, as many lines as are such, and says what follows them.
+pub fn read_group_notes<'a>(
+    alloc: Global,
+    names: &Names,
+    text: &'a [u8],
+) -> Result<(Vec<GroupNote>, &'a [u8]), OutOfMemory>
+    ensures { IfOk result (λ read. reading.AreTaken (MayHearGroup names.now) group_note_text text.now read.0.items read.1.now) }
+{
+    let mut entries = Vec::new(alloc);
+    let mut rest = text;
+    while let Some((entry, after)) = next_group_note(alloc, names, rest)? {
+        entries.push(entry)?;
+        rest = after;
+    }
+    Ok((entries, rest))
+}
+
+fn next_watch_note<'a>(
+    alloc: Global,
+    text: &'a [u8],
+) -> Result<Option<(WatchNote, &'a [u8])>, OutOfMemory>
+    ensures { IfOk result (λ o. reading.IsNext MayNote watch_note_text text.now (option_map (λ next. (next.0, next.1.now)) o)) }
+{
+    match cut_at(b'\n', text) {
+        Some((line, after)) => match watch_note_in(alloc, line)? {
+            Some(entry) => Ok(Some((entry, after))),
+            None => Ok(None),
+        },
+        None => Ok(None),
+    }
+}
+
+/// Reads what a watch noted, as many lines as are such, and says what follows them.
+pub fn read_watch_notes<'a>(
+    alloc: Global,
+    text: &'a [u8],
+) -> Result<(Vec<WatchNote>, &'a [u8]), OutOfMemory>
+    ensures { IfOk result (λ read. reading.AreTaken MayNote watch_note_text text.now read.0.items read.1.now) }
+{
+    let mut entries = Vec::new(alloc);
+    let mut rest = text;
+    while let Some((entry, after)) = next_watch_note(alloc, rest)? {
         entries.push(entry)?;
         rest = after;
     }

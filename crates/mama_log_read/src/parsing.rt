@@ -7,7 +7,7 @@ ghost use Rattle.mama_log_line.specs.Names.{names_of};
 ghost use Rattle.mama_log_read.specs.Logged.{HasLog, IsLogged};
 ghost use Rattle.mama_log_read.specs.Unfit.{IsFirstUnfit, IfBad, GivesRun};
 ghost use Rattle.mama_log_read.specs.Section as log;
-ghost use Rattle.mama_log_read.specs.Reading.{IsTold, Begins, IsTally, IsReadOrStuck, begins_with, version_by, spaced_in};
+ghost use Rattle.mama_log_read.specs.Reading.{IsTold, Begins, IsTally, IsReadOrStuck, begins_with, version_by, has_lists, spaced_in};
 ghost use Rattle.mama_log_read.specs.declared.section.Told.TheVariants.{Lines};
 ghost use Rattle.mama_words.specs.declared.version.Version.{Version};
 ghost use Rattle.mama_words.specs.Parting.{cut_at as cut_at_byte};
@@ -205,14 +205,21 @@ fn begins_in_two(text: &[u8]) -> bool
     }
 }
 
-// The version of a log of a script, by its first line. Only a script of version 2 has logs of version 2.
-fn log_version(script: &Script, text: &[u8]) -> Version
-    ensures { result ≡ version_by script.now.version text.now }
+// Whether a script has groups or watches, of which a log of version 1 tells nothing.
+fn has_lists(script: &Script) -> bool
+    ensures { result ≡ has_lists script.now }
 {
-    match script.version() {
+    !script.groups().is_empty() || !script.watches().is_empty()
+}
+
+// The version of a log, by the script's version, by whether it has groups or watches, and by the log's first line.
+fn version_of(version: Version, lists: bool, text: &[u8]) -> Version
+    ensures { result ≡ version_by version lists text.now }
+{
+    match version {
         Version::One => Version::One,
         Version::Two => {
-            if begins_in_two(text) {
+            if begins_in_two(text) || lists {
                 Version::Two
             } else {
                 Version::One
@@ -221,8 +228,19 @@ fn log_version(script: &Script, text: &[u8]) -> Version
     }
 }
 
-/// The record that a log of either version tells, by its script. A script of version 1 has no log of version 2. What is printed is read again as the same record, and what is read prints
-/// as the same text. It goes once over the text; time and memory go by its length.
+// The version of a log of a script. Only a script of version 2 has logs of version 2, and one with groups or watches has none of
+// version 1.
+fn log_version(script: &Script, text: &[u8]) -> Version
+    ensures version { result ≡ version_by script.now.version (has_lists script.now) text.now }
+    ensures known { HasLog script.now result }
+{
+    let _shape = script.shape();
+    version_of(script.version(), has_lists(script), text)
+}
+
+/// The record that a log of either version tells, by its script. A script of version 1 has no log of version 2, and one with
+/// groups or watches none of version 1. What is printed is read again as the same record, and what is read prints as the same
+/// text. It goes once over the text; time and memory go by its length.
 pub fn parse_log(alloc: Global, script: &Script, text: &[u8]) -> Result<RunRecord, LogFault>
     ensures found { IfOk result (λ run. IsLogged script.now run × ((v : Version) × HasLog script.now v × (text.now ≡ log_text v script.now.shape run))) }
     ensures again { (v : Version) (run : RunData) → HasLog script.now v → IsLogged script.now run → text.now ≡ log_text v script.now.shape run → GivesRun run result }

@@ -3,7 +3,7 @@ ghost use Rattle.std.specs.List.{All};
 ghost use Rattle.mama_event.specs.Ports.{queues_of};
 ghost use Rattle.mama_rules_legal.specs.Form.{objects_of};
 ghost use Rattle.mama_log_read.specs.Section as log;
-ghost use Rattle.mama_log_read.specs.declared.section.Section.TheVariants.{Client, Publisher, Queue, Object, Strategy as StrategyOf};
+ghost use Rattle.mama_log_read.specs.declared.section.Section.TheVariants.{Client, Publisher, Queue, Object, Group, Watch, Strategy as StrategyOf};
 ghost use Rattle.mama_edge.specs.Decimal.{decimal};
 
 use mama_edge::print_u64;
@@ -25,6 +25,8 @@ pub enum Section {
     Timers,
     Queue(u64),
     Object(ObjectId),
+    Group(u32),
+    Watch(u32),
     Images,
     End,
 }
@@ -91,6 +93,8 @@ fn put_head(section: Section, out: &mut Vec<u8>) -> Result<(), OutOfMemory>
         Section::Timers => put_word(b"timers", out),
         Section::Queue(number) => put_number(b"queue ", number, out),
         Section::Object(object) => put_object(object, out),
+        Section::Group(number) => put_number(b"group ", u64::from(number), out),
+        Section::Watch(number) => put_number(b"watch ", u64::from(number), out),
         Section::Images => put_word(b"images", out),
         Section::End => put_word(b"end", out),
     }
@@ -175,6 +179,26 @@ fn add_objects(sections: &mut Vec<Section>, objects: &[ObjectId]) -> Result<(), 
     Ok(())
 }
 
+fn add_groups(sections: &mut Vec<Section>, count: usize) -> Result<(), OutOfMemory>
+    requires { count < 2 ^ 32 }
+    ensures { OnOk result (sections.new.items ≡ sections.old.items ++ log.numbered_from Group 0 count) }
+{
+    for number in 0..count {
+        sections.push(Section::Group(number as u32))?;
+    }
+    Ok(())
+}
+
+fn add_watches(sections: &mut Vec<Section>, count: usize) -> Result<(), OutOfMemory>
+    requires { count < 2 ^ 32 }
+    ensures { OnOk result (sections.new.items ≡ sections.old.items ++ log.numbered_from Watch 0 count) }
+{
+    for number in 0..count {
+        sections.push(Section::Watch(number as u32))?;
+    }
+    Ok(())
+}
+
 // The sections that tell the version and the strategy.
 fn add_titles(
     sections: &mut Vec<Section>,
@@ -198,8 +222,12 @@ fn list_sections(
     publishers: usize,
     queues: u32,
     objects: &[ObjectId],
+    groups: usize,
+    watches: usize,
 ) -> Result<Vec<Section>, OutOfMemory>
-    ensures { IfOk result (λ sections. sections.items ≡ log.sections_with version strategy clients publishers queues objects.now) }
+    requires few_groups { groups < 2 ^ 32 }
+    requires few_watches { watches < 2 ^ 32 }
+    ensures { IfOk result (λ sections. sections.items ≡ log.sections_with version strategy clients publishers queues objects.now groups watches) }
 {
     let mut sections = Vec::new(alloc);
     add_titles(&mut sections, version, strategy)?;
@@ -209,6 +237,8 @@ fn list_sections(
     sections.push(Section::Timers)?;
     add_queues(&mut sections, queues)?;
     add_objects(&mut sections, objects)?;
+    add_groups(&mut sections, groups)?;
+    add_watches(&mut sections, watches)?;
     sections.push(Section::Images)?;
     sections.push(Section::End)?;
     Ok(sections)
@@ -221,14 +251,16 @@ pub fn sections_in(
     script: &Script,
     objects: &[ObjectId],
 ) -> Result<Vec<Section>, OutOfMemory>
-    ensures listed { IfOk result (λ sections. sections.items ≡ log.sections_with version script.now.shape.strategy (length script.now.clients) (length script.now.publishers) (queues_of script.now.shape) objects.now) }
+    ensures listed { IfOk result (λ sections. sections.items ≡ log.sections_with version script.now.shape.strategy (length script.now.clients) (length script.now.publishers) (queues_of script.now.shape) objects.now (length script.now.groups) (length script.now.watches)) }
     ensures plain { IfOk result (λ sections. All (λ o. log.HasPlainHead (Object o)) objects.now → All (λ s. log.HasPlainHead s) sections.items) }
 {
     let queues = script.shape().bounds.queues;
     let strategy = script.shape().strategy;
     let clients = script.clients().len();
     let publishers = script.publishers().len();
+    let groups = script.groups().len();
+    let watches = script.watches().len();
     list_sections(
-        alloc, version, strategy, clients, publishers, queues, objects,
+        alloc, version, strategy, clients, publishers, queues, objects, groups, watches,
     )
 }

@@ -198,7 +198,7 @@ impl Msg {
         self.put(other.fields())
     }
 
-    /// An equal message, which shares the fields.
+    /// An equal message, which shares the fields. The error says that no more copies can be counted: it takes no memory.
     pub fn try_clone(&self) -> Result<Msg, OutOfMemory>
         ensures equal { IfOk result (λ copy. copy ≡ self.now) }
     {

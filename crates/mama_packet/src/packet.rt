@@ -46,7 +46,7 @@ impl Packet {
         }
     }
 
-    /// The message that the bytes spell. It takes time in proportion to the bytes.
+    /// The message that the bytes spell. It takes time in proportion to the bytes. The error is want of memory.
     pub fn unpack(&self) -> Result<Msg, OutOfMemory>
         ensures spelled { IfOk result (λ msg. Spells self.now msg) }
         ensures message { IfOk result (λ msg. message_of self.now ≡ msg) }
@@ -77,7 +77,7 @@ impl Packet {
         Piece::of_block(self.bytes)
     }
 
-    /// An equal packet, which shares the bytes.
+    /// An equal packet, which shares the bytes. The error says that no more copies can be counted: it takes no memory.
     pub fn try_clone(&self) -> Result<Packet, OutOfMemory>
         ensures equal { IfOk result (λ copy. copy ≡ self.now) }
     {

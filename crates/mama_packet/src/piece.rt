@@ -12,11 +12,12 @@ use mama_memory::{Duplicate, OutOfMemory};
 use mama_msg::Msg;
 use mama_payload::{DecodeFault, decode};
 use std::alloc::Global;
+use std::fmt;
 use std::marker::Model;
 use std::sync::Arc;
 
 /// Bytes of any kind: those of a packet, those of them that a cut left, or what a log tells of such. Copies share them.
-#[derive(Debug, Drop)]
+#[derive(Drop)]
 pub struct Piece {
     bytes: Arc<Vec<u8>>,
     len: usize,
@@ -34,7 +35,7 @@ impl Model for Piece {
 }
 
 impl Piece {
-    /// A piece of these bytes, which are copied.
+    /// A piece of these bytes, which are copied. The error is want of memory.
     pub fn of_bytes(alloc: Global, bytes: &[u8]) -> Result<Piece, OutOfMemory>
         ensures { IfOk result (λ piece. piece ≡ bytes.now) }
     {
@@ -75,7 +76,7 @@ impl Piece {
         self.len = self.len.min(keep as usize);
     }
 
-    /// An equal piece, which shares the bytes.
+    /// An equal piece, which shares the bytes. The error says that no more copies can be counted: it takes no memory.
     pub fn try_clone(&self) -> Result<Piece, OutOfMemory>
         ensures equal { IfOk result (λ copy. copy ≡ self.now) }
     {
@@ -84,6 +85,14 @@ impl Piece {
             bytes,
             len: self.len,
         })
+    }
+}
+
+// What a cut took is not shown.
+impl fmt::Debug for Piece {
+    fn fmt<W: fmt::Write>(&self, f: &mut fmt::Formatter<W>) -> fmt::Result {
+        let bytes = self.bytes();
+        write!(f, "{bytes:?}")
     }
 }
 

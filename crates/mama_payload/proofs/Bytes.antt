@@ -1,5 +1,5 @@
 -- The bytes of a spelling are below 256.
-use Rattle.std.proofs.Common.{◌≡◌, ℕ, ℤ, zero, suc, ◌^◌, ◌<◌, ◌≤◌, Bool, true, false, ◌&&◌, List, [], ◌∷◌, ◌++◌, length, if◌then◌else◌, refl, arith}
+use Rattle.std.proofs.Common.{◌≡◌, ℕ, ℤ, zero, suc, ◌^◌, ◌<◌, Bool, true, false, List, [], ◌∷◌, ◌++◌, length, refl, arith}
 use Rattle.std.specs.List.{list_all, flat_map, AllByRecursion}
 use Rattle.std.specs.Int.{Width, w8, w16, w32, w64, to_be_bytes, byte_at, byte_len, bytes_high_first, cast_unsigned}
 use Rattle.std.proofs.lemmas.Bool.{and_from, and_parts, lt-ltb}
@@ -15,7 +15,7 @@ use Rattle.mama_payload.specs.declared.kind.Kind.{Kind}
 use Rattle.mama_payload.specs.declared.kind.Kind.TheVariants as kinds
 use Rattle.mama_payload.specs.declared.version.Version.{Version}
 use Rattle.mama_payload.specs.declared.version.Version.TheVariants as versions
-use Rattle.mama_payload.specs.Spelling.{kind_of, tag_of, signed, counted, listed, version_of, first_byte, value_bytes, field_bytes, spelling, IsInRange, IsField, HasSpelling}
+use Rattle.mama_payload.specs.Spelling.{kind_of, tag_of, signed, counted, version_of, first_byte, value_bytes, field_bytes, spelling, IsInRange, IsField}
 use Rattle.mama_payload.specs.Laws.{is_byte, HasBytes, SpellingsAreBytes}
 
 byte_is : (b : ℕ) → b < 2 ^ 8 → is_byte b ≡ true

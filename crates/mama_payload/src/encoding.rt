@@ -12,6 +12,9 @@ use std::alloc::Global;
 /// The most fields that a payload has.
 pub const MAX_FIELDS: u8 = 64;
 
+// Bytes that most fields need. Longer ones let the list grow.
+const FIELD_ROOM: usize = 20;
+
 /// Puts bytes behind their number.
 fn put_counted(out: &mut Vec<u8>, bytes: &[u8]) -> Result<(), OutOfMemory>
     requires { length bytes.now ≤ 255 }
@@ -79,6 +82,8 @@ fn spelled(alloc: Global, msg: &Msg) -> Result<Vec<u8>, OutOfMemory>
 {
     let count = msg.len();
     let mut out = Vec::new(alloc);
+    // One block at once in place of one for each growth.
+    out.reserve_exact(FIELD_ROOM * count)?;
     out.push(Version::of(msg).byte())?;
     out.push(count as u8)?;
     for i in 0..count {

@@ -48,7 +48,8 @@ accepted_of P from to slice items e gave (inr is) = inr (items, gave, subst (λ 
 limit_at_line : (text : List ℕ) (line limit : ℕ) → IsFirst text line (Limit limit) → line ≡ 0 → ⊥
 limit_at_line text line limit (inl head) e = let other = head.1 in cc
 limit_at_line text line limit (inr (inl found)) e = let number = found.number in absurd (omega arith)
-limit_at_line text line limit (inr (inr unnamed)) e = let other = unnamed.0 in cc
+limit_at_line text line limit (inr (inr (inl unnamed))) e = let other = unnamed.0 in cc
+limit_at_line text line limit (inr (inr (inr misplaced))) e = let other = misplaced.1 in cc
 
 abbrev pub FaultsAreTold : Type 0
 FaultsAreTold = (text : List ℕ) (line : ℕ) (found : Flaw) → script_in text ≡ Err (at_line line found) → IsFirst text line found

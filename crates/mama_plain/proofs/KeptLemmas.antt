@@ -1,5 +1,5 @@
 -- What check says of a script and its log, it says of the same in version 2.
-use Rattle.std.proofs.Common.{◌≡◌, ℕ, ◌+◌, ◌^◌, ◌<◌, Bool, true, List, ◌++◌, length, refl, sym, ap, subst, ◌∙◌, length-append, arith}
+use Rattle.std.proofs.Common.{◌≡◌, ℕ, ◌+◌, ◌^◌, ◌<◌, List, ◌++◌, length, refl, sym, ap, subst, ◌∙◌, length-append, arith}
 use Rattle.std.specs.Prelude.{◌↔◌, codes}
 use Rattle.mama_words.specs.declared.version.Version.{Version}
 use Rattle.mama_words.specs.declared.version.Version.TheVariants.{Two}
@@ -14,14 +14,13 @@ use Rattle.mama_log_read.specs.Logged.{HasLog, IsLogged}
 use Rattle.mama_laws_logged.specs.Telling.{LogsTellOneRecord}
 use Rattle.mama_laws_logged.specs.InTwo.{RecordsStayInTwo}
 use Rattle.mama_check.specs.Causal.{IsCausal}
-use Rattle.mama_check.specs.Verdict.{KeepEdges, IsBroken, moments, lines, publishers, bridge, timers, queues, calls, images, Judges}
+use Rattle.mama_check.specs.Verdict.{KeepEdges, KeepObjects, IsBroken, moments, lines, publishers, bridge, timers, queues, calls, images, groups, watches, Judges}
 use Rattle.mama_check.specs.declared.verdict.Actor.{Actor}
 use Rattle.mama_check.specs.declared.verdict.Verdict.{Verdict}
 use Rattle.mama_check.specs.declared.verdict.Verdict.TheVariants as verdicts
-use Rattle.mama_plain.specs.Answers.{IsAccepted}
 use Rattle.mama_plain.specs.Verdict.{IsChecked, IsVerdictOf, verdict_text}
-use Rattle.mama_plain.specs.Rewritten.{IsScriptInTwo, IsLogInTwo}
-use Rattle.mama_plain.specs.Kept.{IsKept, RewrittenIsKept}
+use Rattle.mama_plain.specs.Rewritten.{IsLogInTwo}
+use Rattle.mama_plain.specs.Kept.{RewrittenIsKept}
 use Rattle.mama_plain.proofs.VerdictLemmas.{tells_only}
 
 -- ---- no rule looks at the version
@@ -37,6 +36,9 @@ module _ (v : Version) (script : ScriptData) (run : RunData) where
   edges_kept : KeepEdges script run → KeepEdges other run
   edges_kept h = record { publishers = h.publishers; bridge = h.bridge; timers = h.timers; queues = h.queues }
 
+  objects_kept : KeepObjects script run → KeepObjects other run
+  objects_kept h = record { calls = h.calls; images = h.images }
+
   causal_kept : IsCausal script run → IsCausal other run
   causal_kept h = record { put = record { bridge = h.put.bridge; timers = h.put.timers; publishers = h.put.publishers; queues = h.put.queues }; order = h.order }
 
@@ -49,6 +51,8 @@ module _ (v : Version) (script : ScriptData) (run : RunData) where
   broken_kept rule of (queues q k l p b t first) = queues q k l p b t first
   broken_kept rule of (calls n p k l e first at) = calls n p k l (edges_kept e) first at
   broken_kept rule of (images n p k l e c first at) = images n p k l (edges_kept e) c first at
+  broken_kept rule of (groups n k l e o first) = groups n k l (edges_kept e) (objects_kept o) first
+  broken_kept rule of (watches n k l e o g first) = watches n k l (edges_kept e) (objects_kept o) g first
 
 judges_kept : (v : Version) (script : ScriptData) (run : RunData) → (IsLegal script run ↔ IsLegal (versioned v script) run) → (verdict : Verdict) → Judges script run verdict → Judges (versioned v script) run verdict
 judges_kept v script run legal (verdicts.Legal causal) h = (

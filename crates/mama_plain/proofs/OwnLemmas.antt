@@ -1,6 +1,6 @@
 -- What holds of every legal record and of every log that serial wrote, and what check says of such a log.
 use Rattle.std.specs.Prelude.{◌≡◌, ℕ, Bool, true, List, ◌++◌, codes}
-use Rattle.std.proofs.Common.{refl, ap, sym, subst, ◌∙◌}
+use Rattle.std.proofs.Common.{ap, sym, subst, ◌∙◌}
 use Rattle.mama_script.specs.Script.{ScriptData}
 use Rattle.mama_script.specs.Tree.{IsScript, script_text}
 use Rattle.mama_script.proofs.Keeping.{script_within}
@@ -22,7 +22,7 @@ orderly script accepted = record { shaped = accepted.shaped; within = script_wit
 
 pub legal_keeps : LegalIsTrue → LegalRecordsKeepPromises
 legal_keeps law script run accepted legal =
-    let is : IsTrue script run = law script run (orderly script accepted) legal in
+    let is : IsTrue script run = law script run accepted legal in
     record {
       subs = is.streams.subs;
       timers = is.streams.timers;
@@ -36,6 +36,8 @@ legal_keeps law script run accepted legal =
       sent = is.sent;
       given = is.given;
       images = is.images;
+      groups = is.groups;
+      watches = is.watches;
     }
 
 pub logs_are_lawful : LegalRecordsKeepPromises → RoundsAreLegal → RoundsAreCausal → LogsOfSerialAreLawful
@@ -50,12 +52,13 @@ judged_legal script run (verdict.NotLegal rule actor) legal is judged = absurd (
 pub logs_are_legal : LogsOfSerialAreLawful → LogsOfSerialAreLegal
 logs_are_legal lawful before after text log l =
     let run = lawful before after text log l in
+    let within = script_within l.script l.accepted in
     let whole : with_log text log ≡ script_text l.script ++ (line (codes "log") ++ log_text l.script.version l.script.shape l.run) =
     ap (λ (t : List ℕ). t ++ (line (codes "log") ++ log)) l.spelled ∙ ap (λ (t : List ℕ). script_text l.script ++ (line (codes "log") ++ t)) l.told in
     record {
-      checked = record { script = l.script; accepted = l.accepted; run = l.run; logged = l.logged; version = l.script.version; known = own_version l.script; whole = whole };
+      checked = record { script = l.script; accepted = l.accepted; run = l.run; logged = l.logged; version = l.script.version; known = own_version l.script within; whole = whole };
       verdict = λ v out is.
-          let same = is.only l.script l.script.version l.run l.accepted (own_version l.script) l.logged whole in
+          let same = is.only l.script l.script.version l.run l.accepted (own_version l.script within) l.logged whole in
           judged_legal l.script l.run v run.legal run.causal
           (subst (λ (r : RunData). Judges l.script r v) (sym same.1) (subst (λ (s : ScriptData). Judges s is.run v) (sym same.0) is.judged));
     }

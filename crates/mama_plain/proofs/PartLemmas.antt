@@ -148,6 +148,8 @@ not_log (lines.Order (orders.Close id)) = refl
 not_log (lines.Order (orders.Ask id topic fids)) = refl
 not_log (lines.Now moment) = refl
 not_log lines.NowClock = refl
+not_log (lines.Group ids) = refl
+not_log (lines.Watch sub timer retries) = refl
 
 line_lacks : (v : Version) (l : Line) → IsLine v l → lacks 10 (line_text l) ≡ false
 line_lacks v l h =

@@ -25,11 +25,11 @@ round_is_logged script run accepted within short law formed logged moments round
     let legal : IsLegal script run = law script run orderly round in logged script run accepted within short moments (formed script run legal) legal
 
 -- a script has logs of its own version
-pub own_version : (script : ScriptData) → HasLog script script.version
-own_version script = by script.version refl
+pub own_version : (script : ScriptData) → IsWithin script → HasLog script script.version
+own_version script within = by script.version refl
   where
     by : (v : Version) → script.version ≡ v → HasLog script v
-    by One e = tt
+    by One e = within.unlisted e
     by Two e = e
 
 -- the log that was printed of a run, where a memory holds it
@@ -47,5 +47,5 @@ log_is_of before after text log script run v shape law accepted within spelled r
       heard = heard;
       told = told;
       logged = logged;
-      only = λ w other known is e. (law script script.version w run other accepted within (own_version script) known logged is few (sym told ∙ e)).1;
+      only = λ w other known is e. (law script script.version w run other accepted within (own_version script within) known logged is few (sym told ∙ e)).1;
     }

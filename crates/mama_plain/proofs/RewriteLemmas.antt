@@ -1,5 +1,5 @@
 -- What rewrite writes of a text, by what is written of its parts.
-use Rattle.std.proofs.Common.{◌≡◌, ℕ, List, [], ◌∷◌, ◌++◌, Option, Some, None, Err, refl, sym, ap, subst, ◌∙◌, inl, inr}
+use Rattle.std.proofs.Common.{◌≡◌, ℕ, List, ◌++◌, Option, Some, None, Err, refl, sym, ap, ◌∙◌, inl, inr}
 use Rattle.std.specs.Prelude.{codes}
 use Rattle.mama_words.specs.declared.version.Version.{Version}
 use Rattle.mama_words.specs.declared.version.Version.TheVariants.{Two}
@@ -11,8 +11,7 @@ use Rattle.mama_record.specs.RunData.{RunData}
 use Rattle.mama_record.specs.LogText.{line, log_text}
 use Rattle.mama_log_read.specs.Logged.{HasLog, IsLogged}
 use Rattle.mama_plain.specs.Parts.{cut_at_log, before_cut, behind_cut, script_part, log_part}
-use Rattle.mama_plain.specs.Answers.{IsAccepted}
-use Rattle.mama_plain.specs.Verdict.{IsChecked, IsBadLog}
+use Rattle.mama_plain.specs.Verdict.{IsBadLog}
 use Rattle.mama_plain.specs.Rewritten.{IsInTwo, IsTaken}
 use Rattle.mama_plain.proofs.PartLemmas.{cut_makes_text}
 use Rattle.mama_plain.proofs.VerdictLemmas.{AreParts, checked_parts}

@@ -13,6 +13,8 @@ use Rattle.mama_rules_legal.specs.Ticks.{AreTimerStreams}
 use Rattle.mama_rules_legal.specs.Last.{HaveLast}
 use Rattle.mama_laws_callbacks.specs.Told.{IsToldObject}
 use Rattle.mama_laws_callbacks.specs.Plain.{ArePlainlyTold}
+use Rattle.mama_laws_callbacks.specs.Grouped.{AreTrueGroups}
+use Rattle.mama_laws_callbacks.specs.Watched.{AreTrueWatches}
 use Rattle.mama_laws_genuine.specs.Sent.{AreSent, AreGivenSent}
 use Rattle.mama_laws_genuine.specs.Records.{AreRecords}
 use Rattle.mama_laws_genuine.specs.Gaps.{HasTrueGaps}
@@ -49,7 +51,7 @@ pub record KeepsPromises (script : ScriptData) (run : RunData) : Type 0 where
   -- the messages that it handled.
   pub gaps : OfEachObject script run (HasTrueGaps (setting_of script) run.queues)
   -- Of each object that is a subscription without fault rows, on a topic that exactly one publisher has: it is told no gap,
-  -- no change of quality and no late update, and asks for no recap.
+  -- no change of quality and no late update, and no callback of it asks for a recap, as a watch may.
   pub calm : OfEachObject script run (HasCalmCalls script)
   -- Of each object that is a market subscription so: it is given each update that was sent to it while it was live, with a
   -- number above its first image's, once; unless it was muted.
@@ -62,14 +64,22 @@ pub record KeepsPromises (script : ScriptData) (run : RunData) : Type 0 where
   pub given : AreGivenSent (senders_of script) run.calls
   -- Of each last image that is ok: it is its sender's record at its number.
   pub images : AreRecords (senders_of script) run.images
+  -- Of each group of the script: it heard the callbacks of its members and its states as its queue's journal has them; at each
+  -- place of that journal the state told last is its state by its members; and where that is fresh each of its members that is
+  -- not ended has an image that is ok, its sender's record at its number.
+  pub groups : AreTrueGroups script run
+  -- Of each watch of the script: it noted a timeout only at a tick of its timer behind which its subscription was live, was not
+  -- muted and had no image, after as many such ticks as it has retries; at most one, and no more retries than its row has, as many where
+  -- it noted a timeout.
+  pub watches : AreTrueWatches script run
 
 -- a law: all this is so of every legal record of a script that a text spells
 abbrev pub LegalRecordsKeepPromises : Type 0
 LegalRecordsKeepPromises = (script : ScriptData) (run : RunData) → IsScript script → IsLegal script run → KeepsPromises script run
 
 -- A run on one thread keeps the promises. And it is legal: every line was done, on every edge what was taken is all that was
--- put, in order, and the callbacks and images are those that the queues' journals make. And it is causal: one order of all
--- entries and lines has each event taken after it was put.
+-- put, in order, and the callbacks and images, and what groups heard and watches noted, are those that the queues' journals
+-- make. And it is causal: one order of all entries and lines has each event taken after it was put.
 pub record IsLawfulRun (script : ScriptData) (run : RunData) : Type 0 where
   pub legal : IsLegal script run
   pub causal : IsCausal script run

@@ -1,5 +1,5 @@
 -- believed: What rewrite writes: the same script and record in version 2.
-use Rattle.std.specs.Prelude.{◌≡◌, ℕ, List, ◌++◌, codes, Option, Some, None, ◌⊎◌}
+use Rattle.std.specs.Prelude.{◌≡◌, ℕ, List, ◌++◌, codes, None, ◌⊎◌}
 use Rattle.mama_words.specs.declared.version.Version.{Version}
 use Rattle.mama_words.specs.declared.version.Version.TheVariants.{Two}
 use Rattle.mama_script.specs.Script.{ScriptData}

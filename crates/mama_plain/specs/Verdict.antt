@@ -26,6 +26,8 @@ actor_text actor.Bridge = codes "b"
 actor_text actor.Timers = codes "t"
 actor_text (actor.Queue q) = 113 ∷ decimal q
 actor_text (actor.Object object) = object_text object
+actor_text (actor.Group number) = 103 ∷ decimal number
+actor_text (actor.Watch number) = 119 ∷ decimal number
 
 abbrev pub causal_text : Bool → List ℕ
 causal_text true = codes "causal yes"

@@ -236,6 +236,8 @@ fn put_actor(actor: Actor, out: &mut Vec<u8>) -> Result<(), OutOfMemory>
         Actor::Timers => Ok(out.push(b't')?),
         Actor::Queue(number) => put_numbered(b'q', number, out),
         Actor::Object(object) => print_object_id(object, out),
+        Actor::Group(number) => put_numbered(b'g', number, out),
+        Actor::Watch(number) => put_numbered(b'w', number, out),
     }
 }
 

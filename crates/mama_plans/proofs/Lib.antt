@@ -4,3 +4,5 @@ pub mod FewLemmas
 pub mod RoomLemmas
 pub mod ImageLemmas
 pub mod ApartLemmas
+pub mod EachLemmas
+pub mod NumberedLemmas

@@ -14,6 +14,7 @@ use Rattle.mama_event.specs.declared.ids.ObjectId.{ObjectId}
 use Rattle.mama_event.specs.declared.order.PlanRow.{PlanRow}
 use Rattle.mama_event.specs.Object.{same_object}
 use Rattle.mama_rules_rounds.specs.World.{plan_in, rows_of}
+use Rattle.mama_rules_rounds.specs.Round.{queue_of}
 use Rattle.mama_plans.specs.declared.plans.PlannedObject.{PlannedObject}
 use Rattle.mama_plans.specs.Plans.{planned_object, planned_objects}
 use Rattle.mama_plans.specs.Places.{objects_in, IsPlaceOf, ArePlaced}
@@ -56,6 +57,28 @@ no_plan o ps none = sym (ap rows_of (go ps none))
     go (q ∷ qs) none =
         let parts = or_parts (same_object o q.object) (list_any (same_object o) (objects_in qs)) none in
         said o q (first_said (plan_in o) (planned_objects qs)) false parts.0 ∙ go qs parts.1
+
+-- THE QUEUE OF AN OBJECT, likewise
+
+queue_said_at : (o : ObjectId) (i : ℕ) (ps : List PlannedObject) (d : PlannedObject) → i < length ps → same_object o (get_or ps i d).object ≡ true
+    → ((k : ℕ) → k < i → same_object o (get_or ps k d).object ≡ false) → (get_or ps i d).queue ≡ queue_of (planned_objects ps) o
+queue_said_at o i [] d within this before = absurd (omega (arith, within))
+queue_said_at o zero (p ∷ ps) d within this before = rw (same_object_sym p.object o ∙ this) refl
+queue_said_at o (suc i) (p ∷ ps) d within this before =
+    rw (same_object_sym p.object o ∙ before 0 (omega arith)) (queue_said_at o i ps d (omega (arith, within)) this (λ k below. before (suc k) (omega (arith, below))))
+
+pub queue_at : (o : ObjectId) (i : ℕ) (ps : List PlannedObject) (d : PlannedObject) → IsPlaceOf o (objects_in ps) (Some i) → (get_or ps i d).queue ≡ queue_of (planned_objects ps) o
+queue_at o i ps d at =
+    let within : i < length ps = within_ids i ps at.0 in
+    queue_said_at o i ps d within
+    (ap (same_object o) (sym (get_or-map (λ (p : PlannedObject). p.object) ps i d o within)) ∙ at.1)
+    (λ k below. let inside : k < length ps = omega (arith, below, within) in ap (same_object o) (sym (get_or-map (λ (p : PlannedObject). p.object) ps k d o inside)) ∙ at.2 k below)
+
+pub no_queue : (o : ObjectId) (ps : List PlannedObject) → IsPlaceOf o (objects_in ps) None → 0 ≡ queue_of (planned_objects ps) o
+no_queue o [] none = refl
+no_queue o (q ∷ qs) none =
+    let parts = or_parts (same_object o q.object) (list_any (same_object o) (objects_in qs)) none in
+    rw (same_object_sym q.object o ∙ parts.0) (no_queue o qs parts.1)
 
 -- AN OBJECT MORE
 

@@ -6,3 +6,5 @@ pub mod Places
 pub mod Planning
 pub mod Orders
 pub mod Image
+pub mod Lists
+pub mod Numbered

@@ -1,5 +1,6 @@
 ghost use Rattle.std.specs.Prelude.{◌≡◌, ◌++◌, ◌∷◌, [], List, length, IfOk, OnOk};
 ghost use Rattle.mama_rules_rounds.specs.World.{plan_in, rows_of};
+ghost use Rattle.mama_rules_rounds.specs.Round.{queue_of};
 ghost use Rattle.mama_journal.specs.Journal.{first_said};
 ghost use Rattle.mama_event.specs.declared.ids.ObjectId.{ObjectId};
 ghost use Rattle.mama_plans.specs.Plans.{planned_objects, AreFew, AreApart};
@@ -71,6 +72,16 @@ impl Plans {
         ensures { planned_objects result.now ≡ self.now }
     {
         self.objects.as_slice()
+    }
+
+    /// The queue of an object; 0 where it is not among these.
+    pub fn queue(&self, object: &ObjectId) -> u32
+        ensures { result ≡ queue_of self.now object.now }
+    {
+        match self.places.get(object) {
+            Some(place) => self.objects[*place].queue,
+            None => 0,
+        }
     }
 
     /// The plan of an object; no rows where it is not among these.

@@ -1,11 +1,12 @@
 //! The groups of seats that are turned by one thread each, and the seats of queues, which move among threads.
 ghost use Rattle.std.specs.Prelude.{◌≤◌, ◌<◌, IfOk, OnOk};
 ghost use Rattle.std.specs.List.{All};
-ghost use Rattle.mama_crew.specs.Seat.{IsSeatOf};
+ghost use Rattle.mama_grouped.specs.Seat.{IsSeatOf};
 
 use mama_carry::Listener;
-use mama_crew::{GateActor, Hall, Script, Seat};
+use mama_crew::{GateActor, Hall, Script};
 use mama_event::Shape;
+use mama_grouped::{GroupListener, GroupedSeat};
 use mama_memory::OutOfMemory;
 use std::alloc::Global;
 
@@ -38,18 +39,18 @@ fn group_of(others: u32, actor: GateActor) -> Option<usize> {
 
 /// The seats of a crew in groups, for one thread each, and the seats of its queues.
 #[derive(Drop)]
-pub struct Groups<L: Listener> {
-    pub groups: Vec<Vec<Seat<L>>>,
-    pub queues: Vec<Seat<L>>,
+pub struct Groups<L: Listener, H: GroupListener> {
+    pub groups: Vec<Vec<GroupedSeat<L, H>>>,
+    pub queues: Vec<GroupedSeat<L, H>>,
 }
 
 // So many groups without seats.
-fn empty_groups<L: Listener>(
+fn empty_groups<L: Listener, H: GroupListener>(
     alloc: Global,
     _script: &Script,
     _hall: &Hall<L>,
     number: usize,
-) -> Result<Vec<Vec<Seat<L>>>, OutOfMemory>
+) -> Result<Vec<Vec<GroupedSeat<L, H>>>, OutOfMemory>
     ensures seats { IfOk result (λ groups. All (λ group. All (IsSeatOf _script.now _hall.now) group.items) groups.items) }
 {
     let mut groups = Vec::with_capacity(alloc, number)?;
@@ -60,12 +61,12 @@ fn empty_groups<L: Listener>(
 }
 
 // Adds a seat to its group.
-fn add_to_group<L: Listener>(
+fn add_to_group<L: Listener, H: GroupListener>(
     _script: &Script,
     _hall: &Hall<L>,
-    groups: &mut Vec<Vec<Seat<L>>>,
+    groups: &mut Vec<Vec<GroupedSeat<L, H>>>,
     number: usize,
-    seat: Seat<L>,
+    seat: GroupedSeat<L, H>,
 ) -> Result<(), OutOfMemory>
     requires seats { All (λ group. All (IsSeatOf _script.now _hall.now) group.items) groups.old.items }
     requires seat { IsSeatOf _script.now _hall.now seat }
@@ -79,11 +80,11 @@ fn add_to_group<L: Listener>(
 }
 
 // Adds the seat of a queue.
-fn add_to_queues<L: Listener>(
+fn add_to_queues<L: Listener, H: GroupListener>(
     _script: &Script,
     _hall: &Hall<L>,
-    queues: &mut Vec<Seat<L>>,
-    seat: Seat<L>,
+    queues: &mut Vec<GroupedSeat<L, H>>,
+    seat: GroupedSeat<L, H>,
 ) -> Result<(), OutOfMemory>
     requires seats { All (IsSeatOf _script.now _hall.now) queues.old.items }
     requires seat { IsSeatOf _script.now _hall.now seat }
@@ -94,12 +95,12 @@ fn add_to_queues<L: Listener>(
 }
 
 // Adds a seat to the group of this number, or to the queues.
-fn add<L: Listener>(
+fn add<L: Listener, H: GroupListener>(
     script: &Script,
     hall: &Hall<L>,
-    made: &mut Groups<L>,
+    made: &mut Groups<L, H>,
     number: Option<usize>,
-    seat: Seat<L>,
+    seat: GroupedSeat<L, H>,
 ) -> Result<(), OutOfMemory>
     requires groups { All (λ group. All (IsSeatOf script.now hall.now) group.items) made.old.groups.items }
     requires queues { All (IsSeatOf script.now hall.now) made.old.queues.items }
@@ -115,13 +116,13 @@ fn add<L: Listener>(
 
 /// The seats of a crew in groups, for one thread each: the bridge's, the timer service's, and those of clients and publishers by
 /// their numbers modulo the number of threads for them; and apart from these the seats of the queues. The error is want of memory.
-pub fn in_groups<L: Listener>(
+pub fn in_groups<L: Listener, H: GroupListener>(
     alloc: Global,
     script: &Script,
     hall: &Hall<L>,
     workers: u32,
-    seats: Vec<Seat<L>>,
-) -> Result<Groups<L>, OutOfMemory>
+    seats: Vec<GroupedSeat<L, H>>,
+) -> Result<Groups<L, H>, OutOfMemory>
     requires { All (IsSeatOf script.now hall.now) seats.items }
     ensures groups { IfOk result (λ r. All (λ group. All (IsSeatOf script.now hall.now) group.items) r.groups.items) }
     ensures queues { IfOk result (λ r. All (IsSeatOf script.now hall.now) r.queues.items) }

@@ -1,4 +1,4 @@
-//! A script played on threads: `play`.
+//! A script played on threads: `play`, and `play_groups` with listeners of its groups.
 //!
 //! [`play`] opens the crew of a script, gives its seats to threads in groups ([`groups`]), and when all have ended sets them in
 //! the order of their actors again ([`order`]) and closes the crew. Whatever the threads did in whichever order, the record is
@@ -13,6 +13,7 @@ pub use mama_carry::{Listener, Maker};
 pub use mama_crew::Script;
 pub use mama_edge::{Clock, Gate, GateActor};
 pub use mama_event::ObjectId;
+pub use mama_group::{GroupListener, GroupMaker, SilentGroup, SilentGroups};
 pub use mama_memory::OutOfMemory;
 pub use mama_record::RunRecord;
-pub use playing::play;
+pub use playing::{play, play_groups};

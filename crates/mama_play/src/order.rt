@@ -3,13 +3,14 @@ ghost use Rattle.std.specs.Prelude.{◌≡◌, ◌∷◌, [], length, map, true,
 ghost use Rattle.std.specs.List.{All};
 ghost use Rattle.mama_journal.specs.Journal.{numbers_below};
 ghost use Rattle.mama_edge.specs.declared.gate.GateActor.TheVariants as gate;
-ghost use Rattle.mama_crew.specs.Seat.{actor_of, IsSeatOf, HasEnded};
+ghost use Rattle.mama_grouped.specs.Seat.{actor_of, IsSeatOf, HasEnded};
 ghost use Rattle.mama_crew.specs.Crew.{actors_of};
 ghost use Rattle.mama_play.specs.Kinds.{numbered};
 
 use mama_carry::Listener;
-use mama_crew::{GateActor, Hall, Script, Seat};
+use mama_crew::{GateActor, Hall, Script};
 use mama_event::Shape;
+use mama_grouped::{GroupListener, GroupedSeat};
 use mama_memory::OutOfMemory;
 
 /// The kinds of actors that have numbers.
@@ -44,7 +45,7 @@ fn is_numbered(actor: GateActor, kind: Kind, number: usize) -> bool
 }
 
 // Whether these are the seats of the actors of a kind, in the order of their numbers from 0 on.
-fn are_numbered<L: Listener>(kind: Kind, seats: &[Seat<L>]) -> bool
+fn are_numbered<L: Listener, H: GroupListener>(kind: Kind, seats: &[GroupedSeat<L, H>]) -> bool
     ensures { result ≡ true → map actor_of seats.now ≡ map (numbered kind) (numbers_below (length seats.now)) }
 {
     for i in 0..seats.len() {
@@ -68,7 +69,7 @@ fn is_timers(actor: GateActor) -> bool
 }
 
 // Whether these are the seats of the bridge and the timer service.
-fn are_services<L: Listener>(seats: &[Seat<L>]) -> bool
+fn are_services<L: Listener, H: GroupListener>(seats: &[GroupedSeat<L, H>]) -> bool
     ensures { result ≡ true → map actor_of seats.now ≡ gate.Bridge ∷ gate.Timers ∷ [] }
 {
     if seats.len() != 2 {
@@ -81,7 +82,7 @@ fn are_services<L: Listener>(seats: &[Seat<L>]) -> bool
 }
 
 // Whether these are the seats of all actors of a shape, in the order of the actors.
-fn are_all<L: Listener>(shape: &Shape, seats: &[Seat<L>]) -> bool
+fn are_all<L: Listener, H: GroupListener>(shape: &Shape, seats: &[GroupedSeat<L, H>]) -> bool
     ensures { result ≡ true → map actor_of seats.now ≡ actors_of shape.now }
 {
     let Some((clients, rest)) = seats.split_at_checked(shape.clients as usize) else {
@@ -110,11 +111,11 @@ fn are_all<L: Listener>(shape: &Shape, seats: &[Seat<L>]) -> bool
 
 /// The seats of a crew in the order of their actors. The error is that some actor's seat is not there, or there twice, which no
 /// crew has that was opened and turned.
-pub fn in_order<L: Listener>(
+pub fn in_order<L: Listener, H: GroupListener>(
     script: &Script,
     _hall: &Hall<L>,
-    mut seats: Vec<Seat<L>>,
-) -> Result<Vec<Seat<L>>, OutOfMemory>
+    mut seats: Vec<GroupedSeat<L, H>>,
+) -> Result<Vec<GroupedSeat<L, H>>, OutOfMemory>
     requires seats { All (IsSeatOf script.now _hall.now) seats.items }
     requires ended { All HasEnded seats.items }
     ensures actors { IfOk result (λ r. map actor_of r.items ≡ actors_of script.now.shape) }

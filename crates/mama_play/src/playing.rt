@@ -4,17 +4,21 @@ ghost use Rattle.mama_event.specs.Listener.{told};
 ghost use Rattle.mama_rules_legal.specs.Legal.{IsLegal};
 ghost use Rattle.mama_check.specs.Verdict.{IsTrue};
 ghost use Rattle.mama_crew.specs.Crew.{actors_of};
-ghost use Rattle.mama_crew.specs.Seat.{actor_of, IsSeatOf, HasEnded};
+ghost use Rattle.mama_group.specs.Listener as groups;
+ghost use Rattle.mama_grouped.specs.Seat.{actor_of, IsSeatOf, HasEnded};
+ghost use Rattle.mama_grouped.specs.Back.{HaveHeard};
 ghost use Rattle.mama_close.specs.Back.{AreBack};
 
 use crate::groups::{Groups, in_groups, queue_threads};
 use crate::order::in_order;
 use mama_carry::{Listener, Maker};
 use mama_check::legal_records_are_true;
-use mama_close::close_crew;
-use mama_crew::{Crew, Hall, Script, Seat, open_crew};
+use mama_crew::{Hall, Script};
 use mama_edge::{Clock, Gate};
 use mama_event::ObjectId;
+use mama_grouped::{
+    GroupListener, GroupMaker, GroupedCrew, GroupedSeat, SilentGroups, close_grouped, open_grouped,
+};
 use mama_memory::OutOfMemory;
 use mama_record::RunRecord;
 use mama_work::{Turned, turn_groups};
@@ -22,9 +26,10 @@ use std::alloc::Global;
 use std::sync::Wait;
 use std::thread::Threads;
 
-/// Plays a script on threads: one turns the bridge, one the timer service, at most `workers` the queues, and at most as many
-/// the clients and publishers. A queue begins with the thread of its number modulo those for queues, and moves to one that has
-/// nothing to do. It returns when all have ended, or when one of them found no memory; that it returns is not promised.
+/// Plays a script on threads: one turns the bridge, one the timer service, at most `workers` the queues, and at most as many the
+/// clients and publishers. A queue begins with the thread of its number modulo those for queues, and moves to one that has nothing
+/// to do. The record has what the groups of the script heard; for listeners of theirs there is [`play_groups`]. It returns when all
+/// have ended, or when one of them found no memory; that it returns is not promised.
 ///
 /// The record is legal for the script, whichever thread turned which actor when. So what is promised of legal records is
 /// true of it: each object is told what is meant for it, and nothing after its destroy notice; and an image that is ok is its
@@ -48,21 +53,62 @@ pub fn play<
     gate: &G,
     workers: u32,
 ) -> Result<(RunRecord, Vec<(ObjectId, L)>), OutOfMemory>
-    requires { (1 ≤ workers) × (workers ≤ 64) }
+    requires workers { (1 ≤ workers) × (workers ≤ 64) }
     ensures legal { IfOk result (λ r. IsLegal script.now r.0) }
     ensures promised { IfOk result (λ r. IsTrue script.now r.0) }
     ensures listeners { IfOk result (λ r. AreBack (told L.tagged L.calls L.heard L.given L.plan) r.0.calls r.1.items) }
 {
-    let Crew { hall, seats } = open_crew(*rt, alloc, script, maker)?;
+    let mut groups = SilentGroups::new();
+    let (run, listeners, _) = play_groups(
+        rt,
+        alloc,
+        script,
+        maker,
+        &mut groups,
+        clock,
+        gate,
+        workers,
+    )?;
+    Ok((run, listeners))
+}
+
+/// Plays a script on threads as [`play`] does, with listeners of its groups. These come back in the order of the groups, each with
+/// its number: each has counted what its group heard in the record, and what it has heard, where it tells that, is that.
+pub fn play_groups<
+    L: Listener + Send,
+    H: GroupListener + Send,
+    M: Maker<L>,
+    N: GroupMaker<H>,
+    C: Clock + Send,
+    G: Gate + Sync,
+    Rt: Threads + Wait + Copy + Sync,
+>(
+    rt: &Rt,
+    alloc: Global,
+    script: &Script,
+    maker: &mut M,
+    group_maker: &mut N,
+    clock: &mut C,
+    gate: &G,
+    workers: u32,
+) -> Result<(RunRecord, Vec<(ObjectId, L)>, Vec<(u32, H)>), OutOfMemory>
+    requires workers { (1 ≤ workers) × (workers ≤ 64) }
+    ensures legal { IfOk result (λ r. IsLegal script.now r.0) }
+    ensures promised { IfOk result (λ r. IsTrue script.now r.0) }
+    ensures listeners { IfOk result (λ r. AreBack (told L.tagged L.calls L.heard L.given L.plan) r.0.calls r.1.items) }
+    ensures groups { IfOk result (λ r. HaveHeard (groups.told H.tagged H.calls H.heard) r.0.groups r.2.items) }
+{
+    let GroupedCrew { hall, seats } = open_grouped(*rt, alloc, script, maker, group_maker)?;
     let seats = all_turned(rt, alloc, script, &hall, clock, gate, workers, seats)?;
     let _shape = script.shape();
     legal_records_are_true();
-    close_crew(*rt, alloc, script, hall, seats)
+    close_grouped(*rt, alloc, script, hall, seats)
 }
 
 // Turns all seats of a crew on threads until they have ended, and gives them back in the order of their actors.
 fn all_turned<
     L: Listener + Send,
+    H: GroupListener + Send,
     C: Clock + Send,
     G: Gate + Sync,
     Rt: Threads + Wait + Copy + Sync,
@@ -74,8 +120,8 @@ fn all_turned<
     clock: &mut C,
     gate: &G,
     workers: u32,
-    seats: Vec<Seat<L>>,
-) -> Result<Vec<Seat<L>>, OutOfMemory>
+    seats: Vec<GroupedSeat<L, H>>,
+) -> Result<Vec<GroupedSeat<L, H>>, OutOfMemory>
     requires workers { (1 ≤ workers) × (workers ≤ 64) }
     requires seats { All (IsSeatOf script.now hall.now) seats.items }
     ensures actors { IfOk result (λ r. map actor_of r.items ≡ actors_of script.now.shape) }

@@ -1,7 +1,7 @@
 -- What two ports put, and what is left for them.
 use Rattle.std.specs.Prelude.{Option, Some, IfSome}
 use Rattle.std.specs.List.{flat_map}
-use Rattle.std.proofs.Common.{◌≡◌, List, [], ◌∷◌, ◌++◌, sym, ◌∙◌, ap, subst, append-nil, append_assoc}
+use Rattle.std.proofs.Common.{◌≡◌, List, [], ◌∷◌, ◌++◌, map, refl, sym, ◌∙◌, ap, subst, append-nil, append_assoc}
 use Rattle.std.proofs.lemmas.List.Concat.{flat_map-append}
 use Rattle.mama_event.specs.declared.shape.Bounds.{Bounds}
 use Rattle.mama_event.specs.declared.to_bridge.BridgeNote.{BridgeNote}
@@ -122,3 +122,62 @@ has_put_without ports left whole has = subst (λ (xs : List QueuePut). HasPut po
 -- the first of what is left, where it was found
 pub first_found : {E : Type 0} (note : E → QueuePut) (found : Option E) (x : E) (left rest : List QueuePut) → found ≡ Some x → IfSome found (λ (e : E). left ≡ note e ∷ rest) → left ≡ note x ∷ rest
 first_found {E} note found x left rest is h = subst (λ (o : Option E). IfSome o (λ (e : E). left ≡ note e ∷ rest)) is h
+
+-- ---- what is left, and then a wish
+
+after_append : (ports : OutletsValue) (xs ys : List QueuePut) → after_puts ports (xs ++ ys) ≡ after_puts (after_puts ports xs) ys
+after_append ports xs ys =
+    ap (λ (ns : List BridgeNote). with_put ports ns (ports.to_timers.put ++ flat_map timers_part (xs ++ ys))) (parts bridge_part ports.to_bridge.put)
+    ∙ ap (λ (ns : List TimersNote). with_put ports ((ports.to_bridge.put ++ flat_map bridge_part xs) ++ flat_map bridge_part ys) ns) (parts timers_part ports.to_timers.put)
+  where
+    parts : {N : Type 0} (part : QueuePut → List N) (put : List N) → put ++ flat_map part (xs ++ ys) ≡ (put ++ flat_map part xs) ++ flat_map part ys
+    parts {N} part put = ap (λ (ns : List N). put ++ ns) (flat_map-append part xs ys) ∙ sym (append_assoc put (flat_map part xs) (flat_map part ys))
+
+pub after_both : (old now : OutletsValue) (all left later : List QueuePut) → after_puts now left ≡ after_puts old all → after_puts now (left ++ later) ≡ after_puts old (all ++ later)
+after_both old now all left later same =
+    after_append now left later ∙ ap (λ (p : OutletsValue). after_puts p later) same ∙ sym (after_append old all later)
+
+-- the first of what may be put may be put
+pub may_front : (ports : OutletsValue) (left later : List QueuePut) → MayPut ports (left ++ later) → MayPut ports left
+may_front ports left later may = record {
+  to_bridge = IsLawful-prefix bridge.is_last (bridge.fits ports.to_bridge.bounds) (ports.to_bridge.put ++ flat_map bridge_part left) (flat_map bridge_part later)
+      (subst (IsLawful bridge.is_last (bridge.fits ports.to_bridge.bounds)) (ap (λ (p : OutletsValue). p.to_bridge.put) (after_append ports left later)) may.to_bridge);
+  to_timers = IsLawful-prefix timers.is_last (timers.fits ports.to_timers.bounds) (ports.to_timers.put ++ flat_map timers_part left) (flat_map timers_part later)
+      (subst (IsLawful timers.is_last (timers.fits ports.to_timers.bounds)) (ap (λ (p : OutletsValue). p.to_timers.put) (after_append ports left later)) may.to_timers);
+}
+
+-- the rest may be put where as much was put
+pub may_same : (old now : OutletsValue) (all left : List QueuePut) → after_puts now left ≡ after_puts old all → MayPut old all → MayPut now left
+may_same old now all left same may = record {
+  to_bridge = subst (λ (p : OutletsValue). IsLawful bridge.is_last (bridge.fits p.to_bridge.bounds) p.to_bridge.put) (sym same) may.to_bridge;
+  to_timers = subst (λ (p : OutletsValue). IsLawful timers.is_last (timers.fits p.to_timers.bounds) p.to_timers.put) (sym same) may.to_timers;
+}
+
+-- where nothing is left of the first, the rest is left
+pub rest_left : (left later : List QueuePut) → left ≡ [] → left ++ later ≡ later
+rest_left left later none = ap (λ (xs : List QueuePut). xs ++ later) none
+
+-- what ends in something is something
+pub never_none : (xs : List QueuePut) (x : QueuePut) → xs ++ x ∷ [] ≡ [] → ⊥
+never_none [] x e = cc
+never_none (y ∷ ys) x e = cc
+
+pub front_stuck : (xs ys : List QueuePut) → (xs ≡ [] → ⊥) → xs ++ ys ≡ [] → ⊥
+front_stuck [] ys some e = some refl
+front_stuck (x ∷ xs) ys some e = cc
+
+-- nothing is noted of nothing alone
+pub none_of : {A : Type 0} (f : A → QueuePut) (xs : List A) → map f xs ≡ [] → xs ≡ []
+none_of f [] h = refl
+none_of f (x ∷ xs) h = absurd (cc h)
+
+-- what is first was put, and then what is later
+pub all_same : (old now : OutletsValue) (all left later : List QueuePut) → after_puts now left ≡ after_puts old all → left ≡ [] → after_puts now later ≡ after_puts old (all ++ later)
+all_same old now all left later same none = ap (after_puts now) (sym (rest_left left later none)) ∙ after_both old now all left later same
+
+pub later_may : (old now : OutletsValue) (all left later : List QueuePut) → after_puts now left ≡ after_puts old all → left ≡ [] → MayPut old (all ++ later) → MayPut now later
+later_may old now all left later same none may = may_same old now (all ++ later) later (all_same old now all left later same none) may
+
+pub all_put : (old now new : OutletsValue) (all left later rest : List QueuePut) → after_puts now left ≡ after_puts old all → left ≡ [] → after_puts new rest ≡ after_puts now later
+    → after_puts new (left ++ rest) ≡ after_puts old (all ++ later)
+all_put old now new all left later rest same none rest_same = ap (after_puts new) (rest_left left rest none) ∙ rest_same ∙ all_same old now all left later same none

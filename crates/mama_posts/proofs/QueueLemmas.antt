@@ -2,7 +2,7 @@
 use Rattle.std.specs.Prelude.{IfSome, OnOk, OnErr}
 use mathlib.Core.List.{IsPrefix}
 use Rattle.std.specs.List.{All, AllByRecursion, flat_map, list_any}
-use Rattle.std.proofs.Common.{◌≡◌, ◌↔◌, ℕ, zero, suc, ◌+◌, ◌<◌, ◌≤◌, Bool, true, false, not, ◌||◌, ◌==◌, cond, List, [], ◌∷◌, ◌++◌, map, Option, None, Some, Result, Ok, Err, refl, sym, ◌∙◌, ap, subst, append-nil, arith}
+use Rattle.std.proofs.Common.{◌≡◌, ◌↔◌, ℕ, zero, suc, ◌+◌, ◌<◌, ◌≤◌, Bool, true, false, not, ◌||◌, ◌==◌, cond, List, [], ◌∷◌, ◌++◌, length, map, Option, None, Some, Result, Ok, Err, refl, sym, ◌∙◌, ap, subst, append-nil, length-append, arith}
 use Rattle.std.proofs.lemmas.Bool.{or_parts, both_ways}
 use Rattle.std.proofs.lemmas.List.{map-append}
 use Rattle.std.proofs.lemmas.List.Concat.{flat_map-append}
@@ -33,7 +33,14 @@ use Rattle.mama_event.specs.declared.to_queue.ToQueue.TheVariants as event
 use Rattle.mama_event.specs.declared.shape.Strategy.TheVariants as strategy
 use Rattle.mama_lane.specs.Values.{PortValue, TakerValue}
 use Rattle.mama_ends.specs.Inlet.{InletValue, AreLawful}
-use Rattle.mama_rules_queue.specs.Queue.{QueuePut, queue_puts_at}
+use Rattle.mama_event.specs.declared.ids.TimerId.{TimerId}
+use Rattle.mama_event.specs.declared.watch.WatchRow.{WatchRow}
+use Rattle.mama_rules_queue.specs.Queue.{QueuePut}
+use Rattle.mama_rules_queue.specs.Watch.{wishes_at, watched_puts_at}
+use Rattle.mama_rules_rounds.specs.World.{Watched, rows_on}
+use Rattle.mama_dispatch.specs.declared.turn.Turn.{Turn}
+use Rattle.mama_timeout.specs.Table.{WatchData, watch_by, new_watch}
+use Rattle.mama_timeout.specs.Turns.{tick_in, watches_after, wishes_after, missed_by, AreWatched}
 use Rattle.mama_rules_rounds.specs.Client.{Planned, bridge_part, timers_part}
 use Rattle.mama_laws_allowed.specs.Allowed.{ArePutsLawful, IsTakenLawfully, QueuePutsAreLawful}
 use Rattle.mama_plans.specs.Orders.{orders_in}
@@ -49,7 +56,7 @@ use Rattle.mama_dispatch.proofs.DeedLemmas.{same_object-true}
 use Rattle.mama_dispatch.proofs.KeepLemmas.{comes_at}
 use Rattle.mama_seats.specs.Waiting.{Queued, waits}
 use Rattle.mama_posts.specs.Outlets.{OutletsValue, after_puts, HasPut, MayPut}
-use Rattle.mama_posts.specs.Queue.{QueuePostValue, plan_of, served_puts, calls_by, gone, gone_in, HasHeardSeat, HasNoListener, HasComeBack, IsQueueOf, HasEnded, HasServedAll, MadeStep, finished, took, holding}
+use Rattle.mama_posts.specs.Queue.{QueuePostValue, plan_of, rows_of_watches, served_puts, calls_by, gone, gone_in, HasHeardSeat, HasNoListener, HasComeBack, IsQueueOf, HasEnded, HasServedAll, MadeStep, finished, took, holding}
 use Rattle.mama_posts.proofs.OutletLemmas.{has_put_still, has_put_with_none, has_put_without, may_put}
 use Rattle.mama_posts.proofs.ReturnLemmas.{same_calls}
 
@@ -178,29 +185,51 @@ done_lawfully journal kept h =
           (subst (IsLawful is_last (fits port)) (by_port-append port journal kept) (h.each port));
     }
 
+-- watches as those of queue 0
+abbrev own_watch : ℕ × WatchRow → Watched
+own_watch w = record { number = w.0; queue = 0; row = w.1 }
+
+own_rows : (rows : List (ℕ × WatchRow)) → rows_on 0 (map own_watch rows) ≡ map (λ (w : ℕ × WatchRow). w.1) rows
+own_rows [] = refl
+own_rows (w ∷ ws) = ap (λ (rs : List WatchRow). w.1 ∷ rs) (own_rows ws)
+
 pub queue_may : (objects : List Planned) (number : ℕ) (post : QueuePostValue) → IsQueueOf objects number post → QueuePutsAreLawful → MayPut post.ports post.left
 queue_may objects number post seat law =
     let journal = post.served.journal in
     let lawful = done_lawfully journal post.inlet.kept (subst IsTakenLawfully seat.taken seat.lawful) in
-    let puts_lawfully : (bounds : Bounds) → ArePutsLawful bounds (served_puts objects journal) = λ bounds.
-    law (record { shape = record { clients = 0; publisher_topics = []; bounds = bounds; strategy = strategy.One }; publishers = []; objects = objects }) bounds journal lawful in
-    may_put post.ports post.left [] (served_puts objects journal) (has_put_with_none post.ports post.left (served_puts objects journal) seat.put)
+    let rows = rows_of_watches post.watches in
+    let whole : List QueuePut = served_puts objects rows journal in
+    let puts_lawfully : (bounds : Bounds) → ArePutsLawful bounds whole = λ bounds.
+    subst (λ (rs : List WatchRow). ArePutsLawful bounds (puts (watched_puts_at (orders_in objects) rs) journal)) (own_rows rows)
+    (law (record {
+      shape = record { clients = 0; publisher_topics = []; bounds = bounds; strategy = strategy.One };
+      publishers = [];
+      objects = objects;
+      groups = [];
+      watches = map own_watch rows;
+    })
+    bounds 0 journal lawful) in
+    may_put post.ports post.left [] whole (has_put_with_none post.ports post.left whole seat.put)
     (puts_lawfully post.ports.to_bridge.bounds) (puts_lawfully post.ports.to_timers.bounds)
 
+-- what an entry puts
+abbrev pub entry_puts : List Planned → List (ℕ × WatchRow) → List (ℕ × QueueNote) → ℕ × QueueNote → List QueuePut
+entry_puts objects rows journal e = watched_puts_at (orders_in objects) (map (λ (w : ℕ × WatchRow). w.1) rows) journal e
+
 -- an entry more puts more
-put_next : (objects : List Planned) (journal : List (ℕ × QueueNote)) (e : ℕ × QueueNote) (old new : OutletsValue) (was left : List QueuePut) → HasPut old was (served_puts objects journal) → was ≡ [] → new ≡ old
-    → left ≡ queue_puts_at (orders_in objects) journal e → HasPut new left (served_puts objects (journal ++ e ∷ []))
-put_next objects journal e old new was left has none same lays =
-    subst (λ (p : OutletsValue). HasPut p left (served_puts objects (journal ++ e ∷ []))) (sym same)
+put_next : (objects : List Planned) (rows : List (ℕ × WatchRow)) (journal : List (ℕ × QueueNote)) (e : ℕ × QueueNote) (old new : OutletsValue) (was left : List QueuePut) → HasPut old was (served_puts objects rows journal)
+    → was ≡ [] → new ≡ old → left ≡ entry_puts objects rows journal e → HasPut new left (served_puts objects rows (journal ++ e ∷ []))
+put_next objects rows journal e old new was left has none same lays =
+    subst (λ (p : OutletsValue). HasPut p left (served_puts objects rows (journal ++ e ∷ []))) (sym same)
     (record { to_bridge = part bridge_part old.to_bridge.put has.to_bridge; to_timers = part timers_part old.to_timers.put has.to_timers })
   where
-    part : {N : Type 0} (piece : QueuePut → List N) (put : List N) → put ++ flat_map piece was ≡ flat_map piece (served_puts objects journal)
-        → put ++ flat_map piece left ≡ flat_map piece (served_puts objects (journal ++ e ∷ []))
+    part : {N : Type 0} (piece : QueuePut → List N) (put : List N) → put ++ flat_map piece was ≡ flat_map piece (served_puts objects rows journal)
+        → put ++ flat_map piece left ≡ flat_map piece (served_puts objects rows (journal ++ e ∷ []))
     part {N} piece put h =
         ap (λ (ns : List N). ns ++ flat_map piece left) (sym (append-nil put) ∙ ap (λ (ps : List QueuePut). put ++ flat_map piece ps) (sym none) ∙ h)
-        ∙ ap (λ (ps : List QueuePut). flat_map piece (served_puts objects journal) ++ flat_map piece ps) lays
-        ∙ sym (flat_map-append piece (served_puts objects journal) (queue_puts_at (orders_in objects) journal e))
-        ∙ ap (flat_map piece) (sym (puts-push (queue_puts_at (orders_in objects)) journal e))
+        ∙ ap (λ (ps : List QueuePut). flat_map piece (served_puts objects rows journal) ++ flat_map piece ps) lays
+        ∙ sym (flat_map-append piece (served_puts objects rows journal) (entry_puts objects rows journal e))
+        ∙ ap (flat_map piece) (sym (puts-push (entry_puts objects rows) journal e))
 
 -- ---- the seat after an event
 
@@ -212,30 +241,60 @@ back_still objects journal e back streams turns lawful was =
     (λ b h. subst (λ (ns : List CallNote). HasComeBack ns b) (same_calls (orders_in objects) journal e b.0 streams (turns (journal ++ e ∷ []) lawful.each) h.ended) h)
     back was
 
+-- watches by any journal have their rows
+pub rows_kept : (orders : ObjectId → ℕ → List Order) (journal : List (ℕ × QueueNote)) (rows : List (ℕ × WatchRow)) → rows_of_watches (map (watch_by orders journal) rows) ≡ rows
+rows_kept orders journal [] = refl
+rows_kept orders journal (w ∷ ws) = ap (λ (rs : List (ℕ × WatchRow)). w ∷ rs) (rows_kept orders journal ws)
+
+-- what the watches noted, and wish for, behind a turn
+pub watches_next : {L : Type 0} (orders : ObjectId → ℕ → List Order) (journal now : List (ℕ × QueueNote)) (e : ℕ × QueueNote) (tick : Option (TimerId × ℕ)) (answer : Turn L) (old between new : List WatchData)
+    → new ≡ watches_after tick answer (missed_by orders now) between → between ≡ old → tick ≡ tick_in e.1 → now ≡ journal ++ e ∷ [] → old ≡ map (watch_by orders journal) (rows_of_watches old)
+    → AreWatched orders (rows_of_watches old) journal e answer → new ≡ map (watch_by orders (journal ++ e ∷ [])) (rows_of_watches old)
+watches_next orders journal now e tick answer old between new is same of_it more noted law =
+    is ∙ ap (watches_after tick answer (missed_by orders now)) (same ∙ noted)
+    ∙ ap (λ (t : Option (TimerId × ℕ)). watches_after t answer (missed_by orders now) (map (watch_by orders journal) (rows_of_watches old))) of_it
+    ∙ ap (λ (j : List (ℕ × QueueNote)). watches_after (tick_in e.1) answer (missed_by orders j) (map (watch_by orders journal) (rows_of_watches old))) more
+    ∙ law.noted
+
+pub wishes_next : {L : Type 0} (orders : ObjectId → ℕ → List Order) (journal now : List (ℕ × QueueNote)) (e : ℕ × QueueNote) (tick : Option (TimerId × ℕ)) (answer : Turn L) (old between : List WatchData) (wish : List QueuePut)
+    → wish ≡ wishes_after tick answer (missed_by orders now) between → between ≡ old → tick ≡ tick_in e.1 → now ≡ journal ++ e ∷ [] → old ≡ map (watch_by orders journal) (rows_of_watches old)
+    → AreWatched orders (rows_of_watches old) journal e answer → wish ≡ wishes_at orders (map (λ (w : ℕ × WatchRow). w.1) (rows_of_watches old)) journal e
+wishes_next orders journal now e tick answer old between wish is same of_it more noted law =
+    is ∙ ap (wishes_after tick answer (missed_by orders now)) (same ∙ noted)
+    ∙ ap (λ (t : Option (TimerId × ℕ)). wishes_after t answer (missed_by orders now) (map (watch_by orders journal) (rows_of_watches old))) of_it
+    ∙ ap (λ (j : List (ℕ × QueueNote)). wishes_after (tick_in e.1) answer (missed_by orders j) (map (watch_by orders journal) (rows_of_watches old))) more
+    ∙ law.wished
+
 pub event_seat : (objects : List Planned) (number : ℕ) (old : QueuePostValue) (port : ℕ) (note : QueueNote) (comes : Option (ObjectId × ListenerData)) (returned : List (ObjectId × ListenerData))
-    (served : Served) (inlet : InletValue QueueNote) (ports : OutletsValue) (left : List QueuePut) (back : List (ObjectId × ListenerData))
+    (served : Served) (watches : List WatchData) (inlet : InletValue QueueNote) (ports : OutletsValue) (left : List QueuePut) (back : List (ObjectId × ListenerData))
     → IsQueueOf objects number (holding old port note) → old.left ≡ [] → old.inlet.kept ≡ []
     → BringsOr old.served.journal note comes → IfSome comes (λ (b : ObjectId × ListenerData). IsFresh b.0 (plan_of objects b.0) b.1)
     → served.queue ≡ old.served.queue → served.journal ≡ old.served.journal ++ (port, note) ∷ []
     → ((object : ObjectId) (came : ListenerData) → ComesAs object came comes → HeardAt object came old.served.seats → HeardAt object came served.seats)
     → ((object : ObjectId) (f : ℕ → List Order) (count : ℕ) → ComesWith object f count comes → PlannedAt object f count old.served.seats → PlannedAt object f count served.seats)
-    → inlet ≡ old.inlet → ports ≡ old.ports → left ≡ queue_puts_at (orders_in objects) old.served.journal (port, note) → back ≡ old.back ++ returned
+    → inlet ≡ old.inlet → ports ≡ old.ports → left ≡ entry_puts objects (rows_of_watches old.watches) old.served.journal (port, note)
+    → watches ≡ map (watch_by (orders_in objects) (old.served.journal ++ (port, note) ∷ [])) (rows_of_watches old.watches) → back ≡ old.back ++ returned
     → map (λ (b : ObjectId × ListenerData). b.0) returned ≡ gone_in note
     → All (λ (b : ObjectId × ListenerData). HasComeBack (calls_by objects (old.served.journal ++ (port, note) ∷ []) b.0) b) returned
     → CallbacksAreStreams → LawfulAreTurns
-    → IsQueueOf objects number (record { served = served; inlet = inlet; ports = ports; left = left; back = back })
-event_seat objects number old port note comes returned served inlet ports left back seat clear none brings_it fresh same_queue more heard plans same_inlet same_ports lays more_back gone_are come_back streams turns =
+    → IsQueueOf objects number (record { served = served; watches = watches; inlet = inlet; ports = ports; left = left; back = back })
+event_seat objects number old port note comes returned served watches inlet ports left back seat clear none brings_it fresh same_queue more heard plans same_inlet same_ports lays noted more_back gone_are come_back streams turns =
     let journal = old.served.journal in
     let now = journal ++ (port, note) ∷ [] in
     let lawful : IsTakenLawfully now = subst IsTakenLawfully seat.taken seat.lawful in
     let B : ObjectId × ListenerData → Type 0 = λ b. HasComeBack (calls_by objects now b.0) b in
+    let rows = rows_of_watches old.watches in
+    let same_rows : rows_of_watches watches ≡ rows = ap rows_of_watches noted ∙ rows_kept (orders_in objects) now rows in
     record {
       number_is = same_queue ∙ seat.number_is;
       two_ports = ap (λ (i : InletValue QueueNote). i.taker.ports) same_inlet ∙ seat.two_ports;
       taken = ap (λ (i : InletValue QueueNote). i.taker.taken) same_inlet ∙ seat.taken ∙ sym more ∙ sym (append-nil served.journal)
           ∙ ap (λ (k : List (ℕ × QueueNote)). served.journal ++ k) (sym none) ∙ ap (λ (i : InletValue QueueNote). served.journal ++ i.kept) (sym same_inlet);
       lawful = subst (λ (i : InletValue QueueNote). IsTakenLawfully i.taker.taken) (sym same_inlet) seat.lawful;
-      put = subst (λ (j : List (ℕ × QueueNote)). HasPut ports left (served_puts objects j)) (sym more) (put_next objects journal (port, note) old.ports ports old.left left seat.put clear same_ports lays);
+      put = subst (λ (rs : List (ℕ × WatchRow)). HasPut ports left (served_puts objects rs served.journal)) (sym same_rows)
+          (subst (λ (j : List (ℕ × QueueNote)). HasPut ports left (served_puts objects rows j)) (sym more) (put_next objects rows journal (port, note) old.ports ports old.left left seat.put clear same_ports lays));
+      noted = noted ∙ ap (λ (j : List (ℕ × QueueNote)). map (watch_by (orders_in objects) j) rows) (sym more)
+          ∙ ap (map (watch_by (orders_in objects) served.journal)) (sym same_rows);
       planned = planned_next objects journal port note old.served.seats served.seats comes brings_it fresh heard plans seat.planned;
       heard = heard_next objects journal port note old.served.seats served.seats comes brings_it fresh heard seat.unborn seat.heard;
       unborn = subst (λ (j : List (ℕ × QueueNote)). (o : ObjectId) → is_born o j ≡ false → HasNoListener o served.seats) (sym more)
@@ -266,6 +325,7 @@ held_seat objects number old inlet port note seat next others lawful =
         each = lawful.each;
       };
       put = seat.put;
+      noted = seat.noted;
       planned = seat.planned;
       heard = seat.heard;
       unborn = seat.unborn;
@@ -274,15 +334,16 @@ held_seat objects number old inlet port note seat next others lawful =
     }
 
 -- the seat after some of what was left was put
-pub put_seat : (objects : List Planned) (number : ℕ) (old new : QueuePostValue) → IsQueueOf objects number old → new.served ≡ old.served → new.inlet ≡ old.inlet → new.back ≡ old.back
+pub put_seat : (objects : List Planned) (number : ℕ) (old new : QueuePostValue) → IsQueueOf objects number old → new.served ≡ old.served → new.watches ≡ old.watches → new.inlet ≡ old.inlet → new.back ≡ old.back
     → after_puts new.ports new.left ≡ after_puts old.ports old.left → IsQueueOf objects number new
-put_seat objects number old new seat same_served same_inlet same_back same =
+put_seat objects number old new seat same_served same_watches same_inlet same_back same =
     let put : QueuePostValue = record old { ports = new.ports; left = new.left } in
     let there : new ≡ put =
     ap (λ (s : Served). let v : QueuePostValue = record new { served = s } in v) same_served
-    ∙ ap (λ (i : InletValue QueueNote). let v : QueuePostValue = record new { served = old.served; inlet = i } in v) same_inlet
-    ∙ ap (λ (b : List (ObjectId × ListenerData)). let v : QueuePostValue = record new { served = old.served; inlet = old.inlet; back = b } in v) same_back in
-    let whole = served_puts objects old.served.journal in
+    ∙ ap (λ (w : List WatchData). let v : QueuePostValue = record new { served = old.served; watches = w } in v) same_watches
+    ∙ ap (λ (i : InletValue QueueNote). let v : QueuePostValue = record new { served = old.served; watches = old.watches; inlet = i } in v) same_inlet
+    ∙ ap (λ (b : List (ObjectId × ListenerData)). let v : QueuePostValue = record new { served = old.served; watches = old.watches; inlet = old.inlet; back = b } in v) same_back in
+    let whole = served_puts objects (rows_of_watches old.watches) old.served.journal in
     subst (IsQueueOf objects number) (sym there)
     (record {
       number_is = seat.number_is;
@@ -290,6 +351,7 @@ put_seat objects number old new seat same_served same_inlet same_back same =
       taken = seat.taken;
       lawful = seat.lawful;
       put = has_put_without new.ports new.left whole (has_put_still old.ports new.ports old.left new.left same [] whole (has_put_with_none old.ports old.left whole seat.put));
+      noted = seat.noted;
       planned = seat.planned;
       heard = seat.heard;
       unborn = seat.unborn;
@@ -299,10 +361,15 @@ put_seat objects number old new seat same_served same_inlet same_back same =
 
 -- ---- the beginning and the end
 
-pub first_seat : (objects : List Planned) (number : ℕ) (taker : TakerValue QueueNote) (to_bridge : PortValue BridgeNote) (to_timers : PortValue TimersNote) → taker.taken ≡ [] → taker.ports ≡ 2
+-- watches that noted nothing yet
+pub first_noted : (orders : ObjectId → ℕ → List Order) (rows : List (ℕ × WatchRow)) → map new_watch rows ≡ map (watch_by orders []) (rows_of_watches (map new_watch rows))
+first_noted orders [] = refl
+first_noted orders (w ∷ ws) = ap (λ (xs : List WatchData). new_watch w ∷ xs) (first_noted orders ws)
+
+pub first_seat : (objects : List Planned) (number : ℕ) (rows : List (ℕ × WatchRow)) (taker : TakerValue QueueNote) (to_bridge : PortValue BridgeNote) (to_timers : PortValue TimersNote) → taker.taken ≡ [] → taker.ports ≡ 2
     → to_bridge.put ≡ [] → to_timers.put ≡ []
-    → IsQueueOf objects number (record { served = record { queue = number; journal = []; seats = [] }; inlet = record { taker = taker; kept = [] }; ports = record { to_bridge = to_bridge; to_timers = to_timers }; left = []; back = [] })
-first_seat objects number taker to_bridge to_timers none two none_bridge none_timers = record {
+    → IsQueueOf objects number (record { served = record { queue = number; journal = []; seats = [] }; watches = map new_watch rows; inlet = record { taker = taker; kept = [] }; ports = record { to_bridge = to_bridge; to_timers = to_timers }; left = []; back = [] })
+first_seat objects number rows taker to_bridge to_timers none two none_bridge none_timers = record {
   number_is = refl;
   two_ports = two;
   taken = none;
@@ -314,6 +381,7 @@ first_seat objects number taker to_bridge to_timers none two none_bridge none_ti
     to_bridge = append-nil to_bridge.put ∙ none_bridge;
     to_timers = append-nil to_timers.put ∙ none_timers;
   };
+  noted = first_noted (orders_in objects) rows;
   planned = λ object. tt;
   heard = λ object. record {
     came = record { tag = object; calls = 0; heard = None; given = None; plan = Some (plan_of objects object) };
@@ -339,11 +407,12 @@ tells_end post bridge timers says_bridge says_timers kept left ended = (
 )
 
 pub served_all : (objects : List Planned) (number : ℕ) (post : QueuePostValue) → IsQueueOf objects number post → HasEnded post
-    → HasServedAll objects post.served.journal post.inlet.taker post.ports.to_bridge.put post.ports.to_timers.put
+    → HasServedAll objects (rows_of_watches post.watches) post.served.journal post.inlet.taker post.ports.to_bridge.put post.ports.to_timers.put
 served_all objects number post seat end =
     let whole : post.inlet.taker.taken ≡ post.served.journal =
     seat.taken ∙ ap (λ (k : List (ℕ × QueueNote)). post.served.journal ++ k) end.kept ∙ append-nil post.served.journal in
-    let has : HasPut post.ports [] (served_puts objects post.served.journal) = subst (λ (ps : List QueuePut). HasPut post.ports ps (served_puts objects post.served.journal)) end.left seat.put in
+    let whole_puts = served_puts objects (rows_of_watches post.watches) post.served.journal in
+    let has : HasPut post.ports [] whole_puts = subst (λ (ps : List QueuePut). HasPut post.ports ps whole_puts) end.left seat.put in
     record {
       taken = whole;
       told = λ port within. ap (λ (j : List (ℕ × QueueNote)). list_any is_last (by_port port j)) (sym whole) ∙ end.told port within;
@@ -358,10 +427,10 @@ at_ok (Ok y) x is p = p
 at_ok (Err e) x is p = absurd (cc is)
 
 -- what is put afterwards changes nothing of it
-pub made_after : (old between new : QueuePostValue) → MadeStep old between → new.served ≡ between.served → new.inlet ≡ between.inlet → new.back ≡ between.back → MadeStep old new
-made_after old between new (finished first rest left served inlet back) same_served same_inlet same_back =
-    finished first rest left (same_served ∙ served) (same_inlet ∙ inlet) (same_back ∙ back)
-made_after old between new (took e none journal kept) same_served same_inlet same_back =
+pub made_after : (old between new : QueuePostValue) → MadeStep old between → new.served ≡ between.served → new.watches ≡ between.watches → new.inlet ≡ between.inlet → new.back ≡ between.back → MadeStep old new
+made_after old between new (finished first rest left served watches inlet back) same_served same_watches same_inlet same_back =
+    finished first rest left (same_served ∙ served) (same_watches ∙ watches) (same_inlet ∙ inlet) (same_back ∙ back)
+made_after old between new (took e none journal kept) same_served same_watches same_inlet same_back =
     took e none (ap (λ (s : Served). s.journal) same_served ∙ journal) (ap (λ (i : InletValue QueueNote). i.kept) same_inlet ∙ kept)
 
 -- what was left is put
@@ -371,7 +440,7 @@ made_left old new some same = by_left old.left refl
     by_left : (left : List QueuePut) → old.left ≡ left → MadeStep old new
     by_left [] none = absurd (some none)
     by_left (first ∷ rest) is =
-        finished first rest is (ap (λ (v : QueuePostValue). v.served) same) (ap (λ (v : QueuePostValue). v.inlet) same) (ap (λ (v : QueuePostValue). v.back) same)
+        finished first rest is (ap (λ (v : QueuePostValue). v.served) same) (ap (λ (v : QueuePostValue). v.watches) same) (ap (λ (v : QueuePostValue). v.inlet) same) (ap (λ (v : QueuePostValue). v.back) same)
 
 -- an event was taken
 pub made_taken : (old new : QueuePostValue) (was : List (ℕ × QueueNote)) (e : ℕ × QueueNote) → old.left ≡ [] → was ≡ old.served.journal → new.served.journal ≡ was ++ e ∷ [] → new.inlet.kept ≡ [] → MadeStep old new
@@ -383,20 +452,24 @@ pub journal_grows : {A E : Type 0} (result : Result A E) (was : List (ℕ × Que
 journal_grows (Ok x) was new held e ok err same = (e ∷ [], sym ok)
 journal_grows (Err x) was new held e ok err same = ([], append-nil was ∙ sym (ap (λ (v : QueuePostValue). v.served.journal) err ∙ same))
 
+-- and so its journal is longer by one at most
+pub journal_few : {A E : Type 0} (result : Result A E) (was : List (ℕ × QueueNote)) (new held : QueuePostValue) (e : ℕ × QueueNote) → OnOk result (new.served.journal ≡ was ++ e ∷ [])
+    → OnErr result (new ≡ held) → held.served.journal ≡ was → length new.served.journal ≤ length was + 1
+journal_few (Ok x) was new held e ok err same =
+    let long = ap (λ (es : List (ℕ × QueueNote)). length es) ok ∙ length-append was (e ∷ []) in omega (arith, long)
+journal_few (Err x) was new held e ok err same =
+    let long = ap (λ (v : QueuePostValue). length v.served.journal) err ∙ ap (λ (es : List (ℕ × QueueNote)). length es) same in omega (arith, long)
+
 -- where no event came all is as it was
 pub still : (view old : QueuePostValue) (inlet : InletValue QueueNote) → view ≡ old → inlet ≡ view.inlet → record view { inlet = inlet } ≡ old
 still view old inlet is same = ap (λ (i : InletValue QueueNote). record view { inlet = i }) same ∙ is
 
 -- what waits is what is left
-nothing_waits : {A : Type 0} (f : A → QueuePut) (xs : List A) → map f xs ≡ [] → xs ≡ []
-nothing_waits f [] h = refl
-nothing_waits f (x ∷ xs) h = cc
+pub some_left : (waiting left : List QueuePut) (clear : Bool) → waiting ≡ left → ((clear ≡ true) ↔ (waiting ≡ [])) → clear ≡ false → left ≡ [] → ⊥
+some_left waiting left clear is tells some none = both_ways clear some (tells.1 (is ∙ none))
 
-pub some_left : {A : Type 0} (f : A → QueuePut) (xs : List A) (left : List QueuePut) (clear : Bool) → map f xs ≡ left → ((clear ≡ true) ↔ (xs ≡ [])) → clear ≡ false → left ≡ [] → ⊥
-some_left f xs left clear is tells some none = both_ways clear some (tells.1 (nothing_waits f xs (is ∙ none)))
-
-pub none_left : {A : Type 0} (f : A → QueuePut) (xs : List A) (left : List QueuePut) (clear : Bool) → map f xs ≡ left → ((clear ≡ true) ↔ (xs ≡ [])) → clear ≡ true → left ≡ []
-none_left f xs left clear is tells all = sym is ∙ ap (map f) (tells.0 all)
+pub none_left : (waiting left : List QueuePut) (clear : Bool) → waiting ≡ left → ((clear ≡ true) ↔ (waiting ≡ [])) → clear ≡ true → left ≡ []
+none_left waiting left clear is tells all = sym is ∙ tells.0 all
 
 -- what is left where nothing was, after some puts
 pub lays : {A : Type 0} (f : A → QueuePut) (left : Queued A) (items before : List A) (puts : List QueuePut) → left ≡ record { apart = None; rest = items } → map f items ≡ map f before ++ puts → before ≡ []
@@ -406,24 +479,29 @@ lays {A} f left items before puts is laid none = ap (λ (w : Queued A). map f (w
 pub nothing_laid : {A : Type 0} (f : A → QueuePut) (left : Queued A) (items : List A) → left ≡ record { apart = None; rest = items } → items ≡ [] → map f (waits left) ≡ []
 nothing_laid {A} f left items is none = ap (λ (w : Queued A). map f (waits w)) is ∙ ap (map f) none
 
-pub first_as : (objects : List Planned) (number : ℕ) (served : Served) (inlet : InletValue QueueNote) (ports : OutletsValue) (left : List QueuePut) (back : List (ObjectId × ListenerData))
+pub first_as : (objects : List Planned) (number : ℕ) (rows : List (ℕ × WatchRow)) (served : Served) (watches : List WatchData) (inlet : InletValue QueueNote) (ports : OutletsValue) (left : List QueuePut) (back : List (ObjectId × ListenerData))
     (taker : TakerValue QueueNote) (to_bridge : PortValue BridgeNote) (to_timers : PortValue TimersNote) → taker.taken ≡ [] → taker.ports ≡ 2 → to_bridge.put ≡ [] → to_timers.put ≡ []
-    → served ≡ record { queue = number; journal = []; seats = [] } → inlet ≡ record { taker = taker; kept = [] } → ports ≡ record { to_bridge = to_bridge; to_timers = to_timers } → left ≡ [] → back ≡ []
-    → IsQueueOf objects number (record { served = served; inlet = inlet; ports = ports; left = left; back = back })
-first_as objects number served inlet ports left back taker to_bridge to_timers none two none_bridge none_timers is_served is_inlet is_ports is_left is_back =
-    subst (λ (s : Served). IsQueueOf objects number (record { served = s; inlet = inlet; ports = ports; left = left; back = back })) (sym is_served)
-    (subst (λ (i : InletValue QueueNote). IsQueueOf objects number (record { served = record { queue = number; journal = []; seats = [] }; inlet = i; ports = ports; left = left; back = back })) (sym is_inlet)
-    (subst (λ (p : OutletsValue). IsQueueOf objects number (record { served = record { queue = number; journal = []; seats = [] }; inlet = record { taker = taker; kept = [] }; ports = p; left = left; back = back })) (sym is_ports)
-    (subst (λ (l : List QueuePut). IsQueueOf objects number (record { served = record { queue = number; journal = []; seats = [] }; inlet = record { taker = taker; kept = [] }; ports = record { to_bridge = to_bridge; to_timers = to_timers }; left = l; back = back })) (sym is_left)
-    (subst (λ (b : List (ObjectId × ListenerData)). IsQueueOf objects number (record { served = record { queue = number; journal = []; seats = [] }; inlet = record { taker = taker; kept = [] }; ports = record { to_bridge = to_bridge; to_timers = to_timers }; left = []; back = b })) (sym is_back)
-    (first_seat objects number taker to_bridge to_timers none two none_bridge none_timers)))))
+    → served ≡ record { queue = number; journal = []; seats = [] } → watches ≡ map new_watch rows → inlet ≡ record { taker = taker; kept = [] } → ports ≡ record { to_bridge = to_bridge; to_timers = to_timers } → left ≡ [] → back ≡ []
+    → IsQueueOf objects number (record { served = served; watches = watches; inlet = inlet; ports = ports; left = left; back = back })
+first_as objects number rows served watches inlet ports left back taker to_bridge to_timers none two none_bridge none_timers is_served is_watches is_inlet is_ports is_left is_back =
+    let first : Served = record { queue = number; journal = []; seats = [] } in
+    let noted : List WatchData = map new_watch rows in
+    let taking : InletValue QueueNote = record { taker = taker; kept = [] } in
+    let both : OutletsValue = record { to_bridge = to_bridge; to_timers = to_timers } in
+    subst (λ (s : Served). IsQueueOf objects number (record { served = s; watches = watches; inlet = inlet; ports = ports; left = left; back = back })) (sym is_served)
+    (subst (λ (w : List WatchData). IsQueueOf objects number (record { served = first; watches = w; inlet = inlet; ports = ports; left = left; back = back })) (sym is_watches)
+    (subst (λ (i : InletValue QueueNote). IsQueueOf objects number (record { served = first; watches = noted; inlet = i; ports = ports; left = left; back = back })) (sym is_inlet)
+    (subst (λ (p : OutletsValue). IsQueueOf objects number (record { served = first; watches = noted; inlet = taking; ports = p; left = left; back = back })) (sym is_ports)
+    (subst (λ (l : List QueuePut). IsQueueOf objects number (record { served = first; watches = noted; inlet = taking; ports = both; left = l; back = back })) (sym is_left)
+    (subst (λ (b : List (ObjectId × ListenerData)). IsQueueOf objects number (record { served = first; watches = noted; inlet = taking; ports = both; left = []; back = b })) (sym is_back)
+    (first_seat objects number rows taker to_bridge to_timers none two none_bridge none_timers))))))
 
 -- what it gives up is what it took and put
 pub served_as : (objects : List Planned) (number : ℕ) (post : QueuePostValue) (journal : List (ℕ × QueueNote)) (taker : TakerValue QueueNote) (on_bridge : List BridgeNote) (on_timers : List TimersNote)
     → IsQueueOf objects number post → HasEnded post → journal ≡ post.served.journal → taker ≡ post.inlet.taker → on_bridge ≡ post.ports.to_bridge.put → on_timers ≡ post.ports.to_timers.put
-    → HasServedAll objects journal taker on_bridge on_timers
+    → HasServedAll objects (rows_of_watches post.watches) journal taker on_bridge on_timers
 served_as objects number post journal taker on_bridge on_timers seat end same_journal same_taker bridge timers =
-    subst (λ (j : List (ℕ × QueueNote)). HasServedAll objects j taker on_bridge on_timers) (sym same_journal)
-    (subst (λ (t : TakerValue QueueNote). HasServedAll objects post.served.journal t on_bridge on_timers) (sym same_taker)
-    (subst (λ (ns : List BridgeNote). HasServedAll objects post.served.journal post.inlet.taker ns on_timers) (sym bridge)
-    (subst (λ (ns : List TimersNote). HasServedAll objects post.served.journal post.inlet.taker post.ports.to_bridge.put ns) (sym timers) (served_all objects number post seat end))))
+    subst (λ (j : List (ℕ × QueueNote)). HasServedAll objects (rows_of_watches post.watches) j taker on_bridge on_timers) (sym same_journal)
+    (subst (λ (t : TakerValue QueueNote). HasServedAll objects (rows_of_watches post.watches) post.served.journal t on_bridge on_timers) (sym same_taker)
+    (subst (λ (ns : List BridgeNote). HasServedAll objects (rows_of_watches post.watches) post.served.journal post.inlet.taker ns on_timers) (sym bridge)
+    (subst (λ (ns : List TimersNote). HasServedAll objects (rows_of_watches post.watches) post.served.journal post.inlet.taker post.ports.to_bridge.put ns) (sym timers) (served_all objects number post seat end))))

@@ -14,7 +14,12 @@ use Rattle.mama_event.specs.declared.to_queue.QueueNote.TheVariants as q
 use Rattle.mama_event.specs.Listener.{ListenerData, reached}
 use Rattle.mama_event.specs.Ports.{queue_port_of_timers}
 use Rattle.mama_event.specs.ToQueue.{is_last}
-use Rattle.mama_rules_queue.specs.Queue.{QueuePut, deeds, is_destroy, queue_puts_at}
+use Rattle.std.specs.Global.{Vec}
+use Rattle.mama_event.specs.declared.watch.WatchRow.{WatchRow}
+use Rattle.mama_event.specs.declared.watch.WatchNote.{WatchNote}
+use Rattle.mama_rules_queue.specs.Queue.{QueuePut, deeds, is_destroy}
+use Rattle.mama_rules_queue.specs.Watch.{watched_puts_at}
+use Rattle.mama_timeout.specs.Table.{WatchData, watch_by}
 use Rattle.mama_rules_rounds.specs.Client.{Planned, bridge_part, timers_part}
 use Rattle.mama_rules_rounds.specs.World.{plan_in, rows_of}
 use Rattle.mama_laws_allowed.specs.Allowed.{IsTakenLawfully}
@@ -30,9 +35,11 @@ use Rattle.mama_lane.specs.Values.{TakerValue}
 use Rattle.mama_ends.specs.Inlet.{InletValue}
 use Rattle.mama_posts.specs.Outlets.{OutletsValue, HasPut}
 
--- what is served, the ends of the queue's lanes, what it has left to put, and the listeners that came back with their objects
+-- what is served, the watches with what they noted, the ends of the queue's lanes, what it has left to put, and the listeners that
+-- came back with their objects
 pub record QueuePostValue : Type 0 where
   pub served : Served
+  pub watches : List WatchData
   pub inlet : InletValue QueueNote
   pub ports : OutletsValue
   pub left : List QueuePut
@@ -42,9 +49,17 @@ pub record QueuePostValue : Type 0 where
 abbrev pub plan_of : List Planned → ObjectId → List PlanRow
 plan_of objects o = rows_of (first_said (plan_in o) objects)
 
--- what a queue puts by its journal and the plans of these objects
-abbrev pub served_puts : List Planned → List (ℕ × QueueNote) → List QueuePut
-served_puts objects journal = puts (queue_puts_at (orders_in objects)) journal
+-- the rows of watches, each with its number
+abbrev pub rows_of_watches : List WatchData → List (ℕ × WatchRow)
+rows_of_watches watches = map (λ (w : WatchData). (w.number, w.row)) watches
+
+-- what a queue puts by its journal, the plans of these objects, and these watches
+abbrev pub served_puts : List Planned → List (ℕ × WatchRow) → List (ℕ × QueueNote) → List QueuePut
+served_puts objects watches journal = puts (watched_puts_at (orders_in objects) (map (λ (w : ℕ × WatchRow). w.1) watches)) journal
+
+-- what a watch gives up: its number, with what it noted
+abbrev pub notes_given : ℕ × Vec WatchNote → ℕ × List WatchNote
+notes_given w = (w.0, w.1.items)
 
 -- the notes of an object's callbacks, by the journal and the plans of these objects
 abbrev pub calls_by : List Planned → List (ℕ × QueueNote) → ObjectId → List CallNote
@@ -97,15 +112,16 @@ pub record HasComeBack (notes : List CallNote) (b : ObjectId × ListenerData) : 
   pub ended : list_any is_destroy (map (λ n. n.call) notes) ≡ true
 
 -- The seat of the queue of a number, where these objects are planned. What it took is its journal and then what is kept,
--- and of each port it is what that may put; what it put, and then what is left, is its journal's. Its listeners order as
--- planned, and each came as it was made and has heard what is called back of its object. Those of the objects whose Gone
+-- and of each port it is what that may put; what it put, and then what is left, is its journal's. Its watches noted what they do
+-- by its journal. Its listeners order as planned, and each came as it was made and has heard what is called back of its object. Those of the objects whose Gone
 -- was taken came back.
 pub record IsQueueOf (objects : List Planned) (number : ℕ) (post : QueuePostValue) : Type 0 where
   pub number_is : post.served.queue ≡ number
   pub two_ports : post.inlet.taker.ports ≡ 2
   pub taken : post.inlet.taker.taken ≡ post.served.journal ++ post.inlet.kept
   pub lawful : IsTakenLawfully post.inlet.taker.taken
-  pub put : HasPut post.ports post.left (served_puts objects post.served.journal)
+  pub put : HasPut post.ports post.left (served_puts objects (rows_of_watches post.watches) post.served.journal)
+  pub noted : post.watches ≡ map (watch_by (orders_in objects) post.served.journal) (rows_of_watches post.watches)
   pub planned : ArePlanned (orders_in objects) post.served.seats
   pub heard : (object : ObjectId) → HasHeardSeat (plan_of objects object) object post.served.seats
   pub unborn : (object : ObjectId) → is_born object post.served.journal ≡ false → HasNoListener object post.served.seats
@@ -120,11 +136,11 @@ pub record HasEnded (post : QueuePostValue) : Type 0 where
 
 -- What a queue that has ended took and put: all that it took is in its journal, with the last event of both its ports, and
 -- on each lane it put what its journal puts.
-pub record HasServedAll (objects : List Planned) (journal : List (ℕ × QueueNote)) (taker : TakerValue QueueNote) (on_bridge : List BridgeNote) (on_timers : List TimersNote) : Type 0 where
+pub record HasServedAll (objects : List Planned) (watches : List (ℕ × WatchRow)) (journal : List (ℕ × QueueNote)) (taker : TakerValue QueueNote) (on_bridge : List BridgeNote) (on_timers : List TimersNote) : Type 0 where
   pub taken : taker.taken ≡ journal
   pub told : (port : ℕ) → port ≤ queue_port_of_timers → list_any is_last (by_port port journal) ≡ true
-  pub bridge : on_bridge ≡ flat_map bridge_part (served_puts objects journal)
-  pub timers : on_timers ≡ flat_map timers_part (served_puts objects journal)
+  pub bridge : on_bridge ≡ flat_map bridge_part (served_puts objects watches journal)
+  pub timers : on_timers ≡ flat_map timers_part (served_puts objects watches journal)
 
 -- all was taken that the notes name which it learnt
 abbrev pub IsCaughtUp : InletValue QueueNote → Type 0
@@ -132,7 +148,7 @@ IsCaughtUp inlet = All (λ note. IsPrefix note.1 (by_port note.0 inlet.taker.tak
 
 -- A step: what was left was put, and nothing else changed; or, where nothing was left, an event was taken.
 pub data MadeStep (old new : QueuePostValue) : Type 0 where
-  finished : (first : QueuePut) (rest : List QueuePut) → old.left ≡ first ∷ rest → new.served ≡ old.served → new.inlet ≡ old.inlet → new.back ≡ old.back → MadeStep old new
+  finished : (first : QueuePut) (rest : List QueuePut) → old.left ≡ first ∷ rest → new.served ≡ old.served → new.watches ≡ old.watches → new.inlet ≡ old.inlet → new.back ≡ old.back → MadeStep old new
   took : (e : ℕ × QueueNote) → old.left ≡ [] → new.served.journal ≡ old.served.journal ++ e ∷ [] → new.inlet.kept ≡ [] → MadeStep old new
 
 -- the seat, where an event that was fetched, with its port, counts as kept

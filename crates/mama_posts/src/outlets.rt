@@ -1,7 +1,8 @@
-ghost use Rattle.std.specs.Prelude.{◌≡◌, [], ◌∷◌, map, IsOk, OnOk, OnErr, IfOk, IfErr};
+ghost use Rattle.std.specs.Prelude.{◌≡◌, [], ◌∷◌, ◌++◌, map, None, IsOk, OnOk, OnErr, IfOk, IfErr};
 ghost use Rattle.mama_dispatch.specs.Turns.{put_note};
 ghost use Rattle.mama_lane.specs.Values.{note_of_port};
 ghost use Rattle.mama_seats.specs.Waiting.{waits};
+ghost use Rattle.mama_timeout.specs.Table.{event_puts};
 ghost use Rattle.mama_posts.specs.Outlets.{after_puts, MayPut};
 
 use mama_carry::{Carried, Listener, ToBridge, ToTimers};
@@ -130,4 +131,54 @@ pub(crate) fn flush_out<L: Listener, Rt: Wait + Copy>(
         }
     }
     Ok(())
+}
+
+/// Puts the wish of a watch, if there is one, on the bridge's lane. Where memory runs out the answer is the error, and the wish is
+/// still there.
+pub(crate) fn put_wish<L: Listener, Rt: Wait + Copy>(
+    rt: Rt,
+    bridge: &Lane<ToBridge<Carried<L>>>,
+    timers: &Lane<ToTimers<Carried<L>>>,
+    ports: &mut Outlets<L>,
+    wish: &mut Option<ToBridge<Carried<L>>>,
+) -> Result<(), OutOfMemory>
+    requires bridge { ports.old.to_bridge.lane ≡ bridge.now.id }
+    requires timers { ports.old.to_timers.lane ≡ timers.now.id }
+    requires lawful { MayPut ports.old (event_puts (λ c. L.tagged c.listener) wish.old) }
+    ensures puts { after_puts ports.new (event_puts (λ c. L.tagged c.listener) wish.new) ≡ after_puts ports.old (event_puts (λ c. L.tagged c.listener) wish.old) }
+    ensures clear { OnOk result (wish.new ≡ None) }
+    ensures stuck { OnErr result (event_puts (λ c. L.tagged c.listener) wish.new ≡ [] → ⊥) }
+{
+    let Some(event) = wish.take() else {
+        return Ok(());
+    };
+    match ports.put(rt, bridge, timers, ToService::Bridge(event)) {
+        Ok(()) => Ok(()),
+        Err(ToService::Bridge(event)) => {
+            *wish = Some(event);
+            Err(OutOfMemory)
+        }
+        Err(ToService::Timers(_)) => Err(OutOfMemory),
+    }
+}
+
+/// Puts what is left, in order, and then the wish. Where memory runs out the answer is the error, and what was not put is still
+/// left.
+pub(crate) fn put_all<L: Listener, Rt: Wait + Copy>(
+    rt: Rt,
+    bridge: &Lane<ToBridge<Carried<L>>>,
+    timers: &Lane<ToTimers<Carried<L>>>,
+    ports: &mut Outlets<L>,
+    left: &mut Waiting<ToService<Carried<L>>>,
+    wish: &mut Option<ToBridge<Carried<L>>>,
+) -> Result<(), OutOfMemory>
+    requires bridge { ports.old.to_bridge.lane ≡ bridge.now.id }
+    requires timers { ports.old.to_timers.lane ≡ timers.now.id }
+    requires lawful { MayPut ports.old (map (put_note (λ c. L.tagged c.listener)) (waits left.old) ++ event_puts (λ c. L.tagged c.listener) wish.old) }
+    ensures puts { after_puts ports.new (map (put_note (λ c. L.tagged c.listener)) (waits left.new) ++ event_puts (λ c. L.tagged c.listener) wish.new) ≡ after_puts ports.old (map (put_note (λ c. L.tagged c.listener)) (waits left.old) ++ event_puts (λ c. L.tagged c.listener) wish.old) }
+    ensures clear { OnOk result (map (put_note (λ c. L.tagged c.listener)) (waits left.new) ++ event_puts (λ c. L.tagged c.listener) wish.new ≡ []) }
+    ensures stuck { OnErr result (map (put_note (λ c. L.tagged c.listener)) (waits left.new) ++ event_puts (λ c. L.tagged c.listener) wish.new ≡ [] → ⊥) }
+{
+    flush_out(rt, bridge, timers, ports, left)?;
+    put_wish(rt, bridge, timers, ports, wish)
 }

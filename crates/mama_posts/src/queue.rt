@@ -1,4 +1,4 @@
-ghost use Rattle.std.specs.Prelude.{◌≡◌, ◌↔◌, ℕ, ◌<◌, List, [], ◌∷◌, ◌++◌, map, true, Ok, IsOk, IfOk, IfErr, IfSome, OnOk, OnErr, vec_len, vec_capacity};
+ghost use Rattle.std.specs.Prelude.{◌≡◌, ◌↔◌, ℕ, ◌<◌, ◌≤◌, ◌+◌, List, [], ◌∷◌, ◌++◌, length, map, true, Ok, IsOk, IfOk, IfErr, IfSome, OnOk, OnErr, vec_len, vec_capacity};
 ghost use mathlib.Core.List.{IsPrefix};
 ghost use Rattle.mama_event.specs.Listener.{told};
 ghost use Rattle.mama_event.specs.ToQueue.{note_of};
@@ -7,54 +7,62 @@ ghost use Rattle.mama_plans.specs.Orders.{orders_in};
 ghost use Rattle.mama_carry.specs.Brought.{brought_to_queue};
 ghost use Rattle.mama_carry.specs.Fresh.{IsFresh};
 ghost use Rattle.mama_dispatch.specs.Hearing.{ArePlanned};
-ghost use Rattle.mama_dispatch.specs.Journals.{context_after, image_in, images_left};
+ghost use Rattle.mama_rules_queue.specs.Queue.{deeds};
+ghost use Rattle.mama_dispatch.specs.Journals.{context_after, image_in, images_left, notes_of};
 ghost use Rattle.mama_dispatch.specs.Notes.{lists_of, calls_made};
 ghost use Rattle.mama_lane.specs.Values.{note_of_port, after_learn};
 ghost use Rattle.mama_posts.specs.Outlets.{with_put};
-ghost use Rattle.mama_posts.specs.Queue.{plan_of, handed_back, told_back, IsQueueOf, HasEnded, HasServedAll, MadeStep, IsCaughtUp, holding};
+ghost use Rattle.mama_dispatch.specs.Turns.{put_note};
+ghost use Rattle.mama_timeout.specs.Table.{AreApart, event_puts, new_watch, part_of};
+ghost use Rattle.mama_posts.specs.Queue.{plan_of, handed_back, told_back, rows_of_watches, notes_given, IsQueueOf, HasEnded, HasServedAll, MadeStep, IsCaughtUp, holding};
 
-use crate::outlets::{Outlets, flush_out};
+use crate::outlets::{Outlets, put_all};
 use crate::pace::Pace;
 use mama_carry::{Carried, Listener, ObjectId, PlanRow, ToBridge, ToQueue, ToTimers, undress};
 use mama_dispatch::{
     ImageHead, Serving, ServingNotes, Turn, callbacks_are_streams, lawful_may_come,
 };
 use mama_ends::{Inlet, Lane, Port, PutNote, Taker, Waiting};
-use mama_event::{QueueNote, SubId, ToService};
+use mama_event::{CallNote, QueueNote, SubId, ToService, WatchNote, WatchRow};
 use mama_laws_allowed::queue_puts_are_lawful;
 use mama_memory::{OutOfMemory, Outbox};
 use mama_msg::Msg;
 use mama_plans::Plans;
+use mama_timeout::{WatchTable, tick_of, turns_are_watched};
 use std::alloc::Global;
 use std::marker::Model;
 use std::sync::Wait;
 
-/// The seat of a queue with its dispatcher: what is served, the ends of its lanes, what it has left to put, and the
-/// listeners that came back.
+/// The seat of a queue with its dispatcher: what is served, the ends of its lanes, its watches, what it has left to put, and
+/// the listeners that came back.
 #[derive(Drop)]
 pub struct QueuePost<L: Listener> {
     alloc: Global,
     serving: Serving<L>,
+    watches: WatchTable,
     inlet: Inlet<ToQueue<Carried<L>>>,
     ports: Outlets<L>,
     left: Waiting<ToService<Carried<L>>>,
-    // Whether nothing is left.
+    // The wish of a watch, which is put behind what is left.
+    wish: Option<ToBridge<Carried<L>>>,
+    // Whether nothing is left, and no wish.
     clear: bool,
     back: Vec<(ObjectId, L)>,
 }
 
 impl<L: Listener> Model for QueuePost<L> {
-    ghost use Rattle.std.specs.Prelude.{◌≡◌, ◌↔◌, true, [], map};
+    ghost use Rattle.std.specs.Prelude.{◌≡◌, ◌↔◌, ◌++◌, true, [], map};
     ghost use Rattle.mama_event.specs.Listener.{told};
     ghost use Rattle.mama_dispatch.specs.Turns.{put_note};
     ghost use Rattle.mama_seats.specs.Waiting.{waits};
+    ghost use Rattle.mama_timeout.specs.Table.{event_puts};
     ghost use Rattle.mama_posts.specs.Queue.{QueuePostValue, told_back};
 
     ghost Value = { QueuePostValue };
 
-    ghost view = { λ p. record { served = p.serving; inlet = p.inlet; ports = p.ports; left = map (put_note (λ c. L.tagged c.listener)) (waits p.left); back = told_back (told L.tagged L.calls L.heard L.given L.plan) p.back.items } };
+    ghost view = { λ p. record { served = p.serving; watches = p.watches.watches; inlet = p.inlet; ports = p.ports; left = map (put_note (λ c. L.tagged c.listener)) (waits p.left) ++ event_puts (λ c. L.tagged c.listener) p.wish; back = told_back (told L.tagged L.calls L.heard L.given L.plan) p.back.items } };
 
-    ghost invariant = { λ p. (p.clear ≡ true) ↔ (waits p.left ≡ []) };
+    ghost invariant = { λ p. (p.clear ≡ true) ↔ (map (put_note (λ c. L.tagged c.listener)) (waits p.left) ++ event_puts (λ c. L.tagged c.listener) p.wish ≡ []) };
 }
 
 /// What a queue's seat gives up at its end.
@@ -65,6 +73,8 @@ pub struct QueueParts<L: Listener> {
     pub to_timers: Port<ToTimers<Carried<L>>>,
     /// What the queue took, and what came of it.
     pub notes: ServingNotes,
+    /// What each watch noted, with its number.
+    pub watches: Vec<(u32, Vec<WatchNote>)>,
     /// The listeners that came back, each with its object, in the order of the Gones.
     pub listeners: Vec<(ObjectId, L)>,
 }
@@ -139,37 +149,56 @@ fn add_back<L: Listener>(back: &mut Vec<(ObjectId, L)>, turn: Turn<L>)
     }
 }
 
+// Whether there is nothing to put.
+fn is_nothing<L: Listener>(
+    out: &Outbox<ToService<Carried<L>>>,
+    wish: &Option<ToBridge<Carried<L>>>,
+) -> bool
+    ensures { (result ≡ true) ↔ (map (put_note (λ c. L.tagged c.listener)) out.now.items ++ event_puts (λ c. L.tagged c.listener) wish.now ≡ []) }
+{
+    match wish {
+        Some(_) => false,
+        None => out.is_empty(),
+    }
+}
+
 impl<L: Listener> QueuePost<L> {
-    /// The seat of the queue of this number, which has done nothing yet. Its lane has two ports: the bridge's, and then the
-    /// timer service's. The number says whose seat it is. It takes no memory.
+    /// The seat of the queue of this number, with watches, each with its number, which has done nothing yet. Its lane has two
+    /// ports: the bridge's, and then the timer service's. The number says whose seat it is. The error is want of memory.
     pub fn new(
         alloc: Global,
         number: u32,
+        watches: Vec<(u32, WatchRow)>,
         taker: Taker<ToQueue<Carried<L>>>,
         to_bridge: Port<ToBridge<Carried<L>>>,
         to_timers: Port<ToTimers<Carried<L>>>,
-    ) -> QueuePost<L>
+    ) -> Result<QueuePost<L>, OutOfMemory>
+        requires watches { AreApart watches.items }
         requires taker { (taker.taken ≡ []) × (taker.ports ≡ 2) }
         requires put { (to_bridge.put ≡ []) × (to_timers.put ≡ []) }
-        ensures seat { (objects : List Planned) → IsQueueOf objects number result }
-        ensures start { (result.served ≡ record { queue = number; journal = []; seats = [] }) × (result.left ≡ []) × (result.back ≡ []) }
-        ensures ends { (result.inlet ≡ record { taker = taker; kept = [] }) × (result.ports ≡ record { to_bridge = to_bridge; to_timers = to_timers }) }
+        ensures seat { IfOk result (λ post. (objects : List Planned) → IsQueueOf objects number post) }
+        ensures start { IfOk result (λ post. (post.served ≡ record { queue = number; journal = []; seats = [] }) × (post.left ≡ []) × (post.back ≡ [])) }
+        ensures watched { IfOk result (λ post. post.watches ≡ map new_watch watches.items) }
+        ensures ends { IfOk result (λ post. (post.inlet ≡ record { taker = taker; kept = [] }) × (post.ports ≡ record { to_bridge = to_bridge; to_timers = to_timers })) }
     {
+        let watches = WatchTable::new(alloc, watches)?;
         let serving = Serving::new(alloc, number);
         let inlet = Inlet::new(taker);
         let ports = Outlets::new(to_bridge, to_timers);
         let out = Outbox::new(alloc);
         let left = Waiting::all(out);
         let back = Vec::new(alloc);
-        QueuePost {
+        Ok(QueuePost {
             alloc,
             serving,
+            watches,
             inlet,
             ports,
             left,
+            wish: None,
             clear: true,
             back,
-        }
+        })
     }
 
     /// Whether it has ended.
@@ -204,10 +233,18 @@ impl<L: Listener> QueuePost<L> {
         ensures seat { IsQueueOf _plans.now _number self.new }
         ensures place { self.new.ports ≡ with_put self.old.ports self.new.ports.to_bridge.put self.new.ports.to_timers.put }
         ensures same { (self.new.served ≡ self.old.served) × (self.new.inlet ≡ self.old.inlet) × (self.new.back ≡ self.old.back) }
+        ensures watches { self.new.watches ≡ self.old.watches }
         ensures clear { OnOk result (self.new.left ≡ []) }
     {
         queue_puts_are_lawful();
-        let put = flush_out(rt, bridge, timers, &mut self.ports, &mut self.left);
+        let put = put_all(
+            rt,
+            bridge,
+            timers,
+            &mut self.ports,
+            &mut self.left,
+            &mut self.wish,
+        );
         self.clear = put.is_ok();
         put
     }
@@ -234,6 +271,8 @@ impl<L: Listener> QueuePost<L> {
         ensures place { self.new.ports ≡ with_put self.old.ports self.new.ports.to_bridge.put self.new.ports.to_timers.put }
         ensures taker { self.new.inlet.taker ≡ record self.old.inlet.taker { taken = self.new.inlet.taker.taken } }
         ensures grows { IsPrefix self.old.served.journal self.new.served.journal }
+        ensures few { length self.new.served.journal ≤ length self.old.served.journal + 1 }
+        ensures rows { rows_of_watches self.new.watches ≡ rows_of_watches self.old.watches }
         ensures waiting { result ≡ Ok Pace.Waiting → (self.new ≡ self.old) × (self.old.left ≡ []) × (self.old.inlet.kept ≡ []) × IsCaughtUp self.old.inlet }
         ensures ended { (result ≡ Ok Pace.Ended) ↔ HasEnded self.old }
         ensures over { result ≡ Ok Pace.Ended → self.new ≡ self.old }
@@ -264,6 +303,8 @@ impl<L: Listener> QueuePost<L> {
         ensures ports { self.new.ports ≡ self.old.ports }
         ensures taker { self.new.inlet.taker ≡ record self.old.inlet.taker { taken = self.new.inlet.taker.taken } }
         ensures grows { IsPrefix self.old.served.journal self.new.served.journal }
+        ensures few { length self.new.served.journal ≤ length self.old.served.journal + 1 }
+        ensures rows { rows_of_watches self.new.watches ≡ rows_of_watches self.old.watches }
         ensures waiting { result ≡ Ok Pace.Waiting → (self.new ≡ self.old) × (self.old.left ≡ []) × (self.old.inlet.kept ≡ []) × IsCaughtUp self.old.inlet }
         ensures ended { (result ≡ Ok Pace.Ended) ↔ HasEnded self.old }
         ensures over { result ≡ Ok Pace.Ended → self.new ≡ self.old }
@@ -295,6 +336,7 @@ impl<L: Listener> QueuePost<L> {
         ensures seat { IsQueueOf plans.now number self.new }
         ensures ports { self.new.ports ≡ self.old.ports }
         ensures taker { self.new.inlet.taker ≡ self.old.inlet.taker }
+        ensures rows { rows_of_watches self.new.watches ≡ rows_of_watches self.old.watches }
         ensures moved { IfOk result (λ pace. pace ≡ Pace.Moved) }
         ensures took { OnOk result (self.new.served.journal ≡ self.old.served.journal ++ (port, note_of (λ c. L.tagged c.listener) event) ∷ []) }
         ensures served { OnOk result (self.new.inlet.kept ≡ []) }
@@ -324,6 +366,7 @@ impl<L: Listener> QueuePost<L> {
         ensures seat { OnOk result (IsQueueOf plans.now number self.new) }
         ensures ports { self.new.ports ≡ self.old.ports }
         ensures inlet { self.new.inlet ≡ self.old.inlet }
+        ensures rows { rows_of_watches self.new.watches ≡ rows_of_watches self.old.watches }
         ensures took { OnOk result (self.new.served.journal ≡ self.old.served.journal ++ (port, note_of (λ c. L.tagged c.listener) event) ∷ []) }
         ensures err { OnErr result (self.new ≡ self.old) }
         ensures back { IfErr result (λ given. note_of (λ c. L.tagged c.listener) given ≡ note_of (λ c. L.tagged c.listener) event) }
@@ -353,6 +396,7 @@ impl<L: Listener> QueuePost<L> {
         ensures seat { OnOk result (IsQueueOf plans.now _number self.new) }
         ensures ports { self.new.ports ≡ self.old.ports }
         ensures inlet { self.new.inlet ≡ self.old.inlet }
+        ensures rows { rows_of_watches self.new.watches ≡ rows_of_watches self.old.watches }
         ensures took { OnOk result (self.new.served.journal ≡ self.old.served.journal ++ (port, note_of L.tagged event) ∷ []) }
         ensures err { OnErr result (self.new ≡ self.old) }
         ensures back { IfErr result (λ given. given ≡ event) }
@@ -360,13 +404,20 @@ impl<L: Listener> QueuePost<L> {
         if !make_room(&mut self.back) {
             return Err(event);
         }
+        let Ok(()) = self.watches.prepare() else {
+            return Err(event);
+        };
         lawful_may_come();
+        let tick = tick_of(&event);
         let mut out = self.left.lend(self.alloc);
         let turn = self.serving.turn(port, event, &mut out)?;
         self.serving.planned_orders_fit();
         callbacks_are_streams();
-        self.clear = out.is_empty();
+        turns_are_watched::<L>();
+        let wish = self.watches.behind(tick, &turn, &self.serving);
+        self.clear = is_nothing(&out, &wish);
         self.left = Waiting::all(out);
+        self.wish = wish;
         add_back(&mut self.back, turn);
         Ok(())
     }
@@ -420,6 +471,14 @@ impl<L: Listener> QueuePost<L> {
         self.serving.taken()
     }
 
+    /// The callbacks made so far of an object; none of an object that never came.
+    pub fn notes(&self, object: ObjectId) -> &[CallNote]
+        ensures { (objects : List Planned) → ArePlanned (orders_in objects) self.now.served.seats → result.now ≡ notes_of object (deeds (orders_in objects) self.now.served.journal) }
+    {
+        self.serving.planned_orders_fit();
+        self.serving.notes(object)
+    }
+
     /// A copy of the image of a subscription, if it has one.
     pub fn image_of(&self, sub: SubId) -> Result<Option<(ImageHead, Msg)>, OutOfMemory>
         ensures { IfOk result (λ found. (objects : List Planned) → ArePlanned (orders_in objects) self.now.served.seats → found ≡ image_in (context_after (orders_in objects) self.now.served.journal sub)) }
@@ -437,16 +496,19 @@ impl<L: Listener> QueuePost<L> {
         ensures journal { result.notes.taken.items ≡ self.served.journal }
         ensures calls { (objects : List Planned) → ArePlanned (orders_in objects) self.served.seats → lists_of result.notes.calls.items ≡ calls_made (orders_in objects) self.served.journal }
         ensures images { (objects : List Planned) → ArePlanned (orders_in objects) self.served.seats → result.notes.images.items ≡ images_left (orders_in objects) self.served.journal }
+        ensures watches { map notes_given result.watches.items ≡ map part_of self.watches }
         ensures listeners { told_back (told L.tagged L.calls L.heard L.given L.plan) result.listeners.items ≡ self.back }
-        ensures done { (objects : List Planned) (number : ℕ) → IsQueueOf objects number self → HasEnded self → HasServedAll objects result.notes.taken.items result.taker result.to_bridge.put result.to_timers.put }
+        ensures done { (objects : List Planned) (number : ℕ) → IsQueueOf objects number self → HasEnded self → HasServedAll objects (rows_of_watches self.watches) result.notes.taken.items result.taker result.to_bridge.put result.to_timers.put }
     {
         self.serving.planned_orders_fit();
         let QueuePost {
             alloc: _,
             serving,
+            watches,
             inlet,
             ports,
             left: _,
+            wish: _,
             clear: _,
             back,
         } = self;
@@ -456,6 +518,7 @@ impl<L: Listener> QueuePost<L> {
             to_bridge,
             to_timers,
             notes: serving.into_notes(),
+            watches: watches.into_notes(),
             listeners: back,
         }
     }

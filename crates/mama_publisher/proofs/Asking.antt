@@ -1,10 +1,10 @@
 -- The fields of a record that are asked for, one by one.
-use Rattle.std.specs.Prelude.{Option, Some, None, filter_map, find, map, if◌then◌else◌}
+use Rattle.std.specs.Prelude.{Option, Some, None, filter_map, map, if◌then◌else◌}
 use Rattle.std.specs.List.{list_any, cons_option}
-use Rattle.std.proofs.Common.{◌≡◌, ℕ, zero, suc, ◌+◌, ◌<◌, Bool, true, false, cond, ◌||◌, ◌&&◌, ◌==◌, nat_le, List, [], ◌∷◌, ◌++◌, length, take, get_or, refl, ap, sym, ◌∙◌, append-nil, arith}
+use Rattle.std.proofs.Common.{◌≡◌, ℕ, ◌+◌, ◌<◌, Bool, true, false, cond, ◌||◌, ◌&&◌, ◌==◌, nat_le, List, [], ◌∷◌, ◌++◌, length, take, get_or, refl, ap, sym, ◌∙◌, append-nil, arith}
 use Rattle.std.proofs.lemmas.List.{take_more}
 use Rattle.std.proofs.lemmas.List.Elements.{filter_map-append}
-use Rattle.std.proofs.lemmas.Bool.{eqb-true, ne_eqb, and_parts, ltb-true}
+use Rattle.std.proofs.lemmas.Bool.{eqb-true, ne_eqb, and_parts}
 use Rattle.mama_msg.specs.declared.field.Key.{Key}
 use Rattle.mama_msg.specs.declared.field.Key.TheVariants.{Numbered, Named}
 use Rattle.mama_msg.specs.Field.{FieldData, key_of, same_key}

@@ -1,6 +1,6 @@
 -- What one entry more changes of the sends of a journal, and of the record that it says.
-use Rattle.std.specs.Prelude.{map, slice_get, slice_index_or, Option, Some, None}
-use Rattle.std.proofs.Common.{◌≡◌, ℕ, zero, suc, ◌+◌, Bool, true, false, List, [], ◌∷◌, ◌++◌, length, take, refl, ap, sym, ◌∙◌, append-nil, add-one, arith}
+use Rattle.std.specs.Prelude.{map, slice_get, slice_index_or, Option, Some}
+use Rattle.std.proofs.Common.{◌≡◌, ℕ, zero, suc, ◌+◌, false, List, [], ◌∷◌, ◌++◌, length, take, refl, ap, sym, ◌∙◌, append-nil, add-one}
 use Rattle.std.proofs.lemmas.List.{map-append}
 use Rattle.mama_journal.specs.Journal.{count_of}
 use Rattle.mama_msg.specs.Field.{FieldData}

@@ -1,5 +1,5 @@
 -- believed: a publisher that sends the lines of its part of a script, in order, puts what its journal puts.
-use Rattle.std.specs.Prelude.{◌≡◌, ℕ, ◌+◌, List, [], ◌∷◌, ◌++◌, Some, slice_get}
+use Rattle.std.specs.Prelude.{◌≡◌, ◌+◌, List, [], ◌∷◌, ◌++◌, Some, slice_get}
 use Rattle.mama_journal.specs.Journal.{count_of}
 use Rattle.mama_msg.specs.Field.{FieldData}
 use Rattle.mama_event.specs.Publisher.{SendLine, PublisherScript, is_send, record_at, updates_sent, message_of, answer_of, publisher_puts_at}

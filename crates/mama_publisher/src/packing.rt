@@ -28,9 +28,9 @@ pub fn packed_message(alloc: Global, msg: &MarketMsg) -> Result<WireMsg, OutOfMe
     }
 }
 
-/// A message as it travels, where its body is packed already.
+/// A message as it travels, with the body that the packet spells in the place of its own.
 pub fn with_body(msg: &MarketMsg, body: Packet) -> WireMsg
-    ensures { message_of body ≡ msg.now.body → market_of result ≡ msg.now }
+    ensures { market_of result ≡ record msg.now { body = message_of body } }
 {
     WireMsg {
         kind: msg.kind,

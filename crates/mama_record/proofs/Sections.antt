@@ -11,8 +11,8 @@ use Rattle.mama_event.specs.declared.publisher_entry.PublisherEntry.{PublisherEn
 use Rattle.mama_event.specs.declared.to_bridge.BridgeNote.{BridgeNote}
 use Rattle.mama_event.specs.declared.to_timers.TimersNote.{TimersNote}
 use Rattle.mama_words.specs.declared.version.Version.{Version}
-use Rattle.mama_record.specs.RunData.{RunData, ObjectCalls, LastImage}
-use Rattle.mama_record.specs.LogText.{LogSection, line, lines_text, given_text, callback_text, call_texts, client_section, publisher_section, bridge_section, timers_section, queue_section, object_section, images_section, numbered, log_sections, counted, title, log_text}
+use Rattle.mama_record.specs.RunData.{RunData, ObjectCalls, LastImage, GroupNotes, WatchNotes}
+use Rattle.mama_record.specs.LogText.{LogSection, line, lines_text, given_text, callback_text, call_texts, client_section, publisher_section, bridge_section, timers_section, queue_section, object_section, group_section, watch_section, images_section, numbered, log_sections, counted, title, log_text}
 use Rattle.mama_record.specs.SectionText.{section_text, head_text, call_lines}
 
 pub lines_text-append : (ls ms : List (List ℕ)) → lines_text (ls ++ ms) ≡ lines_text ls ++ lines_text ms
@@ -96,17 +96,28 @@ log_sections_text : (v : Version) (shape : Shape) (run : RunData)
     ++ (section_text v (bridge_section shape run.bridge)
     ++ (section_text v (timers_section shape run.timers)
     ++ (text_of v (numbered queue_section 0 run.queues)
-    ++ (text_of v (map object_section run.calls) ++ section_text v (images_section run.images))))))
+    ++ (text_of v (map object_section run.calls)
+    ++ (text_of v (map group_section run.groups)
+    ++ (text_of v (map watch_section run.watches) ++ section_text v (images_section run.images))))))))
 log_sections_text v shape run =
     let images = images_section run.images ∷ [] in
-    let objects = map object_section run.calls ++ images in
+    let watches = map watch_section run.watches ++ images in
+    let groups = map group_section run.groups ++ watches in
+    let objects = map object_section run.calls ++ groups in
     let queues = numbered queue_section 0 run.queues ++ objects in
     let bridge = bridge_section shape run.bridge ∷ timers_section shape run.timers ∷ queues in
     let publishers = numbered publisher_section 0 run.publishers ++ bridge in
+    let W = text_of v (map watch_section run.watches) ++ section_text v (images_section run.images) in
+    let G = text_of v (map group_section run.groups) ++ W in
+    let O = text_of v (map object_section run.calls) ++ G in
     let last : text_of v images ≡ section_text v (images_section run.images) = append-nil (section_text v (images_section run.images)) in
-    let objects_are : text_of v objects ≡ text_of v (map object_section run.calls) ++ section_text v (images_section run.images) =
-    text_of-append v (map object_section run.calls) images ∙ ap (λ (t : List ℕ). text_of v (map object_section run.calls) ++ t) last in
-    let queues_are : text_of v queues ≡ text_of v (numbered queue_section 0 run.queues) ++ (text_of v (map object_section run.calls) ++ section_text v (images_section run.images)) =
+    let watches_are : text_of v watches ≡ W =
+    text_of-append v (map watch_section run.watches) images ∙ ap (λ (t : List ℕ). text_of v (map watch_section run.watches) ++ t) last in
+    let groups_are : text_of v groups ≡ G =
+    text_of-append v (map group_section run.groups) watches ∙ ap (λ (t : List ℕ). text_of v (map group_section run.groups) ++ t) watches_are in
+    let objects_are : text_of v objects ≡ O =
+    text_of-append v (map object_section run.calls) groups ∙ ap (λ (t : List ℕ). text_of v (map object_section run.calls) ++ t) groups_are in
+    let queues_are : text_of v queues ≡ text_of v (numbered queue_section 0 run.queues) ++ O =
     text_of-append v (numbered queue_section 0 run.queues) objects ∙ ap (λ (t : List ℕ). text_of v (numbered queue_section 0 run.queues) ++ t) objects_are in
     text_of-append v (numbered client_section 0 run.clients) publishers
     ∙ ap (λ (t : List ℕ). text_of v (numbered client_section 0 run.clients) ++ t) (
@@ -121,19 +132,21 @@ log_is v shape run =
     ∙ ap (λ (t : List ℕ). lines_text (title v shape.strategy) ++ t)
     (lines_text-append sections (codes "end" ∷ []) ∙ ap (λ (t : List ℕ). t ++ lines_text (codes "end" ∷ [])) (sections_text v (log_sections shape run)) ∙ ap (λ (t : List ℕ). text_of v (log_sections shape run) ++ t) at_end)
 
-regroup : (a b c d e f g h i : List ℕ) → (((((((([] ++ a) ++ b) ++ c) ++ d) ++ e) ++ f) ++ g) ++ h) ++ i ≡ a ++ ((b ++ (c ++ (d ++ (e ++ (f ++ (g ++ h)))))) ++ i)
-regroup a b c d e f g h i = simp append_assoc
+regroup : (a b c d e f g h i j k : List ℕ) → (((((((((([] ++ a) ++ b) ++ c) ++ d) ++ e) ++ f) ++ g) ++ h) ++ i) ++ j) ++ k ≡ a ++ ((b ++ (c ++ (d ++ (e ++ (f ++ (g ++ (h ++ (i ++ j)))))))) ++ k)
+regroup a b c d e f g h i j k = simp append_assoc
 
 -- all parts were printed, one after the other
 pub log_printed : (v : Version) (shape : Shape) (run : RunData)
-    → (clients : List (List ℕ)) (publishers : List (List PublisherEntry)) (bridge : List (ℕ × BridgeNote)) (timers : List (ℕ × TimersNote)) (queues : List (List (ℕ × QueueNote))) (calls : List ObjectCalls) (images : List LastImage)
-    → clients ≡ run.clients → publishers ≡ run.publishers → bridge ≡ run.bridge → timers ≡ run.timers → queues ≡ run.queues → calls ≡ run.calls → images ≡ run.images
-    → (a b c d e f g h out : List ℕ)
+    → (clients : List (List ℕ)) (publishers : List (List PublisherEntry)) (bridge : List (ℕ × BridgeNote)) (timers : List (ℕ × TimersNote)) (queues : List (List (ℕ × QueueNote))) (calls : List ObjectCalls)
+    → (groups : List GroupNotes) (watches : List WatchNotes) (images : List LastImage)
+    → clients ≡ run.clients → publishers ≡ run.publishers → bridge ≡ run.bridge → timers ≡ run.timers → queues ≡ run.queues → calls ≡ run.calls → groups ≡ run.groups → watches ≡ run.watches → images ≡ run.images
+    → (a b c d e f g h i j out : List ℕ)
     → a ≡ [] ++ lines_text (title v shape.strategy) → b ≡ a ++ flat_map (section_text v) (numbered client_section 0 clients) → c ≡ b ++ flat_map (section_text v) (numbered publisher_section 0 publishers)
     → d ≡ c ++ section_text v (bridge_section shape bridge) → e ≡ d ++ section_text v (timers_section shape timers) → f ≡ e ++ flat_map (section_text v) (numbered queue_section 0 queues)
-    → g ≡ f ++ flat_map (section_text v) (map object_section calls) → h ≡ g ++ section_text v (images_section images) → out ≡ h ++ line (codes "end")
+    → g ≡ f ++ flat_map (section_text v) (map object_section calls) → h ≡ g ++ flat_map (section_text v) (map group_section groups) → i ≡ h ++ flat_map (section_text v) (map watch_section watches)
+    → j ≡ i ++ section_text v (images_section images) → out ≡ j ++ line (codes "end")
     → out ≡ log_text v shape run
-log_printed v shape run clients publishers bridge timers queues calls images cs ps bs ts qs os is a b c d e f g h out ea eb ec ed ee ef eg eh eo =
+log_printed v shape run clients publishers bridge timers queues calls groups watches images cs ps bs ts qs os gs ws is a b c d e f g h i j out ea eb ec ed ee ef eg eh ei ej eo =
     let T = text_of v in
     let b' : b ≡ a ++ T (numbered client_section 0 run.clients) = eb ∙ ap (λ (x : List (List ℕ)). a ++ T (numbered client_section 0 x)) cs in
     let c' : c ≡ b ++ T (numbered publisher_section 0 run.publishers) = ec ∙ ap (λ (x : List (List PublisherEntry)). b ++ T (numbered publisher_section 0 x)) ps in
@@ -141,14 +154,17 @@ log_printed v shape run clients publishers bridge timers queues calls images cs 
     let e' : e ≡ d ++ section_text v (timers_section shape run.timers) = ee ∙ ap (λ (x : List (ℕ × TimersNote)). d ++ section_text v (timers_section shape x)) ts in
     let f' : f ≡ e ++ T (numbered queue_section 0 run.queues) = ef ∙ ap (λ (x : List (List (ℕ × QueueNote))). e ++ T (numbered queue_section 0 x)) qs in
     let g' : g ≡ f ++ T (map object_section run.calls) = eg ∙ ap (λ (x : List ObjectCalls). f ++ T (map object_section x)) os in
-    let h' : h ≡ g ++ section_text v (images_section run.images) = eh ∙ ap (λ (x : List LastImage). g ++ section_text v (images_section x)) is in
-    all v shape run a b c d e f g h out ea b' c' d' e' f' g' h' eo
+    let h' : h ≡ g ++ T (map group_section run.groups) = eh ∙ ap (λ (x : List GroupNotes). g ++ T (map group_section x)) gs in
+    let i' : i ≡ h ++ T (map watch_section run.watches) = ei ∙ ap (λ (x : List WatchNotes). h ++ T (map watch_section x)) ws in
+    let j' : j ≡ i ++ section_text v (images_section run.images) = ej ∙ ap (λ (x : List LastImage). i ++ section_text v (images_section x)) is in
+    all v shape run a b c d e f g h i j out ea b' c' d' e' f' g' h' i' j' eo
   where
-    all : (v : Version) (shape : Shape) (run : RunData) (a b c d e f g h out : List ℕ)
+    all : (v : Version) (shape : Shape) (run : RunData) (a b c d e f g h i j out : List ℕ)
         → a ≡ [] ++ lines_text (title v shape.strategy) → b ≡ a ++ text_of v (numbered client_section 0 run.clients) → c ≡ b ++ text_of v (numbered publisher_section 0 run.publishers)
         → d ≡ c ++ section_text v (bridge_section shape run.bridge) → e ≡ d ++ section_text v (timers_section shape run.timers) → f ≡ e ++ text_of v (numbered queue_section 0 run.queues)
-        → g ≡ f ++ text_of v (map object_section run.calls) → h ≡ g ++ section_text v (images_section run.images) → out ≡ h ++ line (codes "end") → out ≡ log_text v shape run
-    all v shape run a b c d e f g h out ea eb ec ed ee ef eg eh eo =
+        → g ≡ f ++ text_of v (map object_section run.calls) → h ≡ g ++ text_of v (map group_section run.groups) → i ≡ h ++ text_of v (map watch_section run.watches)
+        → j ≡ i ++ section_text v (images_section run.images) → out ≡ j ++ line (codes "end") → out ≡ log_text v shape run
+    all v shape run a b c d e f g h i j out ea eb ec ed ee ef eg eh ei ej eo =
         let A = lines_text (title v shape.strategy) in
         let B = text_of v (numbered client_section 0 run.clients) in
         let C = text_of v (numbered publisher_section 0 run.publishers) in
@@ -156,8 +172,10 @@ log_printed v shape run clients publishers bridge timers queues calls images cs 
         let E = section_text v (timers_section shape run.timers) in
         let F = text_of v (numbered queue_section 0 run.queues) in
         let G = text_of v (map object_section run.calls) in
-        let H = section_text v (images_section run.images) in
-        let I = line (codes "end") in
-        let parts : out ≡ (((((((([] ++ A) ++ B) ++ C) ++ D) ++ E) ++ F) ++ G) ++ H) ++ I =
-        eo ∙ ap (λ (t : List ℕ). t ++ I) (eh ∙ ap (λ (t : List ℕ). t ++ H) (eg ∙ ap (λ (t : List ℕ). t ++ G) (ef ∙ ap (λ (t : List ℕ). t ++ F) (ee ∙ ap (λ (t : List ℕ). t ++ E) (ed ∙ ap (λ (t : List ℕ). t ++ D) (ec ∙ ap (λ (t : List ℕ). t ++ C) (eb ∙ ap (λ (t : List ℕ). t ++ B) ea))))))) in
-        parts ∙ regroup A B C D E F G H I ∙ ap (λ (t : List ℕ). A ++ (t ++ I)) (sym (log_sections_text v shape run)) ∙ sym (log_is v shape run)
+        let H = text_of v (map group_section run.groups) in
+        let I = text_of v (map watch_section run.watches) in
+        let J = section_text v (images_section run.images) in
+        let K = line (codes "end") in
+        let parts : out ≡ (((((((((([] ++ A) ++ B) ++ C) ++ D) ++ E) ++ F) ++ G) ++ H) ++ I) ++ J) ++ K =
+        eo ∙ ap (λ (t : List ℕ). t ++ K) (ej ∙ ap (λ (t : List ℕ). t ++ J) (ei ∙ ap (λ (t : List ℕ). t ++ I) (eh ∙ ap (λ (t : List ℕ). t ++ H) (eg ∙ ap (λ (t : List ℕ). t ++ G) (ef ∙ ap (λ (t : List ℕ). t ++ F) (ee ∙ ap (λ (t : List ℕ). t ++ E) (ed ∙ ap (λ (t : List ℕ). t ++ D) (ec ∙ ap (λ (t : List ℕ). t ++ C) (eb ∙ ap (λ (t : List ℕ). t ++ B) ea))))))))) in
+        parts ∙ regroup A B C D E F G H I J K ∙ ap (λ (t : List ℕ). A ++ (t ++ K)) (sym (log_sections_text v shape run)) ∙ sym (log_is v shape run)

@@ -4,14 +4,14 @@ use Rattle.std.specs.Cmp.Lexicographic.{pointwise}
 use Rattle.std.specs.Str.{bytes_eq}
 use Rattle.mama_msg.specs.Equality.{same_message}
 use Rattle.mama_event.specs.Object.{same_sub, same_timer, same_object}
-use Rattle.mama_event.specs.Equality.{same_quality, same_call_note, same_publisher_entry, same_queue_note, same_bridge_note}
+use Rattle.mama_event.specs.Equality.{same_quality, same_call_note, same_publisher_entry, same_queue_note, same_bridge_note, same_group_note, same_watch_note}
 use Rattle.mama_event.specs.declared.market.ImageHead.{ImageHead}
 use Rattle.mama_event.specs.declared.publisher_entry.PublisherEntry.{PublisherEntry}
 use Rattle.mama_event.specs.declared.to_bridge.BridgeNote.{BridgeNote}
 use Rattle.mama_event.specs.declared.to_queue.QueueNote.{QueueNote}
 use Rattle.mama_event.specs.declared.to_timers.TimersNote.{TimersNote}
 use Rattle.mama_event.specs.declared.to_timers.TimersNote.TheVariants as timed
-use Rattle.mama_record.specs.RunData.{RunData, ObjectCalls, LastImage}
+use Rattle.mama_record.specs.RunData.{RunData, ObjectCalls, LastImage, GroupNotes, WatchNotes}
 
 -- two notes of the timer service are one
 abbrev pub same_timers_note : TimersNote → TimersNote → Bool
@@ -50,9 +50,18 @@ same_image a b = same_sub a.sub b.sub && same_head a.head b.head && same_message
 abbrev pub same_calls : ObjectCalls → ObjectCalls → Bool
 same_calls a b = same_object a.object b.object && pointwise same_call_note a.calls b.calls
 
+-- one group heard the same
+abbrev pub same_group : GroupNotes → GroupNotes → Bool
+same_group a b = a.group == b.group && pointwise same_group_note a.notes b.notes
+
+-- one watch noted the same
+abbrev pub same_watch : WatchNotes → WatchNotes → Bool
+same_watch a b = a.watch == b.watch && pointwise same_watch_note a.notes b.notes
+
 -- two records have the same parts
 abbrev pub same_run : RunData → RunData → Bool
 same_run a b =
     pointwise bytes_eq a.clients b.clients && pointwise same_publisher_journal a.publishers b.publishers
     && same_bridge_journal a.bridge b.bridge && same_timers_journal a.timers b.timers
     && pointwise same_queue_journal a.queues b.queues && pointwise same_calls a.calls b.calls && pointwise same_image a.images b.images
+    && pointwise same_group a.groups b.groups && pointwise same_watch a.watches b.watches

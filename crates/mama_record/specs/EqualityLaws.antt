@@ -9,15 +9,15 @@ use Rattle.std.proofs.lemmas.Bool.Decides.{Decides-eqb}
 use Rattle.std.proofs.lemmas.Slice.Eq.{bytes_eq-Decides}
 use Rattle.mama_msg.specs.EqualityLaws.{same_message-Decides}
 use Rattle.mama_event.specs.Equality.{same_queue_note, same_bridge_note}
-use Rattle.mama_event.specs.EqualityLaws.{same_sub-Decides, same_timer-Decides, same_object-Decides, same_quality-Decides, same_call_note-Decides, same_publisher_entry-Decides, same_queue_note-Decides, same_bridge_note-Decides}
+use Rattle.mama_event.specs.EqualityLaws.{same_sub-Decides, same_timer-Decides, same_object-Decides, same_quality-Decides, same_call_note-Decides, same_publisher_entry-Decides, same_queue_note-Decides, same_bridge_note-Decides, same_group_note-Decides, same_watch_note-Decides}
 use Rattle.mama_event.specs.declared.market.ImageHead.{ImageHead}
 use Rattle.mama_event.specs.declared.publisher_entry.PublisherEntry.{PublisherEntry}
 use Rattle.mama_event.specs.declared.to_bridge.BridgeNote.{BridgeNote}
 use Rattle.mama_event.specs.declared.to_queue.QueueNote.{QueueNote}
 use Rattle.mama_event.specs.declared.to_timers.TimersNote.{TimersNote}
 use Rattle.mama_event.specs.declared.to_timers.TimersNote.TheVariants as timed
-use Rattle.mama_record.specs.RunData.{RunData, ObjectCalls, LastImage}
-use Rattle.mama_record.specs.Equality.{same_timers_note, same_entry, same_bridge_journal, same_timers_journal, same_queue_journal, same_publisher_journal, same_head, same_image, same_calls, same_run}
+use Rattle.mama_record.specs.RunData.{RunData, ObjectCalls, LastImage, GroupNotes, WatchNotes}
+use Rattle.mama_record.specs.Equality.{same_timers_note, same_entry, same_bridge_journal, same_timers_journal, same_queue_journal, same_publisher_journal, same_head, same_image, same_calls, same_run, same_group, same_watch}
 
 -- two tests decide two facts
 and-Decides : {a b : Bool} {P Q : Type 0} → Decides a P → Decides b Q → Decides (a && b) (P × Q)
@@ -75,10 +75,22 @@ same_calls-Decides a b =
     (λ p. λ i. record { object = p.0 i; calls = p.1 i })
     (λ e. (ap (λ (x : ObjectCalls). x.object) e, ap (λ (x : ObjectCalls). x.calls) e))
 
+pub same_group-Decides : (a b : GroupNotes) → Decides (same_group a b) (a ≡ b)
+same_group-Decides a b =
+    via (and-Decides (Decides-eqb a.group b.group) (pointwise_decides same_group_note-Decides a.notes b.notes))
+    (λ p. λ i. record { group = p.0 i; notes = p.1 i })
+    (λ e. (ap (λ (x : GroupNotes). x.group) e, ap (λ (x : GroupNotes). x.notes) e))
+
+pub same_watch-Decides : (a b : WatchNotes) → Decides (same_watch a b) (a ≡ b)
+same_watch-Decides a b =
+    via (and-Decides (Decides-eqb a.watch b.watch) (pointwise_decides same_watch_note-Decides a.notes b.notes))
+    (λ p. λ i. record { watch = p.0 i; notes = p.1 i })
+    (λ e. (ap (λ (x : WatchNotes). x.watch) e, ap (λ (x : WatchNotes). x.notes) e))
+
 pub same_run-Decides : (a b : RunData) → Decides (same_run a b) (a ≡ b)
 same_run-Decides a b =
     via
-    (and-Decides (and-Decides (and-Decides (and-Decides (and-Decides (and-Decides
+    (and-Decides (and-Decides (and-Decides (and-Decides (and-Decides (and-Decides (and-Decides (and-Decides
     (pointwise_decides bytes_eq-Decides a.clients b.clients)
     (pointwise_decides same_publisher_journal-Decides a.publishers b.publishers))
     (same_bridge_journal-Decides a.bridge b.bridge))
@@ -86,8 +98,10 @@ same_run-Decides a b =
     (pointwise_decides same_queue_journal-Decides a.queues b.queues))
     (pointwise_decides same_calls-Decides a.calls b.calls))
     (pointwise_decides same_image-Decides a.images b.images))
-    (λ p. λ i. record { clients = p.0.0.0.0.0.0 i; publishers = p.0.0.0.0.0.1 i; bridge = p.0.0.0.0.1 i; timers = p.0.0.0.1 i; queues = p.0.0.1 i; calls = p.0.1 i; images = p.1 i })
-    (λ e. ((((((ap (λ (x : RunData). x.clients) e, ap (λ (x : RunData). x.publishers) e), ap (λ (x : RunData). x.bridge) e), ap (λ (x : RunData). x.timers) e), ap (λ (x : RunData). x.queues) e), ap (λ (x : RunData). x.calls) e), ap (λ (x : RunData). x.images) e))
+    (pointwise_decides same_group-Decides a.groups b.groups))
+    (pointwise_decides same_watch-Decides a.watches b.watches))
+    (λ p. λ i. record { clients = p.0.0.0.0.0.0.0.0 i; publishers = p.0.0.0.0.0.0.0.1 i; bridge = p.0.0.0.0.0.0.1 i; timers = p.0.0.0.0.0.1 i; queues = p.0.0.0.0.1 i; calls = p.0.0.0.1 i; images = p.0.0.1 i; groups = p.0.1 i; watches = p.1 i })
+    (λ e. ((((((((ap (λ (x : RunData). x.clients) e, ap (λ (x : RunData). x.publishers) e), ap (λ (x : RunData). x.bridge) e), ap (λ (x : RunData). x.timers) e), ap (λ (x : RunData). x.queues) e), ap (λ (x : RunData). x.calls) e), ap (λ (x : RunData). x.images) e), ap (λ (x : RunData). x.groups) e), ap (λ (x : RunData). x.watches) e))
 
 -- so they are equivalences
 pub same_run_equivalence : IsEquivalence same_run

@@ -3,7 +3,7 @@ use Rattle.std.specs.Prelude.{ℕ, suc, List, [], ◌∷◌, ◌++◌, length, m
 use Rattle.std.specs.List.{flat_map}
 use Rattle.mama_edge.specs.Decimal.{decimal}
 use Rattle.mama_words.specs.Id.{sub_text, timer_text, inbox_text, object_text}
-use Rattle.mama_words.specs.Kind.{msg_kind_text, quality_text, strategy_text}
+use Rattle.mama_words.specs.Kind.{msg_kind_text, quality_text, strategy_text, group_state_text}
 use Rattle.mama_words.specs.declared.version.Version.{Version}
 use Rattle.mama_words.specs.declared.version.Version.TheVariants as version
 use Rattle.mama_words.specs.Value.{bytes_text}
@@ -30,7 +30,11 @@ use Rattle.mama_event.specs.declared.to_queue.QueueNote.TheVariants as q
 use Rattle.mama_event.specs.declared.publisher_entry.PublisherEntry.{PublisherEntry}
 use Rattle.mama_event.specs.declared.publisher_entry.PublisherEntry.TheVariants.{Send, Done, Took}
 use Rattle.mama_rules_services.specs.Ports.{Putter, ByClient, ByPublisher, ByQueue, ByBridge, ByTimers, ByNobody, bridge_putter, timers_putter, queue_putter}
-use Rattle.mama_record.specs.RunData.{RunData, ObjectCalls, LastImage}
+use Rattle.mama_event.specs.declared.group.GroupNote.{GroupNote}
+use Rattle.mama_event.specs.declared.group.GroupNote.TheVariants as grouped
+use Rattle.mama_event.specs.declared.watch.WatchNote.{WatchNote}
+use Rattle.mama_event.specs.declared.watch.WatchNote.TheVariants as watched
+use Rattle.mama_record.specs.RunData.{RunData, ObjectCalls, LastImage, GroupNotes, WatchNotes}
 
 -- a line of this text
 abbrev pub line : List ℕ → List ℕ
@@ -151,6 +155,22 @@ order_line o = line (given_text o)
 abbrev pub call_texts : CallNote → List (List ℕ)
 call_texts c = callback_text c.call ∷ map given_text c.orders
 
+-- GROUPS AND WATCHES
+
+abbrev pub group_note_text : GroupNote → List ℕ
+group_note_text (grouped.Call sub call) = sub_text sub ++ 32 ∷ callback_text call
+group_note_text (grouped.State now) = codes "state " ++ group_state_text now
+
+abbrev pub watch_note_text : WatchNote → List ℕ
+watch_note_text (watched.Retry count moment) = codes "retry " ++ decimal count ++ 32 ∷ decimal moment
+watch_note_text (watched.Timeout moment) = codes "timeout " ++ decimal moment
+
+abbrev pub group_note_line : GroupNote → List ℕ
+group_note_line note = line (group_note_text note)
+
+abbrev pub watch_note_line : WatchNote → List ℕ
+watch_note_line note = line (watch_note_text note)
+
 -- IMAGES
 
 abbrev pub image_head_text : SubId → ImageHead → List ℕ
@@ -195,6 +215,12 @@ queue_section n journal = record { head = codes "queue " ++ decimal n; lines = m
 abbrev pub object_section : ObjectCalls → LogSection
 object_section o = record { head = codes "on " ++ object_text o.object; lines = flat_map call_texts o.calls }
 
+abbrev pub group_section : GroupNotes → LogSection
+group_section g = record { head = codes "group " ++ decimal g.group; lines = map group_note_text g.notes }
+
+abbrev pub watch_section : WatchNotes → LogSection
+watch_section w = record { head = codes "watch " ++ decimal w.watch; lines = map watch_note_text w.notes }
+
 abbrev pub images_section : List LastImage → LogSection
 images_section images = record { head = codes "images"; lines = map image_text images }
 
@@ -203,7 +229,7 @@ abbrev pub numbered : {A : Type 0} → (ℕ → A → LogSection) → ℕ → Li
 numbered section n [] = []
 numbered section n (x ∷ xs) = section n x ∷ numbered section (suc n) xs
 
--- the sections of a record's log, for a system of this shape
+-- the sections of a record's log, for a system of this shape. Only a record of a script of version 2 has groups and watches.
 abbrev pub log_sections : Shape → RunData → List LogSection
 log_sections shape run =
     numbered client_section 0 run.clients
@@ -211,7 +237,9 @@ log_sections shape run =
     ++ (bridge_section shape run.bridge ∷ timers_section shape run.timers
     ∷ (numbered queue_section 0 run.queues
     ++ (map object_section run.calls
-    ++ images_section run.images ∷ []))))
+    ++ (map group_section run.groups
+    ++ (map watch_section run.watches
+    ++ images_section run.images ∷ []))))))
 
 -- VERSIONS
 

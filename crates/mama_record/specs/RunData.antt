@@ -5,6 +5,8 @@ use Rattle.mama_event.specs.declared.ids.ObjectId.{ObjectId}
 use Rattle.mama_event.specs.declared.ids.SubId.{SubId}
 use Rattle.mama_event.specs.declared.market.ImageHead.{ImageHead}
 use Rattle.mama_event.specs.declared.callback.CallNote.{CallNote}
+use Rattle.mama_event.specs.declared.group.GroupNote.{GroupNote}
+use Rattle.mama_event.specs.declared.watch.WatchNote.{WatchNote}
 use Rattle.mama_event.specs.declared.to_bridge.BridgeNote.{BridgeNote}
 use Rattle.mama_event.specs.declared.to_timers.TimersNote.{TimersNote}
 use Rattle.mama_event.specs.declared.to_queue.QueueNote.{QueueNote}
@@ -14,6 +16,16 @@ use Rattle.mama_event.specs.declared.publisher_entry.PublisherEntry.{PublisherEn
 pub record ObjectCalls : Type 0 where
   pub object : ObjectId
   pub calls : List CallNote
+
+-- what a group heard
+pub record GroupNotes : Type 0 where
+  pub group : ℕ
+  pub notes : List GroupNote
+
+-- what a watch noted
+pub record WatchNotes : Type 0 where
+  pub watch : ℕ
+  pub notes : List WatchNote
 
 -- the image that a subscription had when its Gone was taken
 pub record LastImage : Type 0 where
@@ -29,3 +41,5 @@ pub record RunData : Type 0 where
   pub queues : List (List (ℕ × QueueNote))
   pub calls : List ObjectCalls
   pub images : List LastImage
+  pub groups : List GroupNotes
+  pub watches : List WatchNotes

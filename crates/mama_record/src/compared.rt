@@ -5,7 +5,10 @@ ghost use Rattle.std.specs.Str.{bytes_eq};
 ghost use Rattle.mama_record.specs.RunView as view;
 ghost use Rattle.mama_record.specs.Equality as equality;
 
-use mama_event::{CallNote, ImageHead, ObjectId, PublisherEntry, QueueNote, SubId, TimersNote};
+use mama_event::{
+    CallNote, GroupNote, ImageHead, ObjectId, PublisherEntry, QueueNote, SubId, TimersNote,
+    WatchNote,
+};
 use mama_msg::Msg;
 
 #[tactic(auto, using(crate::proofs::Comparing::moments_compared))]
@@ -45,6 +48,20 @@ pub fn same_calls(a: &[(ObjectId, Vec<CallNote>)], b: &[(ObjectId, Vec<CallNote>
 #[tactic(auto, using(crate::proofs::Comparing::images_compared))]
 pub fn same_images(a: &[(SubId, ImageHead, Msg)], b: &[(SubId, ImageHead, Msg)]) -> bool
     ensures { result ≡ pointwise equality.same_image (view.images_of a.now) (view.images_of b.now) }
+{
+    a == b
+}
+
+#[tactic(auto, using(crate::proofs::Comparing::groups_compared))]
+pub fn same_groups(a: &[(u32, Vec<GroupNote>)], b: &[(u32, Vec<GroupNote>)]) -> bool
+    ensures { result ≡ pointwise equality.same_group (view.groups_of a.now) (view.groups_of b.now) }
+{
+    a == b
+}
+
+#[tactic(auto, using(crate::proofs::Comparing::watches_compared))]
+pub fn same_watches(a: &[(u32, Vec<WatchNote>)], b: &[(u32, Vec<WatchNote>)]) -> bool
+    ensures { result ≡ pointwise equality.same_watch (view.watches_of a.now) (view.watches_of b.now) }
 {
     a == b
 }

@@ -3,6 +3,7 @@
 
 mod calls;
 mod compared;
+mod lists;
 mod log;
 mod notes;
 mod record;

@@ -7,19 +7,21 @@ ghost use Rattle.mama_record.specs.SectionText.{section_text, head_text, call_li
 ghost use Rattle.mama_words.specs.Id.{object_text};
 
 use crate::calls::{put_call, put_image};
+use crate::lists::{put_group_notes, put_watch_notes};
 use crate::notes::{put_bridge_entry, put_publisher_entry, put_queue_entry, put_timers_entry};
 use crate::record::RunRecord;
 use mama_edge::print_u64;
 use mama_event::{
-    BridgeNote, CallNote, ImageHead, ObjectId, PublisherEntry, QueueNote, Shape, Strategy, SubId,
-    TimersNote,
+    BridgeNote, CallNote, GroupNote, ImageHead, ObjectId, PublisherEntry, QueueNote, Shape,
+    Strategy, SubId, TimersNote, WatchNote,
 };
 use mama_memory::OutOfMemory;
 use mama_msg::Msg;
 use mama_words::{Version, print_object_id, print_strategy};
 use std::alloc::Global;
 
-/// The log of a run in a version, for a system of this shape: one line for each entry, ended by one LF.
+/// The log of a run in a version, for a system of this shape: one line for each entry, ended by one LF. A log of version 1 is
+/// read again only where the record has no groups and no watches.
 #[tactic(auto, using(crate::proofs::Sections::log_printed))]
 pub fn print_log(
     alloc: Global,
@@ -37,6 +39,8 @@ pub fn print_log(
     put_timers(version, shape, run.timers(), &mut out)?;
     put_queues(version, run.queues(), &mut out)?;
     put_objects(version, run.calls(), &mut out)?;
+    put_groups(version, run.groups(), &mut out)?;
+    put_watches(version, run.watches(), &mut out)?;
     put_images(version, run.images(), &mut out)?;
     out.extend_from_slice(b"end\n")?;
     Ok(out)
@@ -328,6 +332,58 @@ fn put_objects(
 {
     for object in objects {
         put_object(version, object.0, object.1.as_slice(), out)?;
+    }
+    Ok(())
+}
+
+fn put_group(
+    version: Version,
+    number: u32,
+    notes: &[GroupNote],
+    out: &mut Vec<u8>,
+) -> Result<(), OutOfMemory>
+    ensures { OnOk result (out.new.items ≡ out.old.items ++ section_text version (text.group_section (record { group = number; notes = notes.now }))) }
+{
+    put_head(version, b"group ", number as usize, notes.len(), out)?;
+    put_group_notes(notes, out)
+}
+
+#[tactic(auto, using(crate::proofs::Printed::printed_mapped))]
+fn put_groups(
+    version: Version,
+    groups: &[(u32, Vec<GroupNote>)],
+    out: &mut Vec<u8>,
+) -> Result<(), OutOfMemory>
+    ensures { OnOk result (out.new.items ≡ out.old.items ++ flat_map (section_text version) (map text.group_section (view.groups_of groups.now))) }
+{
+    for group in groups {
+        put_group(version, group.0, group.1.as_slice(), out)?;
+    }
+    Ok(())
+}
+
+fn put_watch(
+    version: Version,
+    number: u32,
+    notes: &[WatchNote],
+    out: &mut Vec<u8>,
+) -> Result<(), OutOfMemory>
+    ensures { OnOk result (out.new.items ≡ out.old.items ++ section_text version (text.watch_section (record { watch = number; notes = notes.now }))) }
+{
+    put_head(version, b"watch ", number as usize, notes.len(), out)?;
+    put_watch_notes(notes, out)
+}
+
+#[tactic(auto, using(crate::proofs::Printed::printed_mapped))]
+fn put_watches(
+    version: Version,
+    watches: &[(u32, Vec<WatchNote>)],
+    out: &mut Vec<u8>,
+) -> Result<(), OutOfMemory>
+    ensures { OnOk result (out.new.items ≡ out.old.items ++ flat_map (section_text version) (map text.watch_section (view.watches_of watches.now))) }
+{
+    for watch in watches {
+        put_watch(version, watch.0, watch.1.as_slice(), out)?;
     }
     Ok(())
 }

@@ -1,17 +1,19 @@
 ghost use Rattle.std.specs.Prelude.{◌≡◌, ◌↔◌, IsTrue};
 
 use crate::compared::{
-    same_calls, same_clients, same_images, same_publishers, same_queues, same_timers,
+    same_calls, same_clients, same_groups, same_images, same_publishers, same_queues, same_timers,
+    same_watches,
 };
 use mama_event::{
-    BridgeNote, CallNote, ImageHead, ObjectId, PublisherEntry, QueueNote, SubId, TimersNote,
+    BridgeNote, CallNote, GroupNote, ImageHead, ObjectId, PublisherEntry, QueueNote, SubId,
+    TimersNote, WatchNote,
 };
 use mama_msg::Msg;
 use std::marker::Model;
 
 /// The record of a run: the moments that each client read, the journals of all other actors, the callbacks of each
-/// object, and the last images. Objects and images stand in the order of the log: subscriptions, timers and inboxes,
-/// each kind by client and number.
+/// object, the last images, and what each group heard and each watch noted. Objects and images stand in the order of the
+/// log: subscriptions, timers and inboxes, each kind by client and number; groups and watches stand by number.
 #[derive(Drop)]
 pub struct RunRecord {
     clients: Vec<Vec<u64>>,
@@ -21,6 +23,8 @@ pub struct RunRecord {
     queues: Vec<Vec<(u32, QueueNote)>>,
     calls: Vec<(ObjectId, Vec<CallNote>)>,
     images: Vec<(SubId, ImageHead, Msg)>,
+    groups: Vec<(u32, Vec<GroupNote>)>,
+    watches: Vec<(u32, Vec<WatchNote>)>,
 }
 
 impl Model for RunRecord {
@@ -57,7 +61,7 @@ impl Eq for RunRecord {
 }
 
 impl RunRecord {
-    ghost use Rattle.mama_record.specs.RunView.{moments_of, entries_of, events_of, calls_of, images_of};
+    ghost use Rattle.mama_record.specs.RunView.{moments_of, entries_of, events_of, calls_of, images_of, groups_of, watches_of};
     ghost use Rattle.mama_record.specs.Equality.{same_run};
 
     /// A record of these parts. It takes no memory.
@@ -69,6 +73,8 @@ impl RunRecord {
         queues: Vec<Vec<(u32, QueueNote)>>,
         calls: Vec<(ObjectId, Vec<CallNote>)>,
         images: Vec<(SubId, ImageHead, Msg)>,
+        groups: Vec<(u32, Vec<GroupNote>)>,
+        watches: Vec<(u32, Vec<WatchNote>)>,
     ) -> RunRecord
         ensures { result ≡ record {
           clients = moments_of clients.items;
@@ -78,6 +84,8 @@ impl RunRecord {
           queues = events_of queues.items;
           calls = calls_of calls.items;
           images = images_of images.items;
+          groups = groups_of groups.items;
+          watches = watches_of watches.items;
         } }
     {
         RunRecord {
@@ -88,6 +96,8 @@ impl RunRecord {
             queues,
             calls,
             images,
+            groups,
+            watches,
         }
     }
 
@@ -140,6 +150,20 @@ impl RunRecord {
         self.images.as_slice()
     }
 
+    /// What each group heard.
+    pub fn groups(&self) -> &[(u32, Vec<GroupNote>)]
+        ensures { groups_of result.now ≡ self.now.groups }
+    {
+        self.groups.as_slice()
+    }
+
+    /// What each watch noted.
+    pub fn watches(&self) -> &[(u32, Vec<WatchNote>)]
+        ensures { watches_of result.now ≡ self.now.watches }
+    {
+        self.watches.as_slice()
+    }
+
     fn has_parts_of(&self, other: &RunRecord) -> bool
         ensures { result ≡ same_run self.now other.now }
     {
@@ -150,5 +174,7 @@ impl RunRecord {
             && same_queues(self.queues.as_slice(), other.queues.as_slice())
             && same_calls(self.calls.as_slice(), other.calls.as_slice())
             && same_images(self.images.as_slice(), other.images.as_slice())
+            && same_groups(self.groups.as_slice(), other.groups.as_slice())
+            && same_watches(self.watches.as_slice(), other.watches.as_slice())
     }
 }

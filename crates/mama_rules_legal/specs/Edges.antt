@@ -15,11 +15,11 @@ use Rattle.mama_event.specs.Publisher.{publisher_puts}
 use Rattle.mama_rules_services.specs.Bridge.{bridge_puts}
 use Rattle.mama_rules_services.specs.Timers.{timers_puts}
 use Rattle.mama_rules_services.specs.Ports.{Putter, ByClient, ByPublisher, ByQueue, ByBridge, ByTimers, ByNobody, bridge_putter, timers_putter, queue_putter}
-use Rattle.mama_rules_queue.specs.Queue.{QueuePut, queue_puts_at}
+use Rattle.mama_rules_queue.specs.Queue.{QueuePut}
 use Rattle.mama_script.specs.Script.{ScriptData}
 use Rattle.mama_record.specs.RunData.{RunData}
 use Rattle.mama_rules_rounds.specs.Client.{bridge_part, timers_part}
-use Rattle.mama_rules_rounds.specs.World.{Setting, no_section, orders_by, publisher_part, queue_part, timer_part}
+use Rattle.mama_rules_rounds.specs.World.{Setting, no_section, puts_on, publisher_part, queue_part, timer_part}
 use Rattle.mama_rules_rounds.specs.Round.{all_client_steps, setting_of}
 
 -- what the steps of an actor hold, one step after another
@@ -30,9 +30,9 @@ all_steps steps = flat_map (λ step. step) steps
 abbrev pub client_puts : ScriptData → List (List ℕ) → ℕ → List QueuePut
 client_puts script moments c = all_steps (slice_index_or (all_client_steps (queues_of script.shape) 0 moments script.clients) c [])
 
--- what a queue puts by its journal and the plans
-abbrev pub queue_puts : Setting → List (ℕ × QueueNote) → List QueuePut
-queue_puts setting journal = puts (queue_puts_at (orders_by setting)) journal
+-- what the queue of a number puts by its journal, the plans and the watches
+abbrev pub queue_puts : Setting → ℕ → List (ℕ × QueueNote) → List QueuePut
+queue_puts setting q journal = puts (puts_on setting q) journal
 
 -- WHAT WAS PUT ON EACH LANE, by whom, where clients tells what each client put
 
@@ -41,7 +41,7 @@ abbrev pub put_on_bridge : Setting → (ℕ → List QueuePut) → List (List Pu
 put_on_bridge setting clients publishers queues (ByClient c) = flat_map bridge_part (clients c)
 put_on_bridge setting clients publishers queues (ByPublisher p) =
     publisher_puts (slice_index_or setting.publishers p no_section) (slice_index_or publishers p [])
-put_on_bridge setting clients publishers queues (ByQueue q) = flat_map bridge_part (queue_puts setting (slice_index_or queues q []))
+put_on_bridge setting clients publishers queues (ByQueue q) = flat_map bridge_part (queue_puts setting q (slice_index_or queues q []))
 put_on_bridge setting clients publishers queues ByBridge = []
 put_on_bridge setting clients publishers queues ByTimers = []
 put_on_bridge setting clients publishers queues ByNobody = []
@@ -49,7 +49,7 @@ put_on_bridge setting clients publishers queues ByNobody = []
 -- on the timers' lane
 abbrev pub put_on_timers : Setting → (ℕ → List QueuePut) → List (List (ℕ × QueueNote)) → List (ℕ × BridgeNote) → Putter → List TimersNote
 put_on_timers setting clients queues bridge (ByClient c) = flat_map timers_part (clients c)
-put_on_timers setting clients queues bridge (ByQueue q) = flat_map timers_part (queue_puts setting (slice_index_or queues q []))
+put_on_timers setting clients queues bridge (ByQueue q) = flat_map timers_part (queue_puts setting q (slice_index_or queues q []))
 put_on_timers setting clients queues bridge ByBridge = flat_map timer_part (bridge_puts setting.shape bridge)
 put_on_timers setting clients queues bridge (ByPublisher p) = []
 put_on_timers setting clients queues bridge ByTimers = []

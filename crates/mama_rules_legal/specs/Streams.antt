@@ -16,14 +16,13 @@ use Rattle.mama_event.specs.declared.shape.Strategy.{Strategy}
 use Rattle.mama_event.specs.declared.to_queue.Make.TheVariants as make
 use Rattle.mama_event.specs.declared.to_queue.QueueNote.{QueueNote}
 use Rattle.mama_event.specs.declared.to_queue.QueueNote.TheVariants as q
-use Rattle.mama_event.specs.declared.shape.Shape.{Shape}
 use Rattle.mama_event.specs.declared.to_bridge.BridgeNote.{BridgeNote}
 use Rattle.mama_event.specs.declared.to_bridge.BridgeNote.TheVariants as b
 use Rattle.mama_event.specs.Ports.{clients_of}
 use Rattle.mama_event.specs.Object.{same_sub, same_inbox, same_object}
 use Rattle.mama_event.specs.Wire.{arriving, answering, cut_arrival, cut_reply}
 use Rattle.mama_event.specs.ToQueue.{delivered_note, replied_note}
-use Rattle.mama_rules_services.specs.Bridge.{BridgePut, to_publisher, to_queue, to_timers, BridgeEvent, heard, is_live, is_open, window, reply_window}
+use Rattle.mama_rules_services.specs.Bridge.{BridgePut, to_publisher, to_queue, to_timers, heard, window, reply_window}
 use Rattle.mama_rules_queue.specs.Queue.{QueuePut}
 use Rattle.mama_rules_queue.specs.Queue as queue
 use Rattle.mama_script.specs.Script.{ScriptData}

@@ -1,5 +1,5 @@
 -- Worked runs of a queue, computed by its definition.
-use Rattle.std.proofs.Common.{◌≡◌, ℕ, List, [], ◌∷◌, ◌++◌, refl}
+use Rattle.std.proofs.Common.{◌≡◌, ℕ, List, [], ◌∷◌, refl}
 use Rattle.mama_journal.specs.Journal.{puts}
 use Rattle.mama_event.specs.declared.ids.SubId.{SubId}
 use Rattle.mama_event.specs.declared.ids.ObjectId.{ObjectId}
@@ -11,7 +11,6 @@ use Rattle.mama_event.specs.declared.market.SubKind.{SubKind}
 use Rattle.mama_event.specs.declared.market.SubKind.TheVariants.{Market, Basic}
 use Rattle.mama_event.specs.declared.market.Quality.TheVariants as quality
 use Rattle.mama_event.specs.declared.callback.Callback.TheVariants as on
-use Rattle.mama_event.specs.declared.order.PlanRow.{PlanRow}
 use Rattle.mama_event.specs.declared.order.Order.{Order}
 use Rattle.mama_event.specs.declared.order.Order.TheVariants as order
 use Rattle.mama_event.specs.declared.to_queue.Make.TheVariants as make
@@ -21,7 +20,7 @@ use Rattle.mama_event.specs.declared.to_bridge.BridgeNote.TheVariants as b
 use Rattle.mama_event.specs.declared.to_timers.TimersNote.TheVariants as t
 use Rattle.mama_event.specs.Listener.{planned}
 use Rattle.mama_event.specs.declared.shape.Strategy.TheVariants as strategy
-use Rattle.mama_rules_queue.specs.Queue.{Deed, handled, called, QueuePut, to_bridge, to_timers, deeds, queue_puts_at}
+use Rattle.mama_rules_queue.specs.Queue.{handled, called, to_bridge, to_timers, deeds, queue_puts_at}
 
 abbrev pub sub : SubId
 sub = record { client = 0; number = 0 }

@@ -1,12 +1,9 @@
 -- believed: A queue's rules, as functions of its journal and of the orders that listeners give: which callbacks are made, what
 -- mutes an object, and what each entry puts. orders o k is what the listener of o orders in its k-th callback.
-use Rattle.std.specs.Prelude.{ℕ, zero, suc, ◌+◌, Bool, true, false, not, ◌&&◌, ◌||◌, ◌==◌, List, [], ◌∷◌, ◌++◌, length, map, Option, None, Some, if◌then◌else◌}
-use Rattle.std.specs.List.{list_any, flat_map, filter_map}
-use Rattle.mama_msg.specs.Field.{FieldData}
+use Rattle.std.specs.Prelude.{ℕ, ◌+◌, Bool, true, false, not, ◌&&◌, ◌||◌, ◌==◌, List, [], ◌∷◌, ◌++◌, length, map, Option, None, Some, if◌then◌else◌}
+use Rattle.std.specs.List.{list_any, flat_map}
 use Rattle.mama_journal.specs.Journal.{all_puts, first_said, count_of}
 use Rattle.mama_event.specs.declared.ids.SubId.{SubId}
-use Rattle.mama_event.specs.declared.ids.TimerId.{TimerId}
-use Rattle.mama_event.specs.declared.ids.InboxId.{InboxId}
 use Rattle.mama_event.specs.declared.ids.ObjectId.{ObjectId}
 use Rattle.mama_event.specs.declared.ids.ObjectId.TheVariants.{Sub, Timer, Inbox}
 use Rattle.mama_event.specs.declared.market.MarketMsg.{MarketMsg}
@@ -27,7 +24,7 @@ use Rattle.mama_event.specs.declared.to_timers.TimersNote.{TimersNote}
 use Rattle.mama_event.specs.declared.to_timers.TimersNote.TheVariants as t
 use Rattle.mama_event.specs.Object.{same_sub, same_timer, same_inbox, same_object}
 use Rattle.mama_event.specs.Wire.{code_of}
-use Rattle.mama_dq.specs.Context.{ContextData, new_context}
+use Rattle.mama_dq.specs.Context.{ContextData}
 use Rattle.mama_dq.specs.Strategy.{callbacks_of, fold}
 
 -- WHAT A QUEUE DOES, one deed after another: a message handled by a subscription's context, or a callback made
@@ -75,6 +72,14 @@ begins_in o (handled sub msg) = false
 abbrev pub stops_in : ObjectId → Deed → Bool
 stops_in o (called object call orders) = same_object object o && is_destroy call
 stops_in o (handled sub msg) = false
+
+-- whether an object is live after some deeds, if it was live before them or not: after on_destroy it is not
+abbrev pub is_live_after : ObjectId → Bool → List Deed → Bool
+is_live_after o live [] = live
+is_live_after o live (d ∷ ds) = is_live_after o ((live || begins_in o d) && not (stops_in o d)) ds
+
+abbrev pub is_live : List Deed → ObjectId → Bool
+is_live ds o = is_live_after o false ds
 
 abbrev pub orders_end_of : ObjectId → Deed → Bool
 orders_end_of o (called object call orders) = list_any (ends o) orders

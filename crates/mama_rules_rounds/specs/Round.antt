@@ -1,14 +1,15 @@
 -- believed: the run of a script in rounds, and its record.
-use Rattle.std.specs.Prelude.{◌≡◌, ℕ, zero, suc, ◌+◌, ◌*◌, Bool, true, false, ◌&&◌, ◌==◌, max, List, [], ◌∷◌, ◌++◌, length, map, filter, replicate, slice_index_or, if◌then◌else◌, Option, None, Some}
+use Rattle.std.specs.Prelude.{◌≡◌, ℕ, suc, ◌+◌, Bool, true, false, List, [], ◌∷◌, ◌++◌, length, map, filter, replicate, slice_index_or, if◌then◌else◌, Option, None, Some}
 use Rattle.std.specs.List.{flat_map}
 use Rattle.mama_journal.specs.Journal.{first_said, numbers_below}
-use Rattle.mama_msg.specs.Field.{FieldData}
 use Rattle.mama_event.specs.declared.ids.SubId.{SubId}
 use Rattle.mama_event.specs.declared.ids.ObjectId.{ObjectId}
 use Rattle.mama_event.specs.declared.ids.ObjectId.TheVariants.{Sub, Timer, Inbox}
 use Rattle.mama_event.specs.declared.market.SubKind.{SubKind}
 use Rattle.mama_event.specs.declared.market.SubKind.TheVariants.{Basic}
-use Rattle.mama_event.specs.declared.shape.Shape.{Shape}
+use Rattle.mama_event.specs.declared.group.GroupRow.{GroupRow}
+use Rattle.mama_event.specs.declared.watch.WatchRow.{WatchRow}
+use Rattle.mama_event.specs.Object.{same_object}
 use Rattle.mama_event.specs.declared.callback.Callback.{Callback}
 use Rattle.mama_event.specs.declared.callback.CallNote.{CallNote}
 use Rattle.mama_event.specs.declared.order.Order.{Order}
@@ -22,6 +23,8 @@ use Rattle.mama_dq.specs.declared.table.Phase.{Phase}
 use Rattle.mama_dq.specs.declared.table.Phase.TheVariants.{Await, LiveOk, LiveStale, LiveKept}
 use Rattle.mama_dq.specs.Context.{quality_in}
 use Rattle.mama_rules_queue.specs.Queue.{QueuePut, deeds, calls_of, messages_of, context_of, make_in}
+use Rattle.mama_rules_queue.specs.Group.{group_notes}
+use Rattle.mama_rules_queue.specs.Watch.{watch_notes}
 use Rattle.mama_event.specs.declared.publisher_entry.PublisherEntry.{PublisherEntry}
 use Rattle.mama_event.specs.declared.publisher_entry.PublisherEntry.TheVariants.{Send, Done}
 use Rattle.mama_event.specs.Publisher.{PublisherScript, SendLine}
@@ -29,9 +32,9 @@ use Rattle.mama_event.specs.Publisher as send
 use Rattle.mama_rules_rounds.specs.Client.{Planned, client_steps, client_objects, clock_lines}
 use Rattle.mama_script.specs.declared.publisher.PublisherPart.{PublisherPart}
 use Rattle.mama_script.specs.Script.{ScriptData}
-use Rattle.mama_rules_rounds.specs.World.{Setting, World, orders_by}
+use Rattle.mama_rules_rounds.specs.World.{Setting, World, Grouped, Watched, orders_by}
 use Rattle.mama_rules_rounds.specs.Stage.{Stage, AreRounds, IsOver}
-use Rattle.mama_record.specs.RunData.{RunData, ObjectCalls, LastImage}
+use Rattle.mama_record.specs.RunData.{RunData, ObjectCalls, LastImage, GroupNotes, WatchNotes}
 
 -- what a line sends
 abbrev pub sends_in : PublisherLine → List SendLine
@@ -88,11 +91,42 @@ is_inbox p = inbox_id p.object
 abbrev pub by_kind : List Planned → List Planned
 by_kind objects = filter is_sub objects ++ filter is_timer objects ++ filter is_inbox objects
 
+-- the queue of an object among these
+abbrev pub queue_in : ObjectId → Planned → Option ℕ
+queue_in o p = if same_object p.object o then Some p.queue else None
+
+abbrev pub queue_of : List Planned → ObjectId → ℕ
+queue_of objects o = queue_or_first (first_said (queue_in o) objects)
+  where
+    queue_or_first : Option ℕ → ℕ
+    queue_or_first None = 0
+    queue_or_first (Some queue) = queue
+
+-- the queue of a group: that of its first member
+abbrev pub queue_of_members : List Planned → List SubId → ℕ
+queue_of_members objects [] = 0
+queue_of_members objects (s ∷ subs) = queue_of objects (Sub s)
+
+-- the groups and the watches, which are numbered in order
+abbrev pub groups_from : List Planned → ℕ → List GroupRow → List Grouped
+groups_from objects n [] = []
+groups_from objects n (row ∷ rows) = record { number = n; queue = queue_of_members objects row.members; members = row.members } ∷ groups_from objects (suc n) rows
+
+abbrev pub watches_from : List Planned → ℕ → List WatchRow → List Watched
+watches_from objects n [] = []
+watches_from objects n (row ∷ rows) = record { number = n; queue = queue_of objects (Timer row.timer); row = row } ∷ watches_from objects (suc n) rows
+
+-- the objects of a script with their plans
+abbrev pub planned_in : ScriptData → List Planned
+planned_in script = by_kind (objects_of (queues_of script.shape) 0 script.clients)
+
 abbrev pub setting_of : ScriptData → Setting
 setting_of script = record {
   shape = script.shape;
   publishers = publishers_from 0 script.publishers;
-  objects = by_kind (objects_of (queues_of script.shape) 0 script.clients);
+  objects = planned_in script;
+  groups = groups_from (planned_in script) 0 script.groups;
+  watches = watches_from (planned_in script) 0 script.watches;
 }
 
 -- before the first round nothing was done
@@ -150,6 +184,14 @@ last_image setting queues p = of_object p.object
     of_object (Sub s) = of_sub s (slice_index_or queues p.queue [])
     of_object _ = []
 
+-- what a group hears by the journal of its queue
+abbrev pub group_told : Setting → List (List (ℕ × QueueNote)) → Grouped → GroupNotes
+group_told setting queues g = record { group = g.number; notes = group_notes (orders_by setting) g.members (slice_index_or queues g.queue []) }
+
+-- what a watch notes by the journal of its queue
+abbrev pub watch_told : Setting → List (List (ℕ × QueueNote)) → Watched → WatchNotes
+watch_told setting queues w = record { watch = w.number; notes = watch_notes (orders_by setting) w.row (slice_index_or queues w.queue []) }
+
 -- the record of a world
 abbrev pub record_of : Setting → List (List ℕ) → World → RunData
 record_of setting moments w = record {
@@ -160,6 +202,8 @@ record_of setting moments w = record {
   queues = w.queues;
   calls = map (object_calls setting w.queues) setting.objects;
   images = flat_map (last_image setting w.queues) setting.objects;
+  groups = map (group_told setting w.queues) setting.groups;
+  watches = map (watch_told setting w.queues) setting.watches;
 }
 
 -- A record is that of the rounds of a script: as many as it takes until every client and publisher has made its steps.

@@ -1,5 +1,5 @@
 -- believed: the steps of clients and publishers, and the rounds that they make up.
-use Rattle.std.specs.Prelude.{◌≡◌, ℕ, zero, suc, Bool, true, List, [], ◌∷◌, slice_index_or, slice_set}
+use Rattle.std.specs.Prelude.{◌≡◌, ℕ, zero, suc, true, List, [], ◌∷◌, slice_index_or, slice_set}
 use Rattle.std.specs.List.{list_all}
 use Rattle.mama_event.specs.declared.publisher_entry.PublisherEntry.{PublisherEntry}
 use Rattle.mama_event.specs.Ports.{clients_of, publishers_of, bridge_port_of_client, timers_port_of_client}

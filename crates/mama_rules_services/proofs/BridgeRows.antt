@@ -1,11 +1,10 @@
 -- Worked runs of the bridge, computed by its definition.
-use Rattle.std.proofs.Common.{◌≡◌, ℕ, List, [], ◌∷◌, ◌++◌, refl}
-use Rattle.mama_msg.specs.Field.{FieldData}
+use Rattle.std.proofs.Common.{◌≡◌, ℕ, List, [], ◌∷◌, refl}
 use Rattle.mama_event.specs.declared.ids.SubId.{SubId}
 use Rattle.mama_event.specs.declared.ids.ObjectId.TheVariants.{Sub}
 use Rattle.mama_event.specs.declared.market.MarketMsg.{MarketMsg}
 use Rattle.mama_event.specs.declared.market.MsgKind.{MsgKind}
-use Rattle.mama_event.specs.declared.market.MsgKind.TheVariants.{Initial, Update, Recap}
+use Rattle.mama_event.specs.declared.market.MsgKind.TheVariants.{Initial, Update}
 use Rattle.mama_event.specs.declared.market.SubKind.TheVariants.{Market}
 use Rattle.mama_event.specs.declared.to_bridge.SubTerms.{SubTerms}
 use Rattle.mama_link.specs.declared.faults.FaultRow.{FaultRow}
@@ -19,7 +18,7 @@ use Rattle.mama_event.specs.declared.to_timers.TimersNote.TheVariants as t
 use Rattle.mama_event.specs.declared.to_queue.Make.TheVariants as make
 use Rattle.mama_event.specs.declared.shape.Shape.{Shape}
 use Rattle.mama_event.specs.declared.shape.Strategy.TheVariants as strategy
-use Rattle.mama_rules_services.specs.Bridge.{BridgePut, to_queue, to_publisher, to_timers, bridge_puts}
+use Rattle.mama_rules_services.specs.Bridge.{to_queue, to_publisher, to_timers, bridge_puts}
 
 abbrev pub small : Shape
 small = record { clients = 1; publisher_topics = 0 ∷ []; bounds = record { topics = 1; queues = 1 }; strategy = strategy.One }

@@ -1,9 +1,9 @@
 -- Which actor puts by a port, by cases.
 use Rattle.std.specs.Prelude.{nat_lt, nat_le, ◌-◌}
-use Rattle.std.proofs.Common.{◌≡◌, ℕ, ◌+◌, ◌<◌, ◌≤◌, ◌==◌, Bool, true, false, ◌&&◌, cond, refl, sym, ◌∙◌, ap, subst, arith}
+use Rattle.std.proofs.Common.{◌≡◌, ℕ, ◌+◌, ◌<◌, ◌≤◌, ◌==◌, Bool, true, false, ◌&&◌, cond, sym, ◌∙◌, ap, subst, arith}
 use Rattle.std.proofs.lemmas.Bool.{and_parts, cond_both, ltb-true, ltb-false, leb-true, eqb-true, eqb-false, le-leb}
 use Rattle.mama_event.specs.declared.shape.Shape.{Shape}
-use Rattle.mama_event.specs.Ports.{clients_of, publishers_of, queues_of, bridge_port_of_publisher, bridge_port_of_queue, timers_port_of_queue, timers_port_of_bridge, queue_port_of_bridge, queue_port_of_timers}
+use Rattle.mama_event.specs.Ports.{clients_of, publishers_of, queues_of}
 use Rattle.mama_rules_services.specs.Ports.{Putter, ByClient, ByPublisher, ByQueue, ByBridge, ByTimers, ByNobody, bridge_putter, timers_putter, queue_putter}
 
 pub by_bridge_port : (shape : Shape) (P : ℕ → Putter → Type 0) → ((c : ℕ) → c < clients_of shape → P c (ByClient c))

@@ -1,5 +1,5 @@
 -- believed: the life of an object of any kind, by what its service heard: when it is alive, and what was sent into its link then.
-use Rattle.std.specs.Prelude.{Bool, true, false, not, ◌&&◌, List, [], ◌∷◌, filter, if◌then◌else◌}
+use Rattle.std.specs.Prelude.{Bool, false, not, ◌&&◌, List, [], ◌∷◌, filter, if◌then◌else◌}
 use Rattle.std.specs.List.{list_any}
 use Rattle.mama_journal.specs.Journal.{puts}
 

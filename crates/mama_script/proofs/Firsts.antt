@@ -1,6 +1,7 @@
 -- The line that reading tells is the first that is wrong.
-use Rattle.std.proofs.Common.{◌≡◌, ◌≢◌, ℕ, suc, ◌+◌, ◌<◌, Bool, true, false, cond, List, [], ◌∷◌, ◌++◌, length, map, Option, Some, None, Result, Ok, Err, refl, sym, ap, subst, ◌∙◌, inl, inr, arith}
+use Rattle.std.proofs.Common.{◌≡◌, ◌≢◌, ℕ, suc, ◌+◌, ◌<◌, Bool, true, false, cond, leb, List, [], ◌∷◌, ◌++◌, length, map, Option, Some, None, Result, Ok, Err, refl, sym, ap, subst, ◌∙◌, inl, inr, arith}
 use Rattle.std.specs.Prelude.{◌⊎◌, ◌==◌}
+use Rattle.std.proofs.lemmas.Bool.{leb-true, leb-false}
 use Rattle.mama_words.specs.Parting.{pieces}
 use Rattle.mama_words.specs.declared.version.Version.{Version}
 use Rattle.mama_script.specs.declared.fault.Flaw.{Flaw}
@@ -13,8 +14,9 @@ use Rattle.mama_script.specs.Line.{line_text}
 use Rattle.mama_script.specs.Form.{form_in}
 use Rattle.mama_script.specs.Before.{Before, start, after, flaw}
 use Rattle.mama_script.specs.Names.{made_by, unnamed_from}
-use Rattle.mama_script.specs.Reading.{and_then, at_line, unless_flawed, judged, line_in, unless_faulty, line_first, read_from, first_line, version_in, read_version, version_of, lines_in, unless_unnamed, named_or_fault, script_in, spelling, FitFrom}
-use Rattle.mama_script.specs.First.{behind, EachFits, flaw_of, HasFlaw, IsHeadless, IsFirstFlaw, IsFirstUnnamed, IsFirst}
+use Rattle.mama_script.specs.Placing.{cast_of, none_placed, misplaced_from}
+use Rattle.mama_script.specs.Reading.{and_then, at_line, unless_flawed, judged, line_in, unless_faulty, line_first, read_from, first_line, version_in, read_version, version_of, lines_in, unless_wrong, earlier, named_or_fault, script_in, spelling, FitFrom}
+use Rattle.mama_script.specs.First.{behind, EachFits, flaw_of, HasFlaw, IsHeadless, IsFirstFlaw, IsNoneBefore, IsNoneUpTo, IsFirstUnnamed, IsFirstMisplaced, IsFirst}
 use Rattle.mama_script.proofs.Whole.{line_found, version_again, version_found, lines_found, pieces_joined}
 
 -- what reading tells of the pieces from the line k on
@@ -126,11 +128,57 @@ first_in_lines text [] line found cut e = inl (headless line found [] tt e)
 first_in_lines text (rest ∷ []) line found cut e = inl (headless line found (rest ∷ []) tt e)
 first_in_lines text (first ∷ next ∷ more) line found cut e = first_behind text first next more line found (version_in first) refl cut e
 
-unnamed_told : (text : List ℕ) (ls : List Line) (o : Option ℕ) (line : ℕ) (found : Flaw) → text ≡ spelling ls → FitFrom (start (version_of ls)) ls → unnamed_from (made_by ls) 2 ls ≡ o → unless_unnamed ls o ≡ Err (at_line line found) → (found ≡ Fault 10) × IsFirstUnnamed text line
-unnamed_told text ls None line found spelled fit o e = absurd cc
-unnamed_told text ls (Some k) line found spelled fit o e =
+-- what the second look told
+abbrev IsSecond : List ℕ → ℕ → Flaw → Type 0
+IsSecond text line found = ((found ≡ Fault 10) × IsFirstUnnamed text line) ⊎ ((fault : ℕ) × (found ≡ Fault fault) × IsFirstMisplaced text line fault)
+
+unnamed_told : (text : List ℕ) (ls : List Line) (k line : ℕ) (found : Flaw) → text ≡ spelling ls → FitFrom (start (version_of ls)) ls → unnamed_from (made_by ls) 2 ls ≡ Some k
+    → IsNoneBefore k (misplaced_from (cast_of ls) none_placed 2 ls) → failed {A = List Line} (Bad k 10) ≡ failed (at_line line found) → IsSecond text line found
+unnamed_told text ls k line found spelled fit o first e =
     let same = same_at k line (Fault 10) found (failed_is {A = List Line} (Bad k 10) (at_line line found) e) in
-    (sym same.1, record { lines = ls; text_is = spelled; fit = fit; unnamed = subst (λ (n : ℕ). unnamed_from (made_by ls) 2 ls ≡ Some n) same.0 o })
+    inl (
+      sym same.1,
+      record {
+        lines = ls;
+        text_is = spelled;
+        fit = fit;
+        unnamed = subst (λ (n : ℕ). unnamed_from (made_by ls) 2 ls ≡ Some n) same.0 o;
+        first = subst (λ (n : ℕ). IsNoneBefore n (misplaced_from (cast_of ls) none_placed 2 ls)) same.0 first;
+      },
+    )
+
+misplaced_told : (text : List ℕ) (ls : List Line) (at : ℕ × ℕ) (line : ℕ) (found : Flaw) → text ≡ spelling ls → FitFrom (start (version_of ls)) ls → misplaced_from (cast_of ls) none_placed 2 ls ≡ Some at
+    → IsNoneUpTo at.0 (unnamed_from (made_by ls) 2 ls) → failed {A = List Line} (Bad at.0 at.1) ≡ failed (at_line line found) → IsSecond text line found
+misplaced_told text ls at line found spelled fit p first e =
+    let same = same_at at.0 line (Fault at.1) found (failed_is {A = List Line} (Bad at.0 at.1) (at_line line found) e) in
+    inr (
+      at.1,
+      sym same.1,
+      record {
+        lines = ls;
+        text_is = spelled;
+        fit = fit;
+        misplaced = subst (λ (n : ℕ). misplaced_from (cast_of ls) none_placed 2 ls ≡ Some (n, at.1)) same.0 p;
+        first = subst (λ (n : ℕ). IsNoneUpTo n (unnamed_from (made_by ls) 2 ls)) same.0 first;
+      },
+    )
+
+-- of two lines the first, and of one line its object
+which_told : (text : List ℕ) (ls : List Line) (k : ℕ) (at : ℕ × ℕ) (line : ℕ) (found : Flaw) (up : Bool) → leb k at.0 ≡ up → text ≡ spelling ls → FitFrom (start (version_of ls)) ls
+    → unnamed_from (made_by ls) 2 ls ≡ Some k → misplaced_from (cast_of ls) none_placed 2 ls ≡ Some at → unless_wrong ls (cond up (Some (Bad k 10)) (Some (Bad at.0 at.1))) ≡ Err (at_line line found) → IsSecond text line found
+which_told text ls k at line found true up spelled fit o p e =
+    unnamed_told text ls k line found spelled fit o (subst (λ (x : Option (ℕ × ℕ)). IsNoneBefore k x) (sym p) (leb-true k at.0 up)) e
+which_told text ls k at line found false up spelled fit o p e =
+    misplaced_told text ls at line found spelled fit p (subst (λ (x : Option ℕ). IsNoneUpTo at.0 x) (sym o) (leb-false k at.0 up)) e
+
+second_told : (text : List ℕ) (ls : List Line) (o : Option ℕ) (p : Option (ℕ × ℕ)) (line : ℕ) (found : Flaw) → text ≡ spelling ls → FitFrom (start (version_of ls)) ls
+    → unnamed_from (made_by ls) 2 ls ≡ o → misplaced_from (cast_of ls) none_placed 2 ls ≡ p → unless_wrong ls (earlier o p) ≡ Err (at_line line found) → IsSecond text line found
+second_told text ls None None line found spelled fit o p e = absurd cc
+second_told text ls (Some k) None line found spelled fit o p e =
+    unnamed_told text ls k line found spelled fit o (subst (λ (x : Option (ℕ × ℕ)). IsNoneBefore k x) (sym p) tt) e
+second_told text ls None (Some at) line found spelled fit o p e =
+    misplaced_told text ls at line found spelled fit p (subst (λ (x : Option ℕ). IsNoneUpTo at.0 x) (sym o) tt) e
+second_told text ls (Some k) (Some at) line found spelled fit o p e = which_told text ls k at line found (leb k at.0) refl spelled fit o p e
 
 widened : (text : List ℕ) (line : ℕ) (found : Flaw) → (((line ≡ 1) × (found ≡ Fault 1) × IsHeadless (pieces 10 text)) ⊎ IsFirstFlaw text line found) → IsFirst text line found
 widened text line found h = elim h [ inl p ↦ inl p | inr p ↦ inr (inl p) ]
@@ -141,5 +189,5 @@ script_first text line found e =
       | inl p ↦ widened text line found (first_in_lines text (pieces 10 text) line found refl p)
       | inr p ↦
           let f = lines_found (pieces 10 text) p.0 p.1 in
-          inr (inr (unnamed_told text p.0 (unnamed_from (made_by p.0) 2 p.0) line found (sym (pieces_joined text) ∙ f.1) f.0 refl p.2))
+          inr (inr (second_told text p.0 (unnamed_from (made_by p.0) 2 p.0) (misplaced_from (cast_of p.0) none_placed 2 p.0) line found (sym (pieces_joined text) ∙ f.1) f.0 refl refl p.2))
     ]

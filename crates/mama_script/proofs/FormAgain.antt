@@ -1,7 +1,7 @@
 -- What is spelled as a line is read again.
-use Rattle.std.proofs.Common.{◌≡◌, ℕ, ◌<◌, ◌≤◌, ◌^◌, true, false, List, [], ◌∷◌, length, Some, Result, Ok, refl, sym, ap, subst, ◌∙◌, arith}
-use Rattle.std.specs.Prelude.{◌==◌, codes}
-use Rattle.std.specs.List.{list_all}
+use Rattle.std.proofs.Common.{◌≡◌, ℕ, ◌<◌, ◌≤◌, ◌^◌, true, false, List, [], ◌∷◌, length, map, Some, Result, Ok, refl, sym, ap, subst, ◌∙◌, arith}
+use Rattle.std.specs.Prelude.{◌==◌, codes, not}
+use Rattle.std.specs.List.{list_all, AllByRecursion}
 use Rattle.mama_edge.specs.Decimal.{decimal}
 use Rattle.mama_edge.specs.Quoted.{quoted}
 use Rattle.mama_msg.specs.Value.{IsText}
@@ -13,7 +13,9 @@ use Rattle.mama_words.specs.declared.order.OrderWord.{OrderWord}
 use Rattle.mama_words.specs.declared.order.OrderWord.TheVariants as orders
 use Rattle.mama_words.specs.Reading.{◌>>=◌}
 use Rattle.mama_words.specs.Parting.{parted_in, is_empty_word}
-use Rattle.mama_words.specs.Order.{order_words, IsOrder}
+use Rattle.mama_words.specs.Order.{order_words, IsOrder, IsId}
+use Rattle.mama_words.specs.declared.id.IdWord.{IdWord}
+use Rattle.mama_words.specs.Id.{id_text}
 use Rattle.mama_words.specs.Sentence.{sentence}
 use Rattle.mama_words.specs.WordForm.{IsWord, AreWords}
 use Rattle.mama_words.proofs.Numbers.{number_in_again}
@@ -21,20 +23,24 @@ use Rattle.mama_words.proofs.Cutting.{decimal_lacks}
 use Rattle.mama_words.proofs.KindLaws.{sub_kind_again, strategy_again}
 use Rattle.mama_words.proofs.ValueLaws.{text_again}
 use Rattle.mama_words.specs.declared.version.Version.{Version}
+use Rattle.mama_words.specs.declared.version.Version.TheVariants as version
 use Rattle.mama_words.specs.Value.{nums_of}
 use Rattle.mama_words.proofs.FieldLaws.{message_again}
+use Rattle.mama_words.proofs.IdLaws.{id_again}
 use Rattle.mama_words.proofs.OrderLaws.{order_again}
 use Rattle.mama_words.proofs.Sentences.{parted_again, is_simple, piece_simple}
-use Rattle.mama_words.proofs.Spellings.{decimal_word, sub_kind_word, strategy_word, quoted_word, field_words, order_word}
+use Rattle.mama_words.proofs.Spellings.{decimal_word, sub_kind_word, strategy_word, quoted_word, field_words, order_word, id_word}
 use Rattle.mama_script.specs.declared.head.Place.{Place}
 use Rattle.mama_script.specs.declared.line.QueueName.{QueueName}
 use Rattle.mama_script.specs.declared.line.QueueName.TheVariants.{Number, Any}
 use Rattle.mama_script.specs.declared.line.Line.{Line}
 use Rattle.mama_script.specs.declared.line.Line.TheVariants as lines
-use Rattle.mama_script.specs.Head.{allows}
+use Rattle.mama_script.specs.declared.head.Head.{Head}
+use Rattle.mama_script.specs.declared.head.Head.TheVariants as heads
+use Rattle.mama_script.specs.Head.{allows, knows, follows_group}
 use Rattle.mama_script.specs.HeadText.{head_text}
 use Rattle.mama_script.specs.Line.{queue_text, fault_words, line_words, line_text, head_of, head_of_order, IsQueueName, IsFault, IsLine}
-use Rattle.mama_script.specs.Form.{queue_in, strategy_line_in, queues_in, topic_in, publisher_in, update_in, alone_in, pause_in, sub_in, timer_in, inbox_in, short_fault_in, hold_in, cut_in, long_fault_in, fault_in, at_in, order_line_in, now_in, body_in, head_at, form_in}
+use Rattle.mama_script.specs.Form.{queue_in, strategy_line_in, queues_in, topic_in, publisher_in, update_in, alone_in, pause_in, sub_in, timer_in, inbox_in, short_fault_in, hold_in, cut_in, long_fault_in, fault_in, at_in, order_line_in, now_in, subs_in, group_in, watch_in, body_in, head_at, form_in}
 use Rattle.mama_script.proofs.Heads.{head_at_again, between_again, decimal_is_no_word}
 
 queue_again : (q : QueueName) → IsQueueName q → queue_in (queue_text q) ≡ Some q
@@ -51,6 +57,15 @@ fault_again index (Cut keep) low high h = rw (between_again 1 4294967295 index l
 
 order_line_again : (o : OrderWord) → IsOrder o → order_line_in (order_words o) ≡ Ok (lines.Order o)
 order_line_again o h = ap (λ (r : Result OrderWord ℕ). r >>= λ order. Ok (lines.Order order)) (order_again o h)
+
+subs_again : (ids : List IdWord) → AllByRecursion IsId ids → subs_in (map (id_text 115) ids) ≡ Some ids
+subs_again [] h = refl
+subs_again (id ∷ ids) h = rw (id_again 115 id h.0, subs_again ids h.1) refl
+
+group_again : (ids : List IdWord) → (length ids == 0) ≡ false → AllByRecursion IsId ids → group_in (codes "group" ∷ map (id_text 115) ids) ≡ Ok (lines.Group ids)
+unfolding group_in
+group_again [] some h = absurd cc
+group_again (id ∷ ids) some h = rw (subs_again (id ∷ ids) h) refl
 
 order_body_again : (v : Version) (o : OrderWord) → IsOrder o → body_in v (head_of_order o) (order_words o) ≡ Ok (lines.Order o)
 order_body_again v (orders.Stop id) h = order_line_again (orders.Stop id) h
@@ -106,6 +121,9 @@ body_again v (lines.At call order) h = unfold at_in in rw (between_again 1 42949
 body_again v (lines.Order order) h = order_body_again v order h
 body_again v (lines.Now moment) h = now_again moment h
 body_again v lines.NowClock h = clock_again
+body_again v (lines.Group ids) h = group_again ids h.1 h.2
+body_again v (lines.Watch sub timer retries) h =
+    unfold watch_in in rw (id_again 115 sub h.1, id_again 116 timer h.2, between_again 0 1000 retries (omega arith) h.3 (omega (arith, h.3))) refl
 
 -- a word of small letters
 fixed : (w : List ℕ) → list_all is_simple w ≡ true → is_empty_word w ≡ false → IsWord w
@@ -120,6 +138,10 @@ fault_are_words index Lose high h = (fixed (codes "lose") refl refl, (decimal_wo
 fault_are_words index Dup high h = (fixed (codes "dup") refl refl, (decimal_word index (omega (arith, high)), tt))
 fault_are_words index (Hold by) high h = (fixed (codes "hold") refl refl, (decimal_word index (omega (arith, high)), (decimal_word by (omega (arith, h.1)), tt)))
 fault_are_words index (Cut keep) high h = (fixed (codes "cut") refl refl, (decimal_word index (omega (arith, high)), (decimal_word keep (omega (arith, h)), tt)))
+
+sub_words : (ids : List IdWord) → AllByRecursion IsId ids → AreWords (map (id_text 115) ids)
+sub_words [] h = tt
+sub_words (id ∷ ids) h = (id_word 115 id refl h.0, sub_words ids h.1)
 
 line_are_words : (v : Version) (l : Line) → IsLine v l → AreWords (line_words l)
 line_are_words v (lines.Strategy s) h = (fixed (codes "strategy") refl refl, (strategy_word s, tt))
@@ -139,6 +161,8 @@ line_are_words v (lines.At call order) h = (fixed (codes "at") refl refl, (decim
 line_are_words v (lines.Order order) h = order_word order h
 line_are_words v (lines.Now moment) h = (fixed (codes "now") refl refl, (decimal_word moment (omega (arith, h)), tt))
 line_are_words v lines.NowClock h = (fixed (codes "now") refl refl, (fixed (codes "clock") refl refl, tt))
+line_are_words v (lines.Group ids) h = (fixed (codes "group") refl refl, sub_words ids h.2)
+line_are_words v (lines.Watch sub timer retries) h = (fixed (codes "watch") refl refl, (id_word 115 sub refl h.1, (id_word 116 timer refl h.2, (decimal_word retries (omega (arith, h.3)), tt))))
 
 -- the words of a line behind its head
 abbrev tail : List (List ℕ) → List (List ℕ)
@@ -168,6 +192,8 @@ line_begins (lines.At call order) = refl
 line_begins (lines.Order order) = order_begins order
 line_begins (lines.Now moment) = refl
 line_begins lines.NowClock = refl
+line_begins (lines.Group ids) = refl
+line_begins (lines.Watch sub timer retries) = refl
 
 -- the words of a line's text are the line's
 pub line_parted : (v : Version) (l : Line) → IsLine v l → parted_in (line_text l) ≡ Some (line_words l)
@@ -178,8 +204,46 @@ line_parted v l h =
     let words : AreWords (first ∷ rest) = subst (λ (ws : List (List ℕ)). AreWords ws) e (line_are_words v l h) in
     ap (λ (ws : List (List ℕ)). parted_in (sentence ws)) e ∙ parted_again first rest words ∙ ap (λ (ws : List (List ℕ)). Some ws) (sym e)
 
+two_knows : (h : Head) → knows version.Two h ≡ true
+two_knows h = refl
+
+group_known : (v : Version) → v ≡ version.Two → (h : Head) → knows v h ≡ true
+group_known v e h = subst (λ (x : Version). knows x h ≡ true) (sym e) (two_knows h)
+
+-- what both versions know
+known_by_all : (v : Version) (h : Head) → not (follows_group h) ≡ true → knows v h ≡ true
+known_by_all version.One h e = e
+known_by_all version.Two h e = refl
+
+order_known : (v : Version) (o : OrderWord) → knows v (head_of_order o) ≡ true
+order_known v (orders.Stop id) = known_by_all v heads.Stop refl
+order_known v (orders.Disarm id) = known_by_all v heads.Disarm refl
+order_known v (orders.Close id) = known_by_all v heads.Close refl
+order_known v (orders.Ask id topic fids) = known_by_all v heads.Ask refl
+
+-- the version knows its lines
+pub line_known : (v : Version) (l : Line) → IsLine v l → knows v (head_of l) ≡ true
+line_known v (lines.Strategy s) h = known_by_all v heads.Strategy refl
+line_known v (lines.Queues n) h = known_by_all v heads.Queues refl
+line_known v (lines.Topic name) h = known_by_all v heads.Topic refl
+line_known v (lines.Publisher topic base) h = known_by_all v heads.Publisher refl
+line_known v (lines.Update update) h = known_by_all v heads.Update refl
+line_known v lines.Recap h = known_by_all v heads.Recap refl
+line_known v (lines.Pause rounds) h = known_by_all v heads.Pause refl
+line_known v lines.Client h = known_by_all v heads.Client refl
+line_known v (lines.Sub topic kind queue cache recaps) h = known_by_all v heads.Sub refl
+line_known v (lines.Timer queue interval) h = known_by_all v heads.Timer refl
+line_known v (lines.Inbox queue) h = known_by_all v heads.Inbox refl
+line_known v (lines.Fault row) h = known_by_all v heads.Fault refl
+line_known v (lines.At call order) h = known_by_all v heads.At refl
+line_known v (lines.Order order) h = order_known v order
+line_known v (lines.Now moment) h = known_by_all v heads.Now refl
+line_known v lines.NowClock h = known_by_all v heads.Now refl
+line_known v (lines.Group ids) h = group_known v h.0 heads.Group
+line_known v (lines.Watch sub timer retries) h = group_known v h.0 heads.Watch
+
 pub form_again : (v : Version) (place : Place) (l : Line) → IsLine v l → allows place (head_of l) ≡ true → form_in v place (line_text l) ≡ Ok l
 unfolding form_in
 form_again v place l h stands =
-    let begins : head_at place (line_words l) ≡ Some (head_of l) = ap (head_at place) (line_begins l) ∙ head_at_again place (head_of l) (tail (line_words l)) stands in
+    let begins : head_at v place (line_words l) ≡ Some (head_of l) = ap (head_at v place) (line_begins l) ∙ head_at_again v place (head_of l) (tail (line_words l)) stands (line_known v l h) in
     rw (line_parted v l h) (rw begins (body_again v l h))

@@ -1,7 +1,9 @@
 -- What is read as a line is so spelled.
-use Rattle.std.proofs.Common.{◌≡◌, ℕ, ◌≤◌, true, cond, List, [], ◌∷◌, length, Option, Some, None, Ok, Err, refl, sym, ap, subst, ◌∙◌, inl, inr}
+use Rattle.std.proofs.Common.{◌≡◌, ℕ, ◌≤◌, true, false, cond, List, [], ◌∷◌, length, map, Option, Some, None, Ok, Err, refl, sym, ap, subst, ◌∙◌, inl, inr, arith}
 use Rattle.std.specs.Prelude.{◌==◌, option_map, codes}
 use Rattle.std.specs.Str.{bytes_eq}
+use Rattle.std.specs.List.{AllByRecursion}
+use Rattle.std.proofs.lemmas.Bool.{ne_eqb}
 use Rattle.mama_edge.specs.Decimal.{decimal}
 use Rattle.mama_link.specs.declared.faults.Fault.{Fault}
 use Rattle.mama_link.specs.declared.faults.Fault.TheVariants.{Lose, Dup, Hold, Cut}
@@ -12,15 +14,19 @@ use Rattle.mama_words.specs.Parting.{parted_in}
 use Rattle.mama_words.specs.Number.{number_in, between_in}
 use Rattle.mama_words.specs.Kind.{sub_kind_in, sub_kind_text, strategy_in}
 use Rattle.mama_words.specs.declared.version.Version.{Version}
+use Rattle.mama_words.specs.declared.version.Version.TheVariants as version
+use Rattle.mama_words.specs.declared.id.IdWord.{IdWord}
+use Rattle.mama_words.specs.Id.{id_text, id_in}
 use Rattle.mama_words.specs.Value.{text_in, nums_of}
 use Rattle.mama_words.specs.Field.{message_in}
-use Rattle.mama_words.specs.Order.{order_in, order_words}
+use Rattle.mama_words.specs.Order.{order_in, order_words, IsId}
 use Rattle.mama_words.specs.Sentence.{sentence}
-use Rattle.mama_words.proofs.Choices.{some_is, ok_is, chosen, chosen_some, guard_bad, guard_step, bind_ok, or_fault_ok, step_ok, both_ok, map_some, same_text}
+use Rattle.mama_words.proofs.Choices.{some_is, ok_is, chosen, chosen_some, guard_bad, guard_step, bind_ok, or_fault_ok, step_ok, both_ok, map_some, and_then_some, same_text}
 use Rattle.mama_words.proofs.Numbers.{number_in_found}
 use Rattle.mama_words.proofs.KindLaws.{sub_kind_found, strategy_found}
 use Rattle.mama_words.proofs.ValueLaws.{text_found}
 use Rattle.mama_words.proofs.FieldLaws.{message_found}
+use Rattle.mama_words.proofs.IdLaws.{id_found}
 use Rattle.mama_words.proofs.OrderLaws.{order_found}
 use Rattle.mama_words.proofs.Sentences.{parted_found}
 use Rattle.mama_script.specs.declared.head.Head.{Head}
@@ -30,10 +36,10 @@ use Rattle.mama_script.specs.declared.line.QueueName.{QueueName}
 use Rattle.mama_script.specs.declared.line.QueueName.TheVariants.{Number, Any}
 use Rattle.mama_script.specs.declared.line.Line.{Line}
 use Rattle.mama_script.specs.declared.line.Line.TheVariants as lines
-use Rattle.mama_script.specs.Head.{head_in, allows}
+use Rattle.mama_script.specs.Head.{head_in, allows, knows}
 use Rattle.mama_script.specs.HeadText.{head_text}
 use Rattle.mama_script.specs.Line.{queue_text, line_words, line_text, head_of, head_of_order, IsQueueName, IsLine}
-use Rattle.mama_script.specs.Form.{queue_in, count_in, strategy_line_in, queues_in, topic_or_fault, topic_in, publisher_in, update_in, alone_in, pause_in, sub_in, timer_in, inbox_in, short_fault_in, hold_in, cut_in, long_fault_in, fault_in, at_in, order_line_in, now_in, body_in, head_at, form_in}
+use Rattle.mama_script.specs.Form.{queue_in, count_in, strategy_line_in, queues_in, topic_or_fault, topic_in, publisher_in, update_in, alone_in, pause_in, sub_in, timer_in, inbox_in, short_fault_in, hold_in, cut_in, long_fault_in, fault_in, at_in, order_line_in, now_in, cons_id, subs_in, group_in, watch_in, body_in, head_at, form_in}
 use Rattle.mama_script.proofs.Heads.{head_again, head_at_found, between_found}
 
 -- a line with this head, whose other words are these
@@ -297,25 +303,84 @@ order_line_found v head rest l e =
     let same : head_of_order p.0 ≡ head = sym (same_head head (head_of_order p.0) (order_head p.0 head rest f.1)) in
     subst (λ (x : Line). Spelled v head rest x) (ok_is (lines.Order p.0) l p.2) (record { fits = f.0; head_is = same; words_are = f.1 })
 
-body_found : (v : Version) (head : Head) (rest : List (List ℕ)) (l : Line) → body_in v head (head_text head ∷ rest) ≡ Ok l → Spelled v head rest l
-body_found v heads.Strategy rest l e = strategy_line_found v rest l e
-body_found v heads.Queues rest l e = queues_found v rest l e
-body_found v heads.Topic rest l e = topic_found v rest l e
-body_found v heads.Publisher rest l e = publisher_found v rest l e
-body_found v heads.Update rest l e = update_found v rest l e
-body_found v heads.Recap rest l e = recap_found v rest l e
-body_found v heads.Pause rest l e = pause_found v rest l e
-body_found v heads.Client rest l e = client_found v rest l e
-body_found v heads.Sub rest l e = sub_found v rest l e
-body_found v heads.Timer rest l e = timer_found v rest l e
-body_found v heads.Inbox rest l e = inbox_found v rest l e
-body_found v heads.Fault rest l e = fault_found v rest l e
-body_found v heads.At rest l e = at_found v rest l e
-body_found v heads.Stop rest l e = order_line_found v heads.Stop rest l e
-body_found v heads.Disarm rest l e = order_line_found v heads.Disarm rest l e
-body_found v heads.Close rest l e = order_line_found v heads.Close rest l e
-body_found v heads.Ask rest l e = order_line_found v heads.Ask rest l e
-body_found v heads.Now rest l e = now_found v rest l e
+-- what only version 2 knows is of version 2
+group_is_known : (v : Version) → knows v heads.Group ≡ true → v ≡ version.Two
+group_is_known version.One e = absurd cc
+group_is_known version.Two e = refl
+
+watch_is_known : (v : Version) → knows v heads.Watch ≡ true → v ≡ version.Two
+watch_is_known version.One e = absurd cc
+watch_is_known version.Two e = refl
+
+cons_is : (id : IdWord) (o : Option (List IdWord)) (ids : List IdWord) → cons_id id o ≡ Some ids → (rest : List IdWord) × (o ≡ Some rest) × (id ∷ rest ≡ ids)
+cons_is id None ids e = absurd cc
+cons_is id (Some rest) ids e = (rest, refl, some_is (id ∷ rest) ids e)
+
+subs_found : (ws : List (List ℕ)) (ids : List IdWord) → subs_in ws ≡ Some ids → AllByRecursion IsId ids × (ws ≡ map (id_text 115) ids)
+subs_found [] ids e = subst (λ (x : List IdWord). AllByRecursion IsId x × ([] ≡ map (id_text 115) x)) (some_is [] ids e) (tt, refl)
+subs_found (w ∷ ws) ids e =
+    let p = and_then_some (λ id. cons_id id (subs_in ws)) (id_in 115 w) ids e in
+    let q = cons_is p.0 (subs_in ws) ids p.2 in
+    let f = id_found 115 w p.0 p.1 in
+    let more = subs_found ws q.0 q.1 in
+    subst (λ (x : List IdWord). AllByRecursion IsId x × (w ∷ ws ≡ map (id_text 115) x)) q.2
+    ((f.0, more.0), ap (λ (x : List ℕ). x ∷ ws) f.1 ∙ ap (λ (x : List (List ℕ)). id_text 115 p.0 ∷ x) more.1)
+
+-- the words of a member and more give an id and more
+some_ids : (w : List ℕ) (ws : List (List ℕ)) (ids : List IdWord) → w ∷ ws ≡ map (id_text 115) ids → (length ids == 0) ≡ false
+some_ids w ws [] e = absurd cc
+some_ids w ws (id ∷ ids) e = ne_eqb (length (id ∷ ids)) 0 (λ z. omega (arith, z))
+
+group_found : (v : Version) → knows v heads.Group ≡ true → (rest : List (List ℕ)) (l : Line) → group_in (head_text heads.Group ∷ rest) ≡ Ok l → Spelled v heads.Group rest l
+unfolding group_in
+group_found v known [] l e = absurd cc
+group_found v known (w ∷ ws) l e =
+    let p = step_ok 5 (subs_in (w ∷ ws)) _ l e in
+    let f = subs_found (w ∷ ws) p.0 p.1 in
+    subst (λ (x : Line). Spelled v heads.Group (w ∷ ws) x) (ok_is (lines.Group p.0) l p.2)
+    (record { fits = (group_is_known v known, some_ids w ws p.0 f.1, f.0); head_is = refl; words_are = ap (λ (x : List (List ℕ)). codes "group" ∷ x) f.1 })
+
+watch_found : (v : Version) → knows v heads.Watch ≡ true → (rest : List (List ℕ)) (l : Line) → watch_in (head_text heads.Watch ∷ rest) ≡ Ok l → Spelled v heads.Watch rest l
+unfolding watch_in
+watch_found v known [] l e = absurd cc
+watch_found v known (a ∷ []) l e = absurd cc
+watch_found v known (a ∷ b ∷ []) l e = absurd cc
+watch_found v known (sub ∷ timer ∷ retries ∷ []) l e =
+    let s = step_ok 5 (id_in 115 sub) _ l e in
+    let t = step_ok 5 (id_in 116 timer) _ l s.2 in
+    let r = step_ok 5 (between_in 0 1000 retries) _ l t.2 in
+    let sub_is = id_found 115 sub s.0 s.1 in
+    let timer_is = id_found 116 timer t.0 t.1 in
+    let retries_is = between_found 0 1000 retries r.0 r.1 in
+    subst (λ (x : Line). Spelled v heads.Watch (sub ∷ timer ∷ retries ∷ []) x) (ok_is (lines.Watch s.0 t.0 r.0) l r.2)
+    (record {
+      fits = (watch_is_known v known, sub_is.0, timer_is.0, retries_is.high);
+      head_is = refl;
+      words_are = same_three (codes "watch") sub (id_text 115 s.0) timer (id_text 116 t.0) retries (decimal r.0) sub_is.1 timer_is.1 retries_is.text_is;
+    })
+watch_found v known (a ∷ b ∷ c ∷ d ∷ ws) l e = absurd cc
+
+body_found : (v : Version) (head : Head) → knows v head ≡ true → (rest : List (List ℕ)) (l : Line) → body_in v head (head_text head ∷ rest) ≡ Ok l → Spelled v head rest l
+body_found v heads.Strategy known rest l e = strategy_line_found v rest l e
+body_found v heads.Queues known rest l e = queues_found v rest l e
+body_found v heads.Topic known rest l e = topic_found v rest l e
+body_found v heads.Publisher known rest l e = publisher_found v rest l e
+body_found v heads.Update known rest l e = update_found v rest l e
+body_found v heads.Recap known rest l e = recap_found v rest l e
+body_found v heads.Pause known rest l e = pause_found v rest l e
+body_found v heads.Client known rest l e = client_found v rest l e
+body_found v heads.Sub known rest l e = sub_found v rest l e
+body_found v heads.Timer known rest l e = timer_found v rest l e
+body_found v heads.Inbox known rest l e = inbox_found v rest l e
+body_found v heads.Fault known rest l e = fault_found v rest l e
+body_found v heads.At known rest l e = at_found v rest l e
+body_found v heads.Stop known rest l e = order_line_found v heads.Stop rest l e
+body_found v heads.Disarm known rest l e = order_line_found v heads.Disarm rest l e
+body_found v heads.Close known rest l e = order_line_found v heads.Close rest l e
+body_found v heads.Ask known rest l e = order_line_found v heads.Ask rest l e
+body_found v heads.Now known rest l e = now_found v rest l e
+body_found v heads.Group known rest l e = group_found v known rest l e
+body_found v heads.Watch known rest l e = watch_found v known rest l e
 
 -- a line that is read at a place
 pub record IsRead (v : Version) (place : Place) (text : List ℕ) (l : Line) : Type 0 where
@@ -327,10 +392,10 @@ pub form_found : (v : Version) (place : Place) (text : List ℕ) (l : Line) → 
 unfolding form_in
 form_found v place text l e =
     let w = step_ok 2 (parted_in text) _ l e in
-    let h = step_ok 3 (head_at place w.0) _ l w.2 in
-    let b = head_at_found place w.0 h.0 h.1 in
+    let h = step_ok 3 (head_at v place w.0) _ l w.2 in
+    let b = head_at_found v place w.0 h.0 h.1 in
     let body : body_in v h.0 (head_text h.0 ∷ b.rest) ≡ Ok l = sym (ap (body_in v h.0) b.words_are) ∙ h.2 in
-    let s = body_found v h.0 b.rest l body in
+    let s = body_found v h.0 b.known b.rest l body in
     record {
       fits = s.fits;
       stands = ap (allows place) s.head_is ∙ b.stands;

@@ -1,10 +1,11 @@
 -- First words: what is read begins so, and numbers between two bounds.
-use Rattle.std.proofs.Common.{◌≡◌, ℕ, ◌<◌, ◌≤◌, ◌^◌, Bool, true, false, cond, ltb, List, [], ◌∷◌, Option, Some, None, refl, sym, ap, subst, ◌∙◌, inl, inr, arith}
+use Rattle.std.proofs.Common.{◌≡◌, ℕ, ◌<◌, ◌≤◌, ◌^◌, Bool, true, false, cond, ltb, List, [], ◌∷◌, Option, Some, None, refl, sym, ap, subst, ◌∙◌, arith}
+use Rattle.std.specs.Prelude.{◌&&◌}
 use Rattle.std.specs.Str.{bytes_eq}
-use Rattle.std.proofs.lemmas.Bool.{ltb-false, le-ltb}
+use Rattle.std.proofs.lemmas.Bool.{ltb-false, le-ltb, and_parts}
 use Rattle.mama_edge.specs.Decimal.{decimal}
 use Rattle.mama_words.specs.Number.{number_in, between_in, if_between}
-use Rattle.mama_words.proofs.Choices.{some_is, chosen, chosen_some, chosen_other, same_text}
+use Rattle.mama_words.proofs.Choices.{some_is, chosen_some, chosen_other, same_text}
 use Rattle.mama_words.specs.Named.{named_in}
 use Rattle.mama_words.proofs.Named.{named_found}
 use Rattle.mama_words.proofs.Cutting.{lacks}
@@ -12,7 +13,8 @@ use Rattle.mama_words.proofs.Numbers.{number_in_again, number_in_found}
 use Rattle.mama_script.specs.declared.head.Head.{Head}
 use Rattle.mama_script.specs.declared.head.Head.TheVariants as heads
 use Rattle.mama_script.specs.declared.head.Place.{Place}
-use Rattle.mama_script.specs.Head.{head_in, allows}
+use Rattle.mama_words.specs.declared.version.Version.{Version}
+use Rattle.mama_script.specs.Head.{head_in, allows, knows}
 use Rattle.mama_script.specs.HeadText.{head_text}
 use Rattle.mama_script.specs.Form.{if_allowed, head_at}
 
@@ -36,10 +38,12 @@ head_again heads.Disarm = refl
 head_again heads.Close = refl
 head_again heads.Ask = refl
 head_again heads.Now = refl
+head_again heads.Group = refl
+head_again heads.Watch = refl
 
 abbrev pub all_heads : List Head
 all_heads =
-    heads.Strategy ∷ heads.Queues ∷ heads.Topic ∷ heads.Publisher ∷ heads.Update ∷ heads.Recap ∷ heads.Pause ∷ heads.Client ∷ heads.Sub ∷ heads.Timer ∷ heads.Inbox ∷ heads.Fault ∷ heads.At ∷ heads.Stop ∷ heads.Disarm ∷ heads.Close ∷ heads.Ask ∷ heads.Now ∷ []
+    heads.Strategy ∷ heads.Queues ∷ heads.Topic ∷ heads.Publisher ∷ heads.Update ∷ heads.Recap ∷ heads.Pause ∷ heads.Client ∷ heads.Sub ∷ heads.Timer ∷ heads.Inbox ∷ heads.Fault ∷ heads.At ∷ heads.Stop ∷ heads.Disarm ∷ heads.Close ∷ heads.Ask ∷ heads.Now ∷ heads.Group ∷ heads.Watch ∷ []
 
 -- reading is looking for the first head that has the word
 pub head_named : (word : List ℕ) → named_in head_text word all_heads ≡ head_in word
@@ -49,29 +53,32 @@ head_named word = refl
 pub head_found : (word : List ℕ) (h : Head) → head_in word ≡ Some h → word ≡ head_text h
 head_found word h e = named_found head_text word all_heads h (head_named word ∙ e)
 
--- a head that may stand at a place begins the words
-pub record Begins (place : Place) (words : List (List ℕ)) (h : Head) : Type 0 where
+-- a head that may stand at a place, and that the version knows, begins the words
+pub record Begins (v : Version) (place : Place) (words : List (List ℕ)) (h : Head) : Type 0 where
   pub rest : List (List ℕ)
   pub words_are : words ≡ head_text h ∷ rest
   pub stands : allows place h ≡ true
+  pub known : knows v h ≡ true
 
-allowed_found : (place : Place) (word : List ℕ) (rest : List (List ℕ)) (o : Option Head) (h : Head) → head_in word ≡ o → if_allowed place o ≡ Some h → Begins place (word ∷ rest) h
-allowed_found place word rest None h read e = absurd cc
-allowed_found place word rest (Some k) h read e =
-    let p = chosen_some (allows place k) k h e in
+allowed_found : (v : Version) (place : Place) (word : List ℕ) (rest : List (List ℕ)) (o : Option Head) (h : Head) → head_in word ≡ o → if_allowed v place o ≡ Some h → Begins v place (word ∷ rest) h
+allowed_found v place word rest None h read e = absurd cc
+allowed_found v place word rest (Some k) h read e =
+    let p = chosen_some (allows place k && knows v k) k h e in
+    let q = and_parts (allows place k) (knows v k) p.0 in
     let same : head_in word ≡ Some h = read ∙ ap (λ (x : Head). Some x) p.1 in
     record {
       rest = rest;
       words_are = ap (λ (w : List ℕ). w ∷ rest) (head_found word h same);
-      stands = subst (λ (x : Head). allows place x ≡ true) p.1 p.0;
+      stands = subst (λ (x : Head). allows place x ≡ true) p.1 q.0;
+      known = subst (λ (x : Head). knows v x ≡ true) p.1 q.1;
     }
 
-pub head_at_found : (place : Place) (words : List (List ℕ)) (h : Head) → head_at place words ≡ Some h → Begins place words h
-head_at_found place [] h e = absurd cc
-head_at_found place (word ∷ rest) h e = allowed_found place word rest (head_in word) h refl e
+pub head_at_found : (v : Version) (place : Place) (words : List (List ℕ)) (h : Head) → head_at v place words ≡ Some h → Begins v place words h
+head_at_found v place [] h e = absurd cc
+head_at_found v place (word ∷ rest) h e = allowed_found v place word rest (head_in word) h refl e
 
-pub head_at_again : (place : Place) (h : Head) (rest : List (List ℕ)) → allows place h ≡ true → head_at place (head_text h ∷ rest) ≡ Some h
-head_at_again place h rest stands = ap (if_allowed place) (head_again h) ∙ rw stands refl
+pub head_at_again : (v : Version) (place : Place) (h : Head) (rest : List (List ℕ)) → allows place h ≡ true → knows v h ≡ true → head_at v place (head_text h ∷ rest) ≡ Some h
+head_at_again v place h rest stands known = ap (if_allowed v place) (head_again h) ∙ rw (stands, known) refl
 
 between_some : (low high : ℕ) (o : Option ℕ) (n : ℕ) → if_between low high o ≡ Some n → (low ≤ n) × (n ≤ high) × (o ≡ Some n)
 between_some low high None n e = absurd cc

@@ -14,9 +14,10 @@ use Rattle.mama_script.specs.declared.names.Made.{Made}
 use Rattle.mama_script.specs.Line.{IsLine}
 use Rattle.mama_script.specs.Before.{Before, start, after, flaw}
 use Rattle.mama_script.specs.Names.{is_named, made_by, unnamed_from}
+use Rattle.mama_script.specs.Placing.{Cast, Placed, cast_of, none_placed, misplaced, placed_with, fault_at, misplaced_from}
 use Rattle.mama_script.specs.Reading.{FitFrom, AreAccepted}
 use Rattle.mama_script.specs.Script.{ScriptData}
-use Rattle.mama_script.specs.Tree.{strategy_lines, topic_line, publisher_lines, client_lines, in_two, IsScript}
+use Rattle.mama_script.specs.Tree.{strategy_lines, topic_line, publisher_lines, client_lines, last_lines, in_two, IsScript}
 
 abbrev two : Before → Before
 two b = record b { version = Two }
@@ -38,6 +39,8 @@ line_two v (lines.At call order) h = h
 line_two v (lines.Order order) h = h
 line_two v (lines.Now moment) h = h
 line_two v lines.NowClock h = h
+line_two v (lines.Group ids) h = (refl, h.1, h.2)
+line_two v (lines.Watch sub timer retries) h = (refl, h.1, h.2, h.3)
 
 -- no other rule looks at the version
 flaw_two : (b : Before) (l : Line) → flaw (two b) l ≡ flaw b l
@@ -66,6 +69,8 @@ flaw_two b (lines.Order (orders.Close id)) = refl
 flaw_two b (lines.Order (orders.Ask id topic fids)) = refl
 flaw_two b (lines.Now moment) = refl
 flaw_two b lines.NowClock = refl
+flaw_two b (lines.Group ids) = refl
+flaw_two b (lines.Watch sub timer retries) = refl
 
 after_two : (b : Before) (l : Line) → after (two b) l ≡ two (after b l)
 after_two b (lines.Strategy s) = refl
@@ -84,6 +89,8 @@ after_two b (lines.At call order) = refl
 after_two b (lines.Order order) = refl
 after_two b (lines.Now moment) = refl
 after_two b lines.NowClock = refl
+after_two b (lines.Group ids) = refl
+after_two b (lines.Watch sub timer retries) = refl
 
 fit_two : (b : Before) (ls : List Line) → FitFrom b ls → FitFrom (two b) ls
 fit_two b [] h = h
@@ -100,15 +107,25 @@ unnamed_further : (made : List Made) (k : ℕ) (ls : List Line) → unnamed_from
 unnamed_further made k [] h = refl
 unnamed_further made k (l ∷ ls) h = named_further made l (unnamed_from made (suc k) ls) (unnamed_from made (suc (suc k)) ls) k (is_named made l) refl h (unnamed_further made (suc k) ls)
 
+placed_further : (k : ℕ) (o : Option ℕ) (rest later : Option (ℕ × ℕ)) → fault_at k o rest ≡ None → (rest ≡ None → later ≡ None) → fault_at (suc k) o later ≡ None
+placed_further k None rest later h more = more h
+placed_further k (Some fault) rest later h more = absurd cc
+
+misplaced_further : (c : Cast) (p : Placed) (k : ℕ) (ls : List Line) → misplaced_from c p k ls ≡ None → misplaced_from c p (suc k) ls ≡ None
+misplaced_further c p k [] h = refl
+misplaced_further c p k (l ∷ ls) h =
+    placed_further k (misplaced c p l) (misplaced_from c (placed_with p l) (suc k) ls) (misplaced_from c (placed_with p l) (suc (suc k)) ls) h (misplaced_further c (placed_with p l) (suc k) ls)
+
 accepted_two : (v : Version) (told : Strategy) (queues : ℕ) (ls : List Line) → AreAccepted (strategy_lines v told ++ lines.Queues queues ∷ ls) → AreAccepted (strategy_lines Two told ++ lines.Queues queues ∷ ls)
 accepted_two Two told queues ls h = h
 accepted_two One told queues ls h = record {
   fit = (record { form = tt; place = refl; sound = refl }, fit_two (start One) (lines.Queues queues ∷ ls) h.fit);
   named = unnamed_further (made_by (lines.Queues queues ∷ ls)) 2 (lines.Queues queues ∷ ls) h.named;
+  placed = misplaced_further (cast_of (lines.Queues queues ∷ ls)) none_placed 2 (lines.Queues queues ∷ ls) h.placed;
 }
 
 pub script_two : (s : ScriptData) → IsScript s → IsScript (in_two s)
 script_two s is = record {
-  shaped = record { clients = is.shaped.clients; topics = is.shaped.topics; publishers = is.shaped.publishers; strategy = tt };
-  accepted = accepted_two s.version s.shape.strategy s.shape.bounds.queues (map topic_line s.topics ++ (flat_map publisher_lines s.publishers ++ flat_map client_lines s.clients)) is.accepted;
+  shaped = record { clients = is.shaped.clients; topics = is.shaped.topics; publishers = is.shaped.publishers; strategy = tt; senders = is.shaped.senders };
+  accepted = accepted_two s.version s.shape.strategy s.shape.bounds.queues (map topic_line s.topics ++ (flat_map publisher_lines s.publishers ++ (flat_map client_lines s.clients ++ last_lines s.groups s.watches))) is.accepted;
 }

@@ -8,6 +8,8 @@ use Rattle.std.proofs.lemmas.Bool.{ltb-false, leb-false, eqb-true, eqb-false}
 use Rattle.mama_event.specs.declared.order.Order.{Order}
 use Rattle.mama_event.specs.declared.order.Order.TheVariants as orders
 use Rattle.mama_event.specs.declared.order.PlanRow.{PlanRow}
+use Rattle.mama_event.specs.declared.group.GroupRow.{GroupRow}
+use Rattle.mama_event.specs.declared.watch.WatchRow.{WatchRow}
 use Rattle.mama_link.specs.declared.faults.FaultRow.{FaultRow}
 use Rattle.mama_msg.specs.Message.{apply}
 use Rattle.mama_words.specs.Order.{word_of}
@@ -24,16 +26,19 @@ use Rattle.mama_script.specs.declared.client.QueueWord.TheVariants.{Number, Any}
 use Rattle.mama_script.specs.declared.client.ClientLine.{ClientLine}
 use Rattle.mama_script.specs.declared.client.ClientLine.TheVariants as steps
 use Rattle.mama_script.specs.Script.{ScriptData}
-use Rattle.mama_script.specs.Head.{may_end}
+use Rattle.mama_script.specs.declared.head.Head.TheVariants as heads
+use Rattle.mama_script.specs.declared.head.Place.{Place}
+use Rattle.mama_script.specs.Head.{allows, may_end}
 use Rattle.mama_script.specs.Before.{Before, start, after, flaw_if, first_flaw, beside, topic_flaw, queue_flaw, order_flaw, object_flaw, number_at, after_queues, after_publisher, after_client, after_sub, after_timer, after_inbox, after_fault, after_at}
-use Rattle.mama_script.specs.Reading.{version_of, FitFrom}
-use Rattle.mama_script.specs.Tree.{queue_name, plan_line, fault_line, object_lines, publisher_line, publisher_lines, step_lines, client_lines, topic_line, strategy_lines, IsScript}
+use Rattle.mama_script.specs.Reading.{version_of, FitFrom, AreAccepted}
+use Rattle.mama_script.specs.Tree.{queue_name, plan_line, fault_line, object_lines, publisher_line, publisher_lines, step_lines, client_lines, topic_line, strategy_lines, last_lines, IsScript}
 use Rattle.mama_words.specs.declared.version.Version.{Version}
 use Rattle.mama_words.specs.declared.version.Version.TheVariants as version
 use Rattle.mama_event.specs.declared.shape.Strategy.{Strategy}
 use Rattle.mama_script.specs.Within.{IsQueueWithin, IsOrderWithin, AreOrdersWithin, planned, IsPlanWithin, IsStepWithin, subs_of, objects_of, subs_in, objects_in, all_subs, IsClientWithin, AreSendsWithin, IsPublisherWithin, IsWithin}
 use Rattle.mama_script.proofs.Counts.{number_at-insert}
 use Rattle.mama_script.proofs.Naming.{script_named}
+use Rattle.mama_script.proofs.Listed.{unlisted, few_lists, lists_apart}
 
 -- ---- tests that found nothing
 
@@ -261,13 +266,14 @@ record ClientsOn (b : Before) (cs : List (List ClientLine)) : Type 0 where
   subs_few : b.subs ≤ 10000 → b.subs + all_subs cs ≤ 10000
   clients : AllByRecursion (IsClientWithin b.topics b.queues) cs
 
-clients_on : (b : Before) (cs : List (List ClientLine)) → FitFrom b (flat_map client_lines cs) → ClientsOn b cs
-clients_on b [] h = record { few = λ h. omega (arith, h); subs_few = λ h. omega (arith, h); clients = tt }
-clients_on b (c ∷ cs) h =
+clients_on : (b : Before) (cs : List (List ClientLine)) (rest : List Line) → FitFrom b (flat_map client_lines cs ++ rest) → ClientsOn b cs
+clients_on b [] rest h = record { few = λ h. omega (arith, h); subs_few = λ h. omega (arith, h); clients = tt }
+clients_on b (c ∷ cs) rest h =
     let lt = leb-false 64 b.clients (flaw_none (leb 64 b.clients) (Limit 5) None h.0.sound).0 in
-    let one = steps_on (after_client b) c (flat_map client_lines cs) h.1 in
+    let behind = flat_map client_lines cs ++ rest in
+    let one = steps_on (after_client b) c behind (subst (λ (ls : List Line). FitFrom (after_client b) ls) (append_assoc (flat_map step_lines c) (flat_map client_lines cs) rest) h.1) in
     let x = one.on in
-    let more = clients_on x.next cs x.fits in
+    let more = clients_on x.next cs rest x.fits in
     let topics : AllByRecursion (IsClientWithin b.topics x.next.queues) cs = subst (λ (t : ℕ). AllByRecursion (IsClientWithin t x.next.queues) cs) x.topics more.clients in
     record {
       few = λ few. omega (arith, more.few (omega (arith, x.clients, lt)), x.clients);
@@ -357,9 +363,37 @@ topics_on b (name ∷ names) rest h =
 
 -- ---- the script
 
-some_client : (b : Before) (cs : List (List ClientLine)) → may_end b.place ≡ false → FitFrom b (flat_map client_lines cs) → 1 ≤ length cs
-some_client b [] ends h = let bad : true ≡ false = sym h ∙ ends in absurd cc
-some_client b (c ∷ cs) ends h = omega arith
+-- where a script may not end, neither groups nor watches may stand
+never_group : (p : Place) → may_end p ≡ false → allows p heads.Group ≡ true → ⊥
+never_group places.Strategy no_end h = cc
+never_group places.Start no_end h = cc
+never_group places.Topics no_end h = cc
+never_group places.Publisher no_end h = cc
+never_group places.Client no_end h = cc
+never_group places.Linked no_end h = cc
+never_group places.Planned no_end h = cc
+never_group places.Groups no_end h = cc
+never_group places.Watches no_end h = cc
+
+never_watch : (p : Place) → may_end p ≡ false → allows p heads.Watch ≡ true → ⊥
+never_watch places.Strategy no_end h = cc
+never_watch places.Start no_end h = cc
+never_watch places.Topics no_end h = cc
+never_watch places.Publisher no_end h = cc
+never_watch places.Client no_end h = cc
+never_watch places.Linked no_end h = cc
+never_watch places.Planned no_end h = cc
+never_watch places.Groups no_end h = cc
+never_watch places.Watches no_end h = cc
+
+no_line : (b : Before) (groups : List GroupRow) (watches : List WatchRow) → may_end b.place ≡ false → FitFrom b (last_lines groups watches) → ⊥
+no_line b [] [] ends h = let bad : true ≡ false = sym h ∙ ends in cc
+no_line b [] (w ∷ ws) ends h = never_watch b.place ends h.0.place
+no_line b (g ∷ gs) ws ends h = never_group b.place ends h.0.place
+
+some_client : (b : Before) (cs : List (List ClientLine)) (groups : List GroupRow) (watches : List WatchRow) → may_end b.place ≡ false → FitFrom b (flat_map client_lines cs ++ last_lines groups watches) → 1 ≤ length cs
+some_client b [] groups watches ends h = absurd (no_line b groups watches ends h)
+some_client b (c ∷ cs) groups watches ends h = omega arith
 
 -- in front of the queues
 abbrev opened : Version → Before
@@ -369,31 +403,74 @@ body_fits : (v : Version) (told : Strategy) (queues : ℕ) (ls : List Line) → 
 body_fits version.One told queues ls h = h
 body_fits version.Two told queues ls h = h.1
 
-pub script_within : (s : ScriptData) → IsScript s → IsWithin s
-script_within s is =
-    let q = s.shape.bounds.queues in
-    let b = after_queues q (opened s.version) in
-    let clients = flat_map client_lines s.clients in
-    let publishers = flat_map publisher_lines s.publishers ++ clients in
-    let fit = body_fits s.version s.shape.strategy q (map topic_line s.topics ++ publishers) is.accepted.fit in
+-- what lines say of their sections, whatever stands behind those
+pub record SectionsOn (queues : ℕ) (topics : List (List ℕ)) (publishers : List PublisherPart) (clients : List (List ClientLine)) (rest : List Line) : Type 0 where
+  pub queues_some : 1 ≤ queues
+  pub queues_few : queues ≤ 64
+  pub topics_few : length topics ≤ 1024
+  pub publishers_few : length publishers ≤ 1024
+  pub clients_few : length clients ≤ 64
+  pub subs_few : all_subs clients ≤ 10000
+  pub publishers_are : AllByRecursion (IsPublisherWithin (length topics)) publishers
+  pub clients_are : AllByRecursion (IsClientWithin (length topics) queues) clients
+  pub before : Before
+  pub no_end : may_end before.place ≡ false
+  pub fits : FitFrom before (flat_map client_lines clients ++ rest)
+
+-- the lines of sections, and what stands behind them
+abbrev pub sections_of : Version → Strategy → ℕ → List (List ℕ) → List PublisherPart → List (List ClientLine) → List Line → List Line
+sections_of v told queues topics publishers clients rest = strategy_lines v told ++ lines.Queues queues ∷ (map topic_line topics ++ (flat_map publisher_lines publishers ++ (flat_map client_lines clients ++ rest)))
+
+pub sections_on : (v : Version) (told : Strategy) (queues : ℕ) (topics : List (List ℕ)) (publishers : List PublisherPart) (clients : List (List ClientLine)) (rest : List Line)
+    → AreAccepted (sections_of v told queues topics publishers clients rest) → SectionsOn queues topics publishers clients rest
+sections_on v told q topics publishers clients rest accepted =
+    let b = after_queues q (opened v) in
+    let behind_publishers = flat_map client_lines clients ++ rest in
+    let behind_topics = flat_map publisher_lines publishers ++ behind_publishers in
+    let fit = body_fits v told q (map topic_line topics ++ behind_topics) accepted.fit in
     let few = ltb-false 64 q (flaw_none (ltb 64 q) (Limit 2) None fit.0.sound).0 in
-    let t = topics_on b s.topics publishers fit.1 in
-    let p = publishers_on t.next s.publishers clients t.fits in
-    let c = clients_on p.next s.clients p.fits in
-    let topics_are : t.next.topics ≡ length s.topics = omega (arith, t.topics) in
-    let no_end : may_end p.next.place ≡ false = p.ends (ap may_end t.place) in
+    let t = topics_on b topics behind_topics fit.1 in
+    let p = publishers_on t.next publishers behind_publishers t.fits in
+    let c = clients_on p.next clients rest p.fits in
+    let topics_are : t.next.topics ≡ length topics = omega (arith, t.topics) in
     let zero_clients : p.next.clients ≡ 0 = p.clients ∙ t.clients in
     let zero_subs : p.next.subs ≡ 0 = p.subs ∙ t.subs in
-    let by_topics : AllByRecursion (IsClientWithin (length s.topics) p.next.queues) s.clients = subst (λ (n : ℕ). AllByRecursion (IsClientWithin n p.next.queues) s.clients) (p.topics ∙ topics_are) c.clients in
+    let by_topics : AllByRecursion (IsClientWithin (length topics) p.next.queues) clients = subst (λ (n : ℕ). AllByRecursion (IsClientWithin n p.next.queues) clients) (p.topics ∙ topics_are) c.clients in
     record {
       queues_some = fit.0.form.0;
       queues_few = few;
       topics_few = omega (arith, t.few (omega arith), topics_are);
       publishers_few = omega (arith, p.few (omega (arith, t.publishers)), t.publishers);
-      clients_some = some_client p.next s.clients no_end p.fits;
       clients_few = omega (arith, c.few (omega (arith, zero_clients)), zero_clients);
       subs_few = omega (arith, c.subs_few (omega (arith, zero_subs)), zero_subs);
-      publishers = subst (λ (n : ℕ). AllByRecursion (IsPublisherWithin n) s.publishers) topics_are p.publishers;
-      clients = subst (λ (n : ℕ). AllByRecursion (IsClientWithin (length s.topics) n) s.clients) (p.queues ∙ t.queues) by_topics;
+      publishers_are = subst (λ (n : ℕ). AllByRecursion (IsPublisherWithin n) publishers) topics_are p.publishers;
+      clients_are = subst (λ (n : ℕ). AllByRecursion (IsClientWithin (length topics) n) clients) (p.queues ∙ t.queues) by_topics;
+      before = p.next;
+      no_end = p.ends (ap may_end t.place);
+      fits = p.fits;
+    }
+
+pub script_within : (s : ScriptData) → IsScript s → IsWithin s
+script_within s is =
+    let on = sections_on s.version s.shape.strategy s.shape.bounds.queues s.topics s.publishers s.clients (last_lines s.groups s.watches) is.accepted in
+    let lists = few_lists s is in
+    let apart = lists_apart s is in
+    record {
+      queues_some = on.queues_some;
+      queues_few = on.queues_few;
+      topics_few = on.topics_few;
+      publishers_few = on.publishers_few;
+      clients_some = some_client on.before s.clients s.groups s.watches on.no_end on.fits;
+      clients_few = on.clients_few;
+      subs_few = on.subs_few;
+      publishers = on.publishers_are;
+      clients = on.clients_are;
       named = script_named s is.accepted.named;
+      groups_few = omega (arith, lists.groups, on.subs_few);
+      watches_few = omega (arith, lists.watches, on.subs_few);
+      unlisted = unlisted s is;
+      members = apart.members;
+      grouped = apart.grouped;
+      watched = apart.subs;
+      timed = apart.timers;
     }

@@ -10,7 +10,13 @@ pub mod Parsed
 pub mod Firsts
 pub mod Counts
 pub mod Naming
+pub mod Casting
 pub mod Keeping
+pub mod Listed
 pub mod Counted
 pub mod Standing
+pub mod Senders
 pub mod InTwo
+pub mod Rosters
+pub mod SenderTable
+pub mod Behind

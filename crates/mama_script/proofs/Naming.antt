@@ -2,6 +2,8 @@
 use Rattle.std.proofs.Common.{◌≡◌, ℕ, suc, Bool, true, false, cond, List, [], ◌∷◌, ◌++◌, map, Option, Some, None, refl, sym, ap, subst, ◌∙◌, append_assoc, append-nil}
 use Rattle.std.specs.List.{flat_map, AllByRecursion}
 use Rattle.mama_event.specs.declared.order.PlanRow.{PlanRow}
+use Rattle.mama_event.specs.declared.group.GroupRow.{GroupRow}
+use Rattle.mama_event.specs.declared.watch.WatchRow.{WatchRow}
 use Rattle.mama_link.specs.declared.faults.FaultRow.{FaultRow}
 use Rattle.mama_script.specs.declared.line.Line.{Line}
 use Rattle.mama_script.specs.declared.names.Made.{Made}
@@ -15,7 +17,7 @@ use Rattle.mama_script.specs.Script.{ScriptData}
 use Rattle.mama_words.specs.declared.version.Version.{Version}
 use Rattle.mama_words.specs.declared.version.Version.TheVariants as version
 use Rattle.mama_event.specs.declared.shape.Strategy.{Strategy}
-use Rattle.mama_script.specs.Tree.{plan_line, fault_line, object_lines, publisher_line, publisher_lines, step_lines, client_lines, topic_line, strategy_lines, body_lines, lines_of}
+use Rattle.mama_script.specs.Tree.{plan_line, fault_line, object_lines, publisher_line, publisher_lines, step_lines, client_lines, topic_line, strategy_lines, group_line, watch_line, last_lines, body_lines, lines_of}
 use Rattle.mama_script.specs.Within.{made_with_step, made_with_steps, made_of, ArePlanned, IsStepNamed, AreStepsNamed}
 use Rattle.mama_script.proofs.Made.{at_last_push}
 
@@ -84,17 +86,32 @@ made_opened : (v : Version) (told : Strategy) (ls : List Line) → made_by (stra
 made_opened version.One told ls = refl
 made_opened version.Two told ls = refl
 
-made_lines : (s : ScriptData) → made_by (lines_of s) ≡ map made_of s.clients
+made_groups : (made : List Made) (rows : List GroupRow) → made_after made (map group_line rows) ≡ made
+made_groups made [] = refl
+made_groups made (r ∷ rows) = made_groups made rows
+
+made_watches : (made : List Made) (rows : List WatchRow) → made_after made (map watch_line rows) ≡ made
+made_watches made [] = refl
+made_watches made (r ∷ rows) = made_watches made rows
+
+made_last : (made : List Made) (groups : List GroupRow) (watches : List WatchRow) → made_after made (last_lines groups watches) ≡ made
+made_last made groups watches =
+    made_after-append made (map group_line groups) (map watch_line watches) ∙ ap (λ (m : List Made). made_after m (map watch_line watches)) (made_groups made groups) ∙ made_watches made watches
+
+pub made_lines : (s : ScriptData) → made_by (lines_of s) ≡ map made_of s.clients
 made_lines s =
     let topics = map topic_line s.topics in
     let publishers = flat_map publisher_lines s.publishers in
     let clients = flat_map client_lines s.clients in
+    let last = last_lines s.groups s.watches in
     made_opened s.version s.shape.strategy (body_lines s)
-    ∙ made_after-append [] topics (publishers ++ clients)
-    ∙ ap (λ (x : List Made). made_after x (publishers ++ clients)) (made_topics [] s.topics)
-    ∙ made_after-append [] publishers clients
-    ∙ ap (λ (x : List Made). made_after x clients) (made_publishers [] s.publishers)
-    ∙ made_clients [] s.clients
+    ∙ made_after-append [] topics (publishers ++ (clients ++ last))
+    ∙ ap (λ (x : List Made). made_after x (publishers ++ (clients ++ last))) (made_topics [] s.topics)
+    ∙ made_after-append [] publishers (clients ++ last)
+    ∙ ap (λ (x : List Made). made_after x (clients ++ last)) (made_publishers [] s.publishers)
+    ∙ made_after-append [] clients last
+    ∙ ap (λ (x : List Made). made_after x last) (made_clients [] s.clients)
+    ∙ made_last (map made_of s.clients) s.groups s.watches
 
 -- ---- each line names what is there
 
@@ -144,6 +161,8 @@ script_named s h =
     let publishers = flat_map publisher_lines s.publishers in
     let clients = flat_map client_lines s.clients in
     let body = named_split made (strategy_lines s.version s.shape.strategy) (body_lines s) (all_named made 2 (lines_of s) h) in
-    let t = named_split made (map topic_line s.topics) (publishers ++ clients) body.1.1 in
-    let c = named_split made publishers clients t.1 in
-    subst (λ (m : List Made). AllByRecursion (AreStepsNamed m) s.clients) (made_lines s) (clients_named made s.clients c.1)
+    let last = last_lines s.groups s.watches in
+    let t = named_split made (map topic_line s.topics) (publishers ++ (clients ++ last)) body.1.1 in
+    let p = named_split made publishers (clients ++ last) t.1 in
+    let c = named_split made clients last p.1 in
+    subst (λ (m : List Made). AllByRecursion (AreStepsNamed m) s.clients) (made_lines s) (clients_named made s.clients c.0)

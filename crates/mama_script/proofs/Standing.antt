@@ -1,7 +1,7 @@
 -- Accepted lines stand in a row: their numbers are within the limits, and the faults of an object have distinct indexes.
 use Rattle.std.proofs.Common.{◌≡◌, ◌≢◌, ℕ, suc, ◌+◌, ◌<◌, ◌≤◌, ◌^◌, Bool, true, false, eqb, ltb, leb, List, [], ◌∷◌, ◌++◌, length, map, Option, Some, None, refl, sym, ap, subst, ◌∙◌, arith, length-append, append_assoc, append-nil}
 use Rattle.std.specs.Prelude.{◌||◌, ◌==◌, slice_get}
-use Rattle.std.specs.List.{flat_map, list_any}
+use Rattle.std.specs.List.{flat_map, list_any, AllByRecursion}
 use Rattle.std.specs.Option.{option_or}
 use Rattle.std.specs.Ordering.{nat_cmp}
 use Rattle.std.specs.BTreeMap.{is_at}
@@ -31,13 +31,15 @@ use Rattle.mama_script.specs.Line.{IsFault, head_of}
 use Rattle.mama_script.specs.Before.{Before, opening, start, after, topic_flaw, queue_flaw, order_flaw, object_flaw}
 use Rattle.mama_script.specs.Names.{nothing_made, with_sub, with_timer, with_inbox, at_last, made_with, made_after, made_by, makes, is_made, is_order_named, is_named}
 use Rattle.mama_script.specs.Reading.{version_of, Fits, FitFrom, AreAccepted}
-use Rattle.mama_script.specs.Tree.{fault_line, topic_line, publisher_lines, client_lines, topic_of_part, strategy_lines, HasStrategy}
+use Rattle.mama_script.specs.Tree.{fault_line, topic_line, publisher_lines, client_lines, strategy_lines}
 use Rattle.mama_words.specs.declared.version.Version.{Version}
 use Rattle.mama_event.specs.declared.shape.Strategy.{Strategy}
 use Rattle.mama_script.specs.Counted.{IsCounted, AreCounted}
 use Rattle.mama_script.specs.Standing.{IsSmallId, IsSmallOrder, IsSmallQueue, IsSmall, place_behind, faults_behind, bad_fault, Stand}
 use Rattle.mama_script.proofs.Counted.{counted_more, counted_client, counted_sub, counted_timer, counted_inbox, counted_get}
-use Rattle.mama_script.proofs.Keeping.{flaw_none, first_none, topic_declared, object_below, script_within}
+use Rattle.mama_script.specs.Within.{IsPublisherWithin}
+use Rattle.mama_script.proofs.Keeping.{flaw_none, first_none, topic_declared, object_below, sections_of, sections_on}
+use Rattle.mama_script.proofs.Casting.{IsSub, IsPlacedLine, all_placed}
 use Rattle.mama_script.proofs.Naming.{AllNamed, all_named}
 
 -- ---- how much was declared and made so far
@@ -168,16 +170,22 @@ small_queue : (b : Before) (queue : QueueName) → b.queues ≤ 64 → queue_fla
 small_queue b (Number n) few e = let lt = leb-false b.queues n (flaw_none (leb b.queues n) (FaultFlaw 9) None e).0 in omega (arith, lt, few)
 small_queue b Any few e = tt
 
-small_line : (b : Before) (here made : List Made) (l : Line) → Tally b here → AreFew made → is_named made l ≡ true → Fits b l → IsSmall l
-small_line b here made (lines.Queues n) t few named fits = let le = ltb-false 64 n (flaw_none (ltb 64 n) (Limit 2) None fits.sound).0 in omega (arith, le)
-small_line b here made (lines.Publisher topic base) t few named fits = small_topic topic b t.topics_few (first_none (topic_flaw topic b) _ fits.sound).0
-small_line b here made (lines.Sub topic kind queue cache recaps) t few named fits =
+small_subs : (made : List Made) (ids : List IdWord) → AreFew made → AllByRecursion (IsSub made) ids → AllByRecursion IsSmallId ids
+small_subs made [] few h = tt
+small_subs made (id ∷ ids) few h = (small_sub made id few h.0, small_subs made ids few h.1)
+
+small_line : (b : Before) (here made : List Made) (l : Line) → Tally b here → AreFew made → is_named made l ≡ true → IsPlacedLine made l → Fits b l → IsSmall l
+small_line b here made (lines.Queues n) t few named placed fits = let le = ltb-false 64 n (flaw_none (ltb 64 n) (Limit 2) None fits.sound).0 in omega (arith, le)
+small_line b here made (lines.Publisher topic base) t few named placed fits = small_topic topic b t.topics_few (first_none (topic_flaw topic b) _ fits.sound).0
+small_line b here made (lines.Sub topic kind queue cache recaps) t few named placed fits =
     let p = first_none (topic_flaw topic b) _ fits.sound in (small_topic topic b t.topics_few p.0, small_queue b queue t.queues_few (first_none (queue_flaw queue b) _ p.1).0)
-small_line b here made (lines.Timer queue interval) t few named fits = small_queue b queue t.queues_few (first_none (queue_flaw queue b) _ fits.sound).0
-small_line b here made (lines.Inbox queue) t few named fits = small_queue b queue t.queues_few (first_none (queue_flaw queue b) (object_flaw b) fits.sound).0
-small_line b here made (lines.At call order) t few named fits = small_order b made order t.topics_few few (first_none (order_flaw order b) _ fits.sound).0 named
-small_line b here made (lines.Order order) t few named fits = small_order b made order t.topics_few few fits.sound named
-small_line b here made _ t few named fits = tt
+small_line b here made (lines.Timer queue interval) t few named placed fits = small_queue b queue t.queues_few (first_none (queue_flaw queue b) _ fits.sound).0
+small_line b here made (lines.Inbox queue) t few named placed fits = small_queue b queue t.queues_few (first_none (queue_flaw queue b) (object_flaw b) fits.sound).0
+small_line b here made (lines.At call order) t few named placed fits = small_order b made order t.topics_few few (first_none (order_flaw order b) _ fits.sound).0 named
+small_line b here made (lines.Order order) t few named placed fits = small_order b made order t.topics_few few fits.sound named
+small_line b here made (lines.Group ids) t few named placed fits = small_subs made ids few placed
+small_line b here made (lines.Watch sub timer retries) t few named placed fits = (small_sub made sub few placed.0, small_timer made timer few placed.1)
+small_line b here made _ t few named placed fits = tt
 
 -- ---- the faults of the object at hand
 
@@ -219,6 +227,8 @@ at_link places.Topics e = absurd cc
 at_link places.Publisher e = absurd cc
 at_link places.Client e = absurd cc
 at_link places.Planned e = absurd cc
+at_link places.Groups e = absurd cc
+at_link places.Watches e = absurd cc
 
 sound_fault : (fault : Fault) → IsFault fault → is_zero_hold fault ≡ false
 sound_fault Lose h = refl
@@ -243,13 +253,13 @@ stand_line : (b : Before) (l : Line) (rows : List FaultRow) (ls : List Line) →
 stand_line b lines.Client rows ls h = h
 stand_line b _ rows ls h = h
 
-stand : (b : Before) (here made : List Made) (rows : List FaultRow) (ls : List Line) → Tally b here → AreFew made → AreTold b rows → AllNamed made ls → FitFrom b ls → Stand b.place rows ls
-stand b here made rows [] t few told named h = h
-stand b here made rows (l ∷ ls) t few told named h = (
+stand : (b : Before) (here made : List Made) (rows : List FaultRow) (ls : List Line) → Tally b here → AreFew made → AreTold b rows → AllNamed made ls → AllByRecursion (IsPlacedLine made) ls → FitFrom b ls → Stand b.place rows ls
+stand b here made rows [] t few told named placed h = h
+stand b here made rows (l ∷ ls) t few told named placed h = (
   h.0.place,
-  small_line b here made l t few named.0 h.0,
+  small_line b here made l t few named.0 placed.0 h.0,
   sound_line b rows l told h.0,
-  stand_line b l (faults_behind rows l) ls (stand (after b l) (made_with here l) made (faults_behind rows l) ls (tally_line b here l t h.0) few (told_line b rows l told h.0) named.1 h.1),
+  stand_line b l (faults_behind rows l) ls (stand (after b l) (made_with here l) made (faults_behind rows l) ls (tally_line b here l t h.0) few (told_line b rows l told h.0) named.1 placed.1 h.1),
 )
 
 nothing : (v : Version) → Tally (start v) []
@@ -258,7 +268,7 @@ nothing v = record { topics_few = omega arith; queues_few = omega arith; clients
 pub accepted_stand : (ls : List Line) → AreAccepted ls → Stand (opening (version_of ls)) [] ls
 accepted_stand ls is =
     let b = start (version_of ls) in
-    stand b [] (made_by ls) [] ls (nothing (version_of ls)) (few_made b [] ls (nothing (version_of ls)) is.fit) (λ at i free. refl) (all_named (made_by ls) 2 ls is.named) is.fit
+    stand b [] (made_by ls) [] ls (nothing (version_of ls)) (few_made b [] ls (nothing (version_of ls)) is.fit) (λ at i free. refl) (all_named (made_by ls) 2 ls is.named) (all_placed ls is.placed) is.fit
 
 -- ---- the line that tells the strategy
 
@@ -301,29 +311,25 @@ stand_more rows next row ls rest stands is are =
 
 -- ---- the sections of accepted lines are few
 
-record FewSections (topics : List (List ℕ)) (clients : List (List ClientLine)) : Type 0 where
-  topics_few : length topics ≤ 1024
-  clients_few : length clients ≤ 64
+pub record FewSections (topics : List (List ℕ)) (publishers : List PublisherPart) (clients : List (List ClientLine)) : Type 0 where
+  pub topics_few : length topics ≤ 1024
+  pub publishers_few : length publishers ≤ 1024
+  pub clients_few : length clients ≤ 64
+  pub topics_are : AllByRecursion (λ (part : PublisherPart). part.topic < length topics) publishers
 
-few_sections : (v : Version) (told : Strategy) (queues : ℕ) (topics : List (List ℕ)) (publishers : List PublisherPart) (clients : List (List ClientLine)) → HasStrategy v told
-    → AreAccepted (strategy_lines v told ++ lines.Queues queues ∷ (map topic_line topics ++ (flat_map publisher_lines publishers ++ flat_map client_lines clients))) → FewSections topics clients
-few_sections v told queues topics publishers clients has accepted =
-    let w = script_within
-    (record { version = v; shape = record { clients = length clients; publisher_topics = map topic_of_part publishers; bounds = record { topics = length topics; queues = queues }; strategy = told }; topics = topics; publishers = publishers; clients = clients })
-    (record { shaped = record { clients = refl; topics = refl; publishers = refl; strategy = has }; accepted = accepted }) in
-    record { topics_few = w.topics_few; clients_few = w.clients_few }
+topics_within : (ps : List PublisherPart) (n : ℕ) → AllByRecursion (IsPublisherWithin n) ps → AllByRecursion (λ (part : PublisherPart). part.topic < n) ps
+topics_within [] n h = tt
+topics_within (p ∷ ps) n h = (h.0.topic, topics_within ps n h.1)
 
-taken_few : (v : Version) (told : Strategy) (all a b c d : List Line) (queues : ℕ) (topics : List (List ℕ)) (publishers : List PublisherPart) (clients : List (List ClientLine)) → AreAccepted all → HasStrategy v told → all ≡ strategy_lines v told ++ a
-    → a ≡ lines.Queues queues ∷ b → b ≡ map topic_line topics ++ c → c ≡ flat_map publisher_lines publishers ++ d → d ≡ flat_map client_lines clients → FewSections topics clients
-taken_few v told all a b c d queues topics publishers clients is has za ab bc cd de =
-    few_sections v told queues topics publishers clients has
+pub few_sections : (v : Version) (told : Strategy) (queues : ℕ) (topics : List (List ℕ)) (publishers : List PublisherPart) (clients : List (List ClientLine)) (rest : List Line)
+    → AreAccepted (sections_of v told queues topics publishers clients rest) → FewSections topics publishers clients
+few_sections v told queues topics publishers clients rest accepted =
+    let on = sections_on v told queues topics publishers clients rest accepted in
+    record { topics_few = on.topics_few; publishers_few = on.publishers_few; clients_few = on.clients_few; topics_are = topics_within publishers (length topics) on.publishers_are }
+
+pub taken_few : (v : Version) (told : Strategy) (all a b c d rest : List Line) (queues : ℕ) (topics : List (List ℕ)) (publishers : List PublisherPart) (clients : List (List ClientLine)) → AreAccepted all → all ≡ strategy_lines v told ++ a
+    → a ≡ lines.Queues queues ∷ b → b ≡ map topic_line topics ++ c → c ≡ flat_map publisher_lines publishers ++ d → d ≡ flat_map client_lines clients ++ rest → FewSections topics publishers clients
+taken_few v told all a b c d rest queues topics publishers clients is za ab bc cd de =
+    few_sections v told queues topics publishers clients rest
     (subst (λ (x : List Line). AreAccepted x)
     (za ∙ ap (λ (x : List Line). strategy_lines v told ++ x) (ab ∙ ap (λ (x : List Line). lines.Queues queues ∷ x) (bc ∙ ap (λ (x : List Line). map topic_line topics ++ x) (cd ∙ ap (λ (x : List Line). flat_map publisher_lines publishers ++ x) de)))) is)
-
-pub few_topics : (v : Version) (told : Strategy) (all a b c d : List Line) (queues : ℕ) (topics : List (List ℕ)) (publishers : List PublisherPart) (clients : List (List ClientLine)) → AreAccepted all → HasStrategy v told → all ≡ strategy_lines v told ++ a
-    → a ≡ lines.Queues queues ∷ b → b ≡ map topic_line topics ++ c → c ≡ flat_map publisher_lines publishers ++ d → d ≡ flat_map client_lines clients → length topics < 2 ^ 32
-few_topics v told all a b c d queues topics publishers clients is has za ab bc cd de = let f = taken_few v told all a b c d queues topics publishers clients is has za ab bc cd de in omega (arith, f.topics_few)
-
-pub few_clients : (v : Version) (told : Strategy) (all a b c d : List Line) (queues : ℕ) (topics : List (List ℕ)) (publishers : List PublisherPart) (clients : List (List ClientLine)) → AreAccepted all → HasStrategy v told → all ≡ strategy_lines v told ++ a
-    → a ≡ lines.Queues queues ∷ b → b ≡ map topic_line topics ++ c → c ≡ flat_map publisher_lines publishers ++ d → d ≡ flat_map client_lines clients → length clients < 2 ^ 32
-few_clients v told all a b c d queues topics publishers clients is has za ab bc cd de = let f = taken_few v told all a b c d queues topics publishers clients is has za ab bc cd de in omega (arith, f.clients_few)

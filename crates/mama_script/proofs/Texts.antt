@@ -6,6 +6,10 @@ use Rattle.std.proofs.lemmas.List.Folds.{flat_map-map}
 use Rattle.std.specs.Prelude.{codes}
 use Rattle.mama_edge.specs.Decimal.{decimal}
 use Rattle.mama_event.specs.declared.order.PlanRow.{PlanRow}
+use Rattle.mama_event.specs.declared.ids.SubId.{SubId}
+use Rattle.mama_event.specs.declared.group.GroupRow.{GroupRow}
+use Rattle.mama_event.specs.declared.watch.WatchRow.{WatchRow}
+use Rattle.mama_words.specs.Id.{id_text, sub_word, sub_text as sub_id_text, timer_text}
 use Rattle.mama_msg.specs.Field.{FieldData}
 use Rattle.mama_words.specs.declared.order.OrderWord.{OrderWord}
 use Rattle.mama_words.specs.declared.order.OrderWord.TheVariants as orders
@@ -24,12 +28,12 @@ use Rattle.mama_script.specs.declared.line.QueueName.{QueueName}
 use Rattle.mama_script.specs.Line.{ended, queue_text}
 use Rattle.mama_script.specs.Reading.{first_line, version_of}
 use Rattle.mama_script.specs.Script.{ScriptData}
-use Rattle.mama_script.specs.Tree.{plan_line, fault_line, publisher_line, publisher_lines, step_lines, client_lines, topic_line, strategy_lines, body_lines, lines_of, script_text}
+use Rattle.mama_script.specs.Tree.{plan_line, fault_line, publisher_line, publisher_lines, step_lines, client_lines, topic_line, strategy_lines, group_line, watch_line, last_lines, body_lines, lines_of, script_text}
 use Rattle.mama_words.specs.declared.version.Version.{Version}
 use Rattle.mama_words.specs.declared.version.Version.TheVariants as version
 use Rattle.mama_event.specs.declared.shape.Strategy.{Strategy}
 use Rattle.mama_event.specs.declared.shape.Strategy.TheVariants as strategy
-use Rattle.mama_script.specs.Text.{topic_text, send_text, publisher_text, fault_text, plan_text, object_text, step_text, client_text}
+use Rattle.mama_script.specs.Text.{topic_text, send_text, publisher_text, fault_text, plan_text, object_text, step_text, client_text, member_text, group_text, watch_text}
 
 flat_map-flat_map : {X : Type 0} (g : X → List Line) (xs : List X) → flat_map ended (flat_map g xs) ≡ flat_map (λ x. flat_map ended (g x)) xs
 flat_map-flat_map g [] = refl
@@ -46,20 +50,31 @@ object_text_is f p =
     flat_map-append ended (map fault_line f) (map plan_line p) ∙ ap (λ (t : List ℕ). t ++ flat_map ended (map plan_line p)) (flat_map-map ended fault_line f)
     ∙ ap (λ (t : List ℕ). flat_map fault_text f ++ t) (flat_map-map ended plan_line p)
 
-abbrev joined_text : ℕ → List ℕ → List ℕ → List ℕ → List ℕ
-joined_text queues a b c = ended (lines.Queues queues) ++ (a ++ (b ++ c))
+last_text_is : (groups : List GroupRow) (watches : List WatchRow) → flat_map ended (last_lines groups watches) ≡ flat_map group_text groups ++ flat_map watch_text watches
+last_text_is groups watches =
+    flat_map-append ended (map group_line groups) (map watch_line watches) ∙ ap (λ (t : List ℕ). t ++ flat_map ended (map watch_line watches)) (flat_map-map ended group_line groups)
+    ∙ ap (λ (t : List ℕ). flat_map group_text groups ++ t) (flat_map-map ended watch_line watches)
+
+abbrev joined_text : ℕ → List ℕ → List ℕ → List ℕ → List ℕ → List ℕ
+joined_text queues a b c d = ended (lines.Queues queues) ++ (a ++ (b ++ (c ++ d)))
 
 body_text_is : (s : ScriptData)
-    → flat_map ended (body_lines s) ≡ joined_text s.shape.bounds.queues (flat_map topic_text s.topics) (flat_map publisher_text s.publishers) (flat_map client_text s.clients)
+    → flat_map ended (body_lines s)
+    ≡ joined_text s.shape.bounds.queues (flat_map topic_text s.topics) (flat_map publisher_text s.publishers) (flat_map client_text s.clients) (flat_map group_text s.groups ++ flat_map watch_text s.watches)
 body_text_is s =
     let q = s.shape.bounds.queues in
     let topics = map topic_line s.topics in
     let publishers = flat_map publisher_lines s.publishers in
     let clients = flat_map client_lines s.clients in
-    ap (λ (t : List ℕ). ended (lines.Queues q) ++ t) (flat_map-append ended topics (publishers ++ clients) ∙ ap (λ (t : List ℕ). flat_map ended topics ++ t) (flat_map-append ended publishers clients))
-    ∙ ap (λ (t : List ℕ). joined_text q t (flat_map ended publishers) (flat_map ended clients)) (flat_map-map ended topic_line s.topics)
-    ∙ ap (λ (t : List ℕ). joined_text q (flat_map topic_text s.topics) t (flat_map ended clients)) (flat_map-flat_map publisher_lines s.publishers)
-    ∙ ap (λ (t : List ℕ). joined_text q (flat_map topic_text s.topics) (flat_map publisher_text s.publishers) t) (flat_map-flat_map client_lines s.clients)
+    let last = last_lines s.groups s.watches in
+    ap (λ (t : List ℕ). ended (lines.Queues q) ++ t)
+    (flat_map-append ended topics (publishers ++ (clients ++ last))
+    ∙ ap (λ (t : List ℕ). flat_map ended topics ++ t)
+    (flat_map-append ended publishers (clients ++ last) ∙ ap (λ (t : List ℕ). flat_map ended publishers ++ t) (flat_map-append ended clients last)))
+    ∙ ap (λ (t : List ℕ). joined_text q t (flat_map ended publishers) (flat_map ended clients) (flat_map ended last)) (flat_map-map ended topic_line s.topics)
+    ∙ ap (λ (t : List ℕ). joined_text q (flat_map topic_text s.topics) t (flat_map ended clients) (flat_map ended last)) (flat_map-flat_map publisher_lines s.publishers)
+    ∙ ap (λ (t : List ℕ). joined_text q (flat_map topic_text s.topics) (flat_map publisher_text s.publishers) t (flat_map ended last)) (flat_map-flat_map client_lines s.clients)
+    ∙ ap (λ (t : List ℕ). joined_text q (flat_map topic_text s.topics) (flat_map publisher_text s.publishers) (flat_map client_text s.clients) t) (last_text_is s.groups s.watches)
 
 pub version_told : (v : Version) (told : Strategy) (queues : ℕ) (ls : List Line) → version_of (strategy_lines v told ++ lines.Queues queues ∷ ls) ≡ v
 version_told version.One told queues ls = refl
@@ -69,10 +84,10 @@ pub script_text_is : (s : ScriptData)
     → script_text s
     ≡ (first_line s.version ++ 10 ∷ [])
     ++ (flat_map ended (strategy_lines s.version s.shape.strategy)
-    ++ (ended (lines.Queues s.shape.bounds.queues) ++ (flat_map topic_text s.topics ++ (flat_map publisher_text s.publishers ++ flat_map client_text s.clients))))
+    ++ (ended (lines.Queues s.shape.bounds.queues) ++ (flat_map topic_text s.topics ++ (flat_map publisher_text s.publishers ++ (flat_map client_text s.clients ++ (flat_map group_text s.groups ++ flat_map watch_text s.watches))))))
 script_text_is s =
     let opened = strategy_lines s.version s.shape.strategy in
-    let rest = map topic_line s.topics ++ (flat_map publisher_lines s.publishers ++ flat_map client_lines s.clients) in
+    let rest = map topic_line s.topics ++ (flat_map publisher_lines s.publishers ++ (flat_map client_lines s.clients ++ last_lines s.groups s.watches)) in
     ap (λ (v : Version). (first_line v ++ 10 ∷ []) ++ flat_map ended (lines_of s)) (version_told s.version s.shape.strategy s.shape.bounds.queues rest)
     ∙ ap (λ (t : List ℕ). (first_line s.version ++ 10 ∷ []) ++ t) (flat_map-append ended opened (body_lines s) ∙ ap (λ (t : List ℕ). flat_map ended opened ++ t) (body_text_is s))
 
@@ -110,8 +125,27 @@ pub sub_text : (out : List ℕ) (topic : ℕ) (kind : SubKind) (queue : QueueNam
     → (((((((out ++ codes "sub") ++ spaced (decimal topic)) ++ 32 ∷ []) ++ sub_kind_text kind) ++ spaced (queue_text queue)) ++ spaced (decimal cache)) ++ spaced (decimal recaps)) ++ 10 ∷ [] ≡ out ++ ended (lines.Sub topic kind queue cache recaps)
 sub_text out topic kind queue cache recaps = sub_shape out (codes "sub") (spaced (decimal topic)) (sub_kind_text kind) (spaced (queue_text queue)) (spaced (decimal cache)) (spaced (decimal recaps))
 
-pub print_shape : (f s q t p c : List ℕ) → ((((f ++ s) ++ q) ++ t) ++ p) ++ c ≡ f ++ (s ++ (q ++ (t ++ (p ++ c))))
-print_shape f s q t p c = simp append_assoc
+pub print_shape : (f s q t p c g w : List ℕ) → ((((((f ++ s) ++ q) ++ t) ++ p) ++ c) ++ g) ++ w ≡ f ++ (s ++ (q ++ (t ++ (p ++ (c ++ (g ++ w))))))
+print_shape f s q t p c g w = simp append_assoc
+
+members_row : (members : List SubId) → flat_map member_text members ≡ flat_map spaced (map (id_text 115) (map sub_word members))
+members_row [] = refl
+members_row (s ∷ ss) = ap (λ (t : List ℕ). member_text s ++ t) (members_row ss)
+
+group_shape : (out a b : List ℕ) → ((out ++ a) ++ b) ++ 10 ∷ [] ≡ out ++ ((a ++ b) ++ 10 ∷ [])
+group_shape out a b = simp append_assoc
+
+pub group_text_is : (out : List ℕ) (row : GroupRow) → ((out ++ codes "group") ++ flat_map member_text row.members) ++ 10 ∷ [] ≡ out ++ group_text row
+group_text_is out row = ap (λ (t : List ℕ). ((out ++ codes "group") ++ t) ++ 10 ∷ []) (members_row row.members) ∙ group_shape out (codes "group") (flat_map spaced (map (id_text 115) (map sub_word row.members)))
+
+watch_parts : (out w a b c : List ℕ) → ((((out ++ w) ++ a) ++ b) ++ c) ++ 10 ∷ [] ≡ out ++ ((w ++ (a ++ (b ++ (c ++ [])))) ++ 10 ∷ [])
+watch_parts out w a b c = simp (append_assoc, append-nil)
+
+watch_shape : (out w a b c : List ℕ) → (((((out ++ w) ++ a) ++ 32 ∷ []) ++ b) ++ c) ++ 10 ∷ [] ≡ out ++ ((w ++ (a ++ ((32 ∷ b) ++ (c ++ [])))) ++ 10 ∷ [])
+watch_shape out w a b c = ap (λ (t : List ℕ). (t ++ c) ++ 10 ∷ []) (append_assoc ((out ++ w) ++ a) (32 ∷ []) b) ∙ watch_parts out w a (32 ∷ b) c
+
+pub watch_text_is : (out : List ℕ) (row : WatchRow) → (((((out ++ codes "watch ") ++ sub_id_text row.sub) ++ 32 ∷ []) ++ timer_text row.timer) ++ spaced (decimal row.retries)) ++ 10 ∷ [] ≡ out ++ watch_text row
+watch_text_is out row = watch_shape out (codes "watch ") (sub_id_text row.sub) (timer_text row.timer) (spaced (decimal row.retries))
 
 strategy_shape : (out a b : List ℕ) → ((out ++ a) ++ b) ++ 10 ∷ [] ≡ out ++ ((a ++ b) ++ 10 ∷ [])
 strategy_shape out a b = simp append_assoc

@@ -1,6 +1,6 @@
 -- What is read as a script is so spelled, and what is so spelled is read.
 use Rattle.std.proofs.Common.{◌≡◌, ℕ, suc, ◌<◌, Bool, true, false, cond, eqb, List, [], ◌∷◌, ◌++◌, length, Option, Some, None, Result, Ok, Err, refl, sym, ap, subst, ◌∙◌, append_assoc, arith}
-use Rattle.std.specs.Prelude.{◌==◌, ◌&&◌, not}
+use Rattle.std.specs.Prelude.{◌==◌, ◌&&◌, not, nat_le}
 use Rattle.std.specs.List.{flat_map, list_all, list_any}
 use Rattle.std.proofs.lemmas.Bool.{and_parts, eqb-true}
 use Rattle.std.proofs.lemmas.List.{nil_from_length}
@@ -23,7 +23,8 @@ use Rattle.mama_script.specs.Line.{head_of, IsLine, line_text, line_words, ended
 use Rattle.mama_script.specs.Form.{form_in}
 use Rattle.mama_script.specs.Before.{Before, opening, start, after, flaw}
 use Rattle.mama_script.specs.Names.{made_by, unnamed_from}
-use Rattle.mama_script.specs.Reading.{and_then, unless_flawed, judged, line_in, end_fault, unless_faulty, end_in, line_first, read_from, first_line, version_in, read_version, version_of, lines_in, unless_unnamed, named_or_fault, script_in, spelling, Fits, FitFrom, AreAccepted}
+use Rattle.mama_script.specs.Placing.{cast_of, none_placed, misplaced_from}
+use Rattle.mama_script.specs.Reading.{and_then, unless_flawed, judged, line_in, end_fault, unless_faulty, end_in, line_first, read_from, first_line, version_in, read_version, version_of, lines_in, unless_wrong, earlier, second_fault, named_or_fault, script_in, spelling, Fits, FitFrom, AreAccepted}
 use Rattle.mama_script.proofs.FormFound.{form_found}
 use Rattle.mama_script.proofs.FormAgain.{form_again, line_parted}
 
@@ -192,17 +193,29 @@ lines_found (first ∷ next ∷ more) ls e =
           ∙ sym (append_assoc (first_line (version_of ls)) (10 ∷ []) (flat_map ended ls)),
     )
 
-unless_unnamed_ok : (ms ls : List Line) (o : Option ℕ) → unnamed_from (made_by ms) 2 ms ≡ o → unless_unnamed ms o ≡ Ok ls → (ms ≡ ls) × (unnamed_from (made_by ls) 2 ls ≡ None)
-unless_unnamed_ok ms ls None h e = let same = done_is ms ls e in (same, subst (λ (x : List Line). unnamed_from (made_by x) 2 x ≡ None) same h)
-unless_unnamed_ok ms ls (Some k) h e = absurd cc
+both_none : (k : ℕ) (found : ℕ × ℕ) (b : Bool) → cond b (Some (Bad k 10)) (Some (Bad found.0 found.1)) ≡ None → ⊥
+both_none k found true e = cc
+both_none k found false e = cc
+
+-- where neither finds a line
+pub earlier_none : (o : Option ℕ) (p : Option (ℕ × ℕ)) → earlier o p ≡ None → (o ≡ None) × (p ≡ None)
+earlier_none None None e = (refl, refl)
+earlier_none (Some k) None e = absurd cc
+earlier_none None (Some found) e = absurd cc
+earlier_none (Some k) (Some found) e = absurd (both_none k found (nat_le k found.0) e)
+
+unless_wrong_ok : (ms ls : List Line) (o : Option ScriptFault) → second_fault ms ≡ o → unless_wrong ms o ≡ Ok ls → (ms ≡ ls) × (second_fault ls ≡ None)
+unless_wrong_ok ms ls None h e = let same = done_is ms ls e in (same, subst (λ (x : List Line). second_fault x ≡ None) same h)
+unless_wrong_ok ms ls (Some fault) h e = absurd cc
 
 pub script_found : (text : List ℕ) (ls : List Line) → script_in text ≡ Ok ls → AreAccepted ls × (text ≡ spelling ls)
 script_found text ls e =
     let a = and_then_ok (lines_in (pieces 10 text)) named_or_fault ls e in
-    let n = unless_unnamed_ok a.0 ls (unnamed_from (made_by a.0) 2 a.0) refl a.2 in
+    let n = unless_wrong_ok a.0 ls (second_fault a.0) refl a.2 in
+    let none = earlier_none (unnamed_from (made_by ls) 2 ls) (misplaced_from (cast_of ls) none_placed 2 ls) n.1 in
     let f = lines_found (pieces 10 text) a.0 a.1 in
     let fits = subst (λ (x : List Line). FitFrom (start (version_of x)) x) n.0 f.0 in
-    (record { fit = fits; named = n.1 }, sym (pieces_joined text) ∙ f.1 ∙ ap spelling n.0)
+    (record { fit = fits; named = none.0; placed = none.1 }, sym (pieces_joined text) ∙ f.1 ∙ ap spelling n.0)
 
 lines_again : (v : Version) (ps : List (List ℕ)) (ls : List Line) → read_from (start v) 2 ps ≡ Ok ls → lines_in (first_line v ∷ ps) ≡ Ok ls
 lines_again v [] ls e = absurd cc
@@ -217,7 +230,9 @@ pub script_again : (ls : List Line) → AreAccepted ls → script_in (spelling l
 script_again ls h =
     let v = version_of ls in
     let read : lines_in (pieces 10 (spelling ls)) ≡ Ok ls = ap lines_in (first_cut v (flat_map ended ls)) ∙ lines_again v (pieces 10 (flat_map ended ls)) ls (whole_again (start v) 2 ls h.fit) in
-    ap (λ (r : Result (List Line) ScriptFault). and_then r named_or_fault) read ∙ ap (unless_unnamed ls) h.named
+    let placed = misplaced_from (cast_of ls) none_placed 2 ls in
+    let nothing : earlier (unnamed_from (made_by ls) 2 ls) placed ≡ None = ap (λ (o : Option ℕ). earlier o placed) h.named ∙ ap (λ (p : Option (ℕ × ℕ)). earlier None p) h.placed in
+    ap (λ (r : Result (List Line) ScriptFault). and_then r named_or_fault) read ∙ ap (unless_wrong ls) nothing
 
 -- all lines are of the version of the first
 pub version_kept : (b : Before) (l : Line) → (after b l).version ≡ b.version
@@ -237,3 +252,5 @@ version_kept b (lines.At call order) = refl
 version_kept b (lines.Order order) = refl
 version_kept b (lines.Now moment) = refl
 version_kept b lines.NowClock = refl
+version_kept b (lines.Group ids) = refl
+version_kept b (lines.Watch sub timer retries) = refl

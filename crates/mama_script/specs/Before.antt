@@ -162,6 +162,12 @@ after_at call b = record b { calls = insert_entry nat_cmp b.calls call (number_a
 abbrev pub after_step : Before → Before
 after_step b = record b { place = beside b.place }
 
+abbrev pub after_group : Before → Before
+after_group b = record b { place = places.Groups }
+
+abbrev pub after_watch : Before → Before
+after_watch b = record b { place = places.Watches }
+
 -- what is so behind a line
 abbrev pub after : Before → Line → Before
 after b (lines.Strategy strategy) = after_strategy b
@@ -176,6 +182,8 @@ after b (lines.Timer queue interval) = after_timer b
 after b (lines.Inbox queue) = after_inbox b
 after b (lines.Fault row) = after_fault row.index b
 after b (lines.At call order) = after_at call b
+after b (lines.Group ids) = after_group b
+after b (lines.Watch sub timer retries) = after_watch b
 after b _ = after_step b
 
 -- this flaw where the test holds, and otherwise what else there is

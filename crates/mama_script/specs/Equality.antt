@@ -4,7 +4,7 @@ use Rattle.std.specs.Cmp.Lexicographic.{pointwise}
 use Rattle.std.specs.Str.{bytes_eq}
 use Rattle.mama_msg.specs.Equality.{same_message}
 use Rattle.mama_link.specs.Equality.{same_rows}
-use Rattle.mama_event.specs.Equality.{same_sub_kind, same_strategy, same_order, same_plan_row}
+use Rattle.mama_event.specs.Equality.{same_sub_kind, same_strategy, same_order, same_plan_row, same_group_row, same_watch_row}
 use Rattle.mama_event.specs.declared.order.PlanRow.{PlanRow}
 use Rattle.mama_event.specs.declared.shape.Shape.{Shape}
 use Rattle.mama_words.specs.declared.version.Version.{Version}
@@ -71,4 +71,4 @@ same_shape a b = a.clients == b.clients && bytes_eq a.publisher_topics b.publish
 
 -- two scripts have the same parts
 abbrev pub same_script : ScriptData → ScriptData → Bool
-same_script a b = same_version a.version b.version && same_shape a.shape b.shape && pointwise bytes_eq a.topics b.topics && pointwise same_publisher a.publishers b.publishers && pointwise same_client a.clients b.clients
+same_script a b = same_version a.version b.version && same_shape a.shape b.shape && pointwise bytes_eq a.topics b.topics && pointwise same_publisher a.publishers b.publishers && pointwise same_client a.clients b.clients && pointwise same_group_row a.groups b.groups && pointwise same_watch_row a.watches b.watches

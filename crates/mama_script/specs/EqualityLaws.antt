@@ -9,7 +9,7 @@ use Rattle.std.proofs.lemmas.Bool.Decides.{Decides-eqb}
 use Rattle.std.proofs.lemmas.Slice.Eq.{bytes_eq-Decides}
 use Rattle.mama_msg.specs.EqualityLaws.{same_message-Decides}
 use Rattle.mama_link.specs.EqualityLaws.{same_rows-Decides}
-use Rattle.mama_event.specs.EqualityLaws.{same_sub_kind-Decides, same_strategy-Decides, same_order-Decides, same_plan_row-Decides}
+use Rattle.mama_event.specs.EqualityLaws.{same_sub_kind-Decides, same_strategy-Decides, same_order-Decides, same_plan_row-Decides, same_group_row-Decides, same_watch_row-Decides}
 use Rattle.mama_event.specs.declared.order.PlanRow.{PlanRow}
 use Rattle.mama_event.specs.declared.shape.Shape.{Shape}
 use Rattle.mama_words.specs.declared.version.Version.{Version}
@@ -89,9 +89,9 @@ same_shape-Decides a b =
 
 pub same_script-Decides : (a b : ScriptData) → Decides (same_script a b) (a ≡ b)
 same_script-Decides a b =
-    via (and-Decides (and-Decides (and-Decides (and-Decides (same_version-Decides a.version b.version) (same_shape-Decides a.shape b.shape)) (pointwise_decides bytes_eq-Decides a.topics b.topics)) (pointwise_decides same_publisher-Decides a.publishers b.publishers)) (pointwise_decides same_client-Decides a.clients b.clients))
-    (λ p. λ i. record { version = p.0.0.0.0 i; shape = p.0.0.0.1 i; topics = p.0.0.1 i; publishers = p.0.1 i; clients = p.1 i })
-    (λ e. ((((ap (λ (x : ScriptData). x.version) e, ap (λ (x : ScriptData). x.shape) e), ap (λ (x : ScriptData). x.topics) e), ap (λ (x : ScriptData). x.publishers) e), ap (λ (x : ScriptData). x.clients) e))
+    via (and-Decides (and-Decides (and-Decides (and-Decides (and-Decides (and-Decides (same_version-Decides a.version b.version) (same_shape-Decides a.shape b.shape)) (pointwise_decides bytes_eq-Decides a.topics b.topics)) (pointwise_decides same_publisher-Decides a.publishers b.publishers)) (pointwise_decides same_client-Decides a.clients b.clients)) (pointwise_decides same_group_row-Decides a.groups b.groups)) (pointwise_decides same_watch_row-Decides a.watches b.watches))
+    (λ p. λ i. record { version = p.0.0.0.0.0.0 i; shape = p.0.0.0.0.0.1 i; topics = p.0.0.0.0.1 i; publishers = p.0.0.0.1 i; clients = p.0.0.1 i; groups = p.0.1 i; watches = p.1 i })
+    (λ e. ((((((ap (λ (x : ScriptData). x.version) e, ap (λ (x : ScriptData). x.shape) e), ap (λ (x : ScriptData). x.topics) e), ap (λ (x : ScriptData). x.publishers) e), ap (λ (x : ScriptData). x.clients) e), ap (λ (x : ScriptData). x.groups) e), ap (λ (x : ScriptData). x.watches) e))
 
 -- so they are equivalences
 pub same_plan_equivalence : IsEquivalence same_plan

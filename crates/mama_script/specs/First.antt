@@ -1,5 +1,5 @@
 -- believed: The first line that is wrong, in plain words: it has lines before it that all fit, and it has the flaw itself.
-use Rattle.std.specs.Prelude.{◌≡◌, ◌≢◌, ℕ, ◌+◌, List, [], ◌∷◌, ◌++◌, length, map, ◌==◌, Option, Some, None, Result, Ok, Err, ◌⊎◌, if◌then◌else◌}
+use Rattle.std.specs.Prelude.{◌≡◌, ◌≢◌, ℕ, ◌+◌, ◌<◌, ◌≤◌, List, [], ◌∷◌, ◌++◌, length, map, ◌==◌, Option, Some, None, Result, Ok, Err, ◌⊎◌, if◌then◌else◌}
 use Rattle.mama_words.specs.Parting.{pieces}
 use Rattle.mama_words.specs.declared.version.Version.{Version}
 use Rattle.mama_script.specs.declared.fault.Flaw.{Flaw}
@@ -10,6 +10,7 @@ use Rattle.mama_script.specs.Line.{line_text}
 use Rattle.mama_script.specs.Form.{form_in}
 use Rattle.mama_script.specs.Before.{Before, start, after, flaw}
 use Rattle.mama_script.specs.Names.{made_by, unnamed_from}
+use Rattle.mama_script.specs.Placing.{cast_of, none_placed, misplaced_from}
 use Rattle.mama_script.specs.Reading.{first_line, version_of, spelling, Fits, FitFrom}
 
 -- what is so behind lines
@@ -53,14 +54,36 @@ pub record IsFirstFlaw (text : List ℕ) (line : ℕ) (found : Flaw) : Type 0 wh
   pub number : line ≡ length lines + 2
   pub has : HasFlaw (behind (start version) lines) rest found
 
--- all lines fit, and this is the first that names an object which is not in the script
+-- no line before this one was found, or none up to it
+abbrev pub IsNoneBefore : ℕ → Option (ℕ × ℕ) → Type 0
+IsNoneBefore line None = Unit {0}
+IsNoneBefore line (Some found) = line ≤ found.0
+
+abbrev pub IsNoneUpTo : ℕ → Option ℕ → Type 0
+IsNoneUpTo line None = Unit {0}
+IsNoneUpTo line (Some k) = line < k
+
+-- All lines fit, and this is the first that names an object which is not in the script. No line before it has a group or a watch
+-- that may not be.
 pub record IsFirstUnnamed (text : List ℕ) (line : ℕ) : Type 0 where
   pub lines : List Line
   pub text_is : text ≡ spelling lines
   pub fit : FitFrom (start (version_of lines)) lines
   pub unnamed : unnamed_from (made_by lines) 2 lines ≡ Some line
+  pub first : IsNoneBefore line (misplaced_from (cast_of lines) none_placed 2 lines)
 
--- line 1, or the first line with a flaw, or the first that names what is not there
+-- All lines fit, and this is the first that has a group or a watch which may not be. No line up to it names an object which is not
+-- in the script.
+pub record IsFirstMisplaced (text : List ℕ) (line fault : ℕ) : Type 0 where
+  pub lines : List Line
+  pub text_is : text ≡ spelling lines
+  pub fit : FitFrom (start (version_of lines)) lines
+  pub misplaced : misplaced_from (cast_of lines) none_placed 2 lines ≡ Some (line, fault)
+  pub first : IsNoneUpTo line (unnamed_from (made_by lines) 2 lines)
+
+-- line 1, or the first line with a flaw, or the first that names what is not there or has a group or a watch that may not be
 abbrev pub IsFirst : List ℕ → ℕ → Flaw → Type 0
 IsFirst text line found =
-    ((line ≡ 1) × (found ≡ Fault 1) × IsHeadless (pieces 10 text)) ⊎ (IsFirstFlaw text line found ⊎ ((found ≡ Fault 10) × IsFirstUnnamed text line))
+    ((line ≡ 1) × (found ≡ Fault 1) × IsHeadless (pieces 10 text))
+    ⊎ (IsFirstFlaw text line found
+    ⊎ (((found ≡ Fault 10) × IsFirstUnnamed text line) ⊎ ((fault : ℕ) × (found ≡ Fault fault) × IsFirstMisplaced text line fault)))

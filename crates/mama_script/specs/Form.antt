@@ -1,6 +1,6 @@
 -- believed: How a line is read by its own form: the line, or the lowest of its faults from 2 to 8. The faults of one number are
 -- looked for in all the words before those of the next.
-use Rattle.std.specs.Prelude.{ℕ, codes, ◌==◌, List, [], ◌∷◌, length, Option, Some, None, option_map, Result, Ok, Err, if◌then◌else◌}
+use Rattle.std.specs.Prelude.{ℕ, codes, ◌==◌, List, [], ◌∷◌, length, Option, Some, None, option_map, option_and_then, Result, Ok, Err, ◌&&◌, if◌then◌else◌}
 use Rattle.std.specs.Str.{bytes_eq}
 use Rattle.mama_link.specs.declared.faults.Fault.{Fault}
 use Rattle.mama_link.specs.declared.faults.Fault.TheVariants.{Lose, Dup, Hold, Cut}
@@ -12,6 +12,8 @@ use Rattle.mama_words.specs.Value.{text_in, nums_of}
 use Rattle.mama_words.specs.declared.version.Version.{Version}
 use Rattle.mama_words.specs.Field.{message_in}
 use Rattle.mama_words.specs.Order.{order_in}
+use Rattle.mama_words.specs.Id.{id_in}
+use Rattle.mama_words.specs.declared.id.IdWord.{IdWord}
 use Rattle.mama_script.specs.declared.head.Head.{Head}
 use Rattle.mama_script.specs.declared.head.Head.TheVariants as heads
 use Rattle.mama_script.specs.declared.head.Place.{Place}
@@ -19,7 +21,7 @@ use Rattle.mama_script.specs.declared.line.QueueName.{QueueName}
 use Rattle.mama_script.specs.declared.line.QueueName.TheVariants.{Number, Any}
 use Rattle.mama_script.specs.declared.line.Line.{Line}
 use Rattle.mama_script.specs.declared.line.Line.TheVariants as lines
-use Rattle.mama_script.specs.Head.{head_in, allows}
+use Rattle.mama_script.specs.Head.{head_in, allows, knows}
 
 unfoldable pub queue_in : List ℕ → Option QueueName
 queue_in word = if bytes_eq word (codes "any") then Some Any else option_map (λ n. Number n) (number_in word)
@@ -131,6 +133,28 @@ now_in (first ∷ word ∷ []) =
     else (or_fault 5 (between_in 0 9223372036854775807 word) >>= λ moment. Ok (lines.Now moment))
 now_in words = Err 4
 
+abbrev pub cons_id : IdWord → Option (List IdWord) → Option (List IdWord)
+cons_id id None = None
+cons_id id (Some ids) = Some (id ∷ ids)
+
+-- the subscriptions that the words name
+abbrev pub subs_in : List (List ℕ) → Option (List IdWord)
+subs_in [] = Some []
+subs_in (w ∷ ws) = option_and_then (λ id. cons_id id (subs_in ws)) (id_in 115 w)
+
+-- a group has a member
+unfoldable pub group_in : List (List ℕ) → Result Line ℕ
+group_in (first ∷ member ∷ members) = or_fault 5 (subs_in (member ∷ members)) >>= λ ids. Ok (lines.Group ids)
+group_in words = Err 4
+
+unfoldable pub watch_in : List (List ℕ) → Result Line ℕ
+watch_in (first ∷ sub ∷ timer ∷ retries ∷ []) = do
+  sub ← or_fault 5 (id_in 115 sub)
+  timer ← or_fault 5 (id_in 116 timer)
+  retries ← or_fault 5 (between_in 0 1000 retries)
+  Ok (lines.Watch sub timer retries)
+watch_in words = Err 4
+
 -- the line that the words spell, the first of which is its head
 abbrev pub body_in : Version → Head → List (List ℕ) → Result Line ℕ
 body_in version heads.Strategy words = strategy_line_in words
@@ -151,20 +175,22 @@ body_in version heads.Disarm words = order_line_in words
 body_in version heads.Close words = order_line_in words
 body_in version heads.Ask words = order_line_in words
 body_in version heads.Now words = now_in words
+body_in version heads.Group words = group_in words
+body_in version heads.Watch words = watch_in words
 
--- the head, if it may stand here
-abbrev pub if_allowed : Place → Option Head → Option Head
-if_allowed place None = None
-if_allowed place (Some head) = if allows place head then Some head else None
+-- the head, if it may stand here and the version knows it
+abbrev pub if_allowed : Version → Place → Option Head → Option Head
+if_allowed version place None = None
+if_allowed version place (Some head) = if allows place head && knows version head then Some head else None
 
 -- what the first of the words begins
-abbrev pub head_at : Place → List (List ℕ) → Option Head
-head_at place [] = None
-head_at place (first ∷ words) = if_allowed place (head_in first)
+abbrev pub head_at : Version → Place → List (List ℕ) → Option Head
+head_at version place [] = None
+head_at version place (first ∷ words) = if_allowed version place (head_in first)
 
 -- the line that a text spells at this place of a script of this version
 unfoldable pub form_in : Version → Place → List ℕ → Result Line ℕ
 form_in version place text = do
   words ← or_fault 2 (parted_in text)
-  head ← or_fault 3 (head_at place words)
+  head ← or_fault 3 (head_at version place words)
   body_in version head words

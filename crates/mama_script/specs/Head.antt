@@ -1,8 +1,10 @@
 -- believed: First words of lines, and where each may stand.
-use Rattle.std.specs.Prelude.{ℕ, codes, Bool, true, false, List, Option, Some, None, if◌then◌else◌}
+use Rattle.std.specs.Prelude.{ℕ, codes, Bool, true, false, not, List, Option, Some, None, if◌then◌else◌}
 use Rattle.std.specs.Str.{bytes_eq}
 use Rattle.mama_script.specs.declared.head.Head.{Head}
-use Rattle.mama_script.specs.declared.head.Head.TheVariants.{Strategy, Queues, Topic, Publisher, Update, Recap, Pause, Client, Sub, Timer, Inbox, Fault, At, Stop, Disarm, Close, Ask, Now}
+use Rattle.mama_script.specs.declared.head.Head.TheVariants.{Strategy, Queues, Topic, Publisher, Update, Recap, Pause, Client, Sub, Timer, Inbox, Fault, At, Stop, Disarm, Close, Ask, Now, Group, Watch}
+use Rattle.mama_words.specs.declared.version.Version.{Version}
+use Rattle.mama_words.specs.declared.version.Version.TheVariants.{One, Two}
 use Rattle.mama_script.specs.declared.head.Place.{Place}
 use Rattle.mama_script.specs.declared.head.Place.TheVariants as places
 
@@ -26,7 +28,9 @@ head_in word =
     else (if bytes_eq word (codes "disarm") then Some Disarm
     else (if bytes_eq word (codes "close") then Some Close
     else (if bytes_eq word (codes "ask") then Some Ask
-    else (if bytes_eq word (codes "now") then Some Now else None)))))))))))))))))
+    else (if bytes_eq word (codes "now") then Some Now
+    else (if bytes_eq word (codes "group") then Some Group
+    else (if bytes_eq word (codes "watch") then Some Watch else None)))))))))))))))))))
 
 -- the line of the strategy, behind the first line of version 2
 abbrev pub is_strategy : Head → Bool
@@ -54,7 +58,22 @@ follows_publisher Publisher = true
 follows_publisher Client = true
 follows_publisher head = false
 
--- the steps of a client, and the beginning of the next client
+-- behind the last client come groups, and then watches
+abbrev pub follows_group : Head → Bool
+follows_group Group = true
+follows_group Watch = true
+follows_group head = false
+
+abbrev pub follows_watch : Head → Bool
+follows_watch Watch = true
+follows_watch head = false
+
+-- only version 2 knows groups and watches
+abbrev pub knows : Version → Head → Bool
+knows One head = not (follows_group head)
+knows Two head = true
+
+-- the steps of a client, and what may stand behind its section
 abbrev pub follows_client : Head → Bool
 follows_client Sub = true
 follows_client Timer = true
@@ -66,6 +85,8 @@ follows_client Ask = true
 follows_client Now = true
 follows_client Pause = true
 follows_client Client = true
+follows_client Group = true
+follows_client Watch = true
 follows_client head = false
 
 -- behind an order of an object's plan there may be one more
@@ -87,10 +108,14 @@ allows places.Publisher head = follows_publisher head
 allows places.Client head = follows_client head
 allows places.Linked head = follows_link head
 allows places.Planned head = follows_plan head
+allows places.Groups head = follows_group head
+allows places.Watches head = follows_watch head
 
--- a script may end in a client's section
+-- a script may end in a client's section, and behind groups and watches
 abbrev pub may_end : Place → Bool
 may_end places.Client = true
 may_end places.Linked = true
 may_end places.Planned = true
+may_end places.Groups = true
+may_end places.Watches = true
 may_end _ = false

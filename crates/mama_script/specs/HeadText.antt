@@ -1,7 +1,7 @@
 -- inner: The words that lines begin with.
 use Rattle.std.specs.Prelude.{ℕ, codes, List}
 use Rattle.mama_script.specs.declared.head.Head.{Head}
-use Rattle.mama_script.specs.declared.head.Head.TheVariants.{Strategy, Queues, Topic, Publisher, Update, Recap, Pause, Client, Sub, Timer, Inbox, Fault, At, Stop, Disarm, Close, Ask, Now}
+use Rattle.mama_script.specs.declared.head.Head.TheVariants.{Strategy, Queues, Topic, Publisher, Update, Recap, Pause, Client, Sub, Timer, Inbox, Fault, At, Stop, Disarm, Close, Ask, Now, Group, Watch}
 
 -- the word
 abbrev pub head_text : Head → List ℕ
@@ -23,3 +23,5 @@ head_text Disarm = codes "disarm"
 head_text Close = codes "close"
 head_text Ask = codes "ask"
 head_text Now = codes "now"
+head_text Group = codes "group"
+head_text Watch = codes "watch"

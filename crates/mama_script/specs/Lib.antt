@@ -9,6 +9,8 @@ pub mod Equality
 pub mod EqualityLaws
 pub mod Seen
 pub mod Names
+pub mod Placing
+pub mod Cast
 pub mod Reading
 pub mod Answer
 pub mod Tree

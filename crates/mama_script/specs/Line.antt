@@ -7,9 +7,12 @@ use Rattle.mama_edge.specs.Quoted.{quoted}
 use Rattle.mama_msg.specs.Value.{IsText}
 use Rattle.mama_words.specs.Kind.{sub_kind_text, strategy_text}
 use Rattle.mama_words.specs.declared.version.Version.{Version}
+use Rattle.mama_words.specs.declared.version.Version.TheVariants.{Two}
+use Rattle.mama_words.specs.Id.{id_text}
+use Rattle.std.specs.List.{AllByRecursion}
 use Rattle.mama_words.specs.Value.{nums_of}
 use Rattle.mama_words.specs.Field.{field_text, IsMessage}
-use Rattle.mama_words.specs.Order.{order_words, IsOrder}
+use Rattle.mama_words.specs.Order.{order_words, IsOrder, IsId}
 use Rattle.mama_words.specs.declared.order.OrderWord.{OrderWord}
 use Rattle.mama_words.specs.declared.order.OrderWord.TheVariants as orders
 use Rattle.mama_words.specs.Sentence.{sentence}
@@ -49,6 +52,8 @@ line_words (lines.At call order) = codes "at" ∷ decimal call ∷ order_words o
 line_words (lines.Order order) = order_words order
 line_words (lines.Now moment) = codes "now" ∷ decimal moment ∷ []
 line_words lines.NowClock = codes "now" ∷ codes "clock" ∷ []
+line_words (lines.Group ids) = codes "group" ∷ map (id_text 115) ids
+line_words (lines.Watch sub timer retries) = codes "watch" ∷ id_text 115 sub ∷ id_text 116 timer ∷ decimal retries ∷ []
 
 -- the spelling of a line: its words with one space between them
 abbrev pub line_text : Line → List ℕ
@@ -82,6 +87,8 @@ head_of (lines.At call order) = heads.At
 head_of (lines.Order order) = head_of_order order
 head_of (lines.Now moment) = heads.Now
 head_of lines.NowClock = heads.Now
+head_of (lines.Group ids) = heads.Group
+head_of (lines.Watch sub timer retries) = heads.Watch
 
 -- numbers of topics and queues are any below 2 ^ 64: whether they are declared, the other lines say
 abbrev pub IsQueueName : QueueName → Type 0
@@ -94,7 +101,7 @@ IsFault Dup = Unit {0}
 IsFault (Hold by) = (1 ≤ by) × (by ≤ 4294967295)
 IsFault (Cut keep) = keep ≤ 65535
 
--- a line with each number in its range, and fields that the version knows
+-- a line that the version knows, with each number in its range
 abbrev pub IsLine : Version → Line → Type 0
 IsLine version (lines.Strategy strategy) = Unit {0}
 IsLine version (lines.Queues n) = (1 ≤ n) × (n < 2 ^ 64)
@@ -112,3 +119,5 @@ IsLine version (lines.At call order) = (1 ≤ call) × (call ≤ 4294967295) × 
 IsLine version (lines.Order order) = IsOrder order
 IsLine version (lines.Now moment) = moment ≤ 9223372036854775807
 IsLine version lines.NowClock = Unit {0}
+IsLine version (lines.Group ids) = (version ≡ Two) × ((length ids == 0) ≡ false) × AllByRecursion IsId ids
+IsLine version (lines.Watch sub timer retries) = (version ≡ Two) × IsId sub × IsId timer × (retries ≤ 1000)

@@ -1,5 +1,6 @@
 -- believed: Which objects a script makes, and which line is the first to name one that it does not make.
-use Rattle.std.specs.Prelude.{ℕ, suc, ◌+◌, Bool, true, false, nat_lt, List, [], ◌∷◌, ◌++◌, Option, Some, None, slice_get, if◌then◌else◌}
+use Rattle.std.specs.Prelude.{ℕ, suc, ◌+◌, Bool, true, false, ◌&&◌, nat_lt, List, [], ◌∷◌, ◌++◌, Option, Some, None, slice_get, if◌then◌else◌}
+use Rattle.std.specs.List.{list_all}
 use Rattle.mama_words.specs.declared.id.IdWord.{IdWord}
 use Rattle.mama_words.specs.declared.order.OrderWord.{OrderWord}
 use Rattle.mama_words.specs.declared.order.OrderWord.TheVariants as orders
@@ -58,10 +59,12 @@ is_order_named made (orders.Disarm id) = is_made (λ m. m.timers) made id
 is_order_named made (orders.Close id) = is_made (λ m. m.inboxes) made id
 is_order_named made (orders.Ask inbox topic fids) = is_made (λ m. m.inboxes) made inbox
 
--- so is that of a line
+-- so are those of a line
 abbrev pub is_named : List Made → Line → Bool
 is_named made (lines.At call order) = is_order_named made order
 is_named made (lines.Order order) = is_order_named made order
+is_named made (lines.Group ids) = list_all (λ id. is_made (λ m. m.subs) made id) ids
+is_named made (lines.Watch sub timer retries) = is_made (λ m. m.subs) made sub && is_made (λ m. m.timers) made timer
 is_named made _ = true
 
 -- the number of the first line, counted from k, that names an object which is not in the script

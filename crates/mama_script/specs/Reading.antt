@@ -1,5 +1,5 @@
 -- believed: How the lines of a text are read: the lines, or the first line that has a fault or passes a limit.
-use Rattle.std.specs.Prelude.{◌≡◌, ℕ, suc, codes, true, ◌==◌, List, [], ◌∷◌, ◌++◌, length, Option, Some, None, Result, Ok, Err, if◌then◌else◌}
+use Rattle.std.specs.Prelude.{◌≡◌, ℕ, suc, codes, true, ◌==◌, nat_le, List, [], ◌∷◌, ◌++◌, length, Option, Some, None, Result, Ok, Err, if◌then◌else◌}
 use Rattle.std.specs.List.{flat_map}
 use Rattle.std.specs.Str.{bytes_eq}
 use Rattle.mama_words.specs.Parting.{pieces}
@@ -17,6 +17,7 @@ use Rattle.mama_script.specs.Line.{head_of, IsLine, ended}
 use Rattle.mama_script.specs.Form.{form_in}
 use Rattle.mama_script.specs.Before.{Before, start, after, flaw}
 use Rattle.mama_script.specs.Names.{made_by, unnamed_from}
+use Rattle.mama_script.specs.Placing.{cast_of, none_placed, misplaced_from}
 
 -- first the one, then the other; what is wrong with the one if something is
 abbrev pub and_then : {A B : Type 0} → Result A ScriptFault → (A → Result B ScriptFault) → Result B ScriptFault
@@ -82,13 +83,25 @@ lines_in [] = Err (Bad 1 1)
 lines_in (rest ∷ []) = Err (Bad 1 1)
 lines_in (first ∷ next ∷ more) = read_version (version_in first) (next ∷ more)
 
-abbrev pub unless_unnamed : List Line → Option ℕ → Result (List Line) ScriptFault
-unless_unnamed ls None = Ok ls
-unless_unnamed ls (Some k) = Err (Bad k 10)
+abbrev pub unless_wrong : List Line → Option ScriptFault → Result (List Line) ScriptFault
+unless_wrong ls None = Ok ls
+unless_wrong ls (Some fault) = Err fault
+
+-- Which comes first: the line of this number, which names an object that is not in the script, or the one whose group or watch
+-- may not be, with its fault. On one line it is the object.
+abbrev pub earlier : Option ℕ → Option (ℕ × ℕ) → Option ScriptFault
+earlier None None = None
+earlier (Some k) None = Some (Bad k 10)
+earlier None (Some found) = Some (Bad found.0 found.1)
+earlier (Some k) (Some found) = if nat_le k found.0 then Some (Bad k 10) else Some (Bad found.0 found.1)
+
+-- what the second look finds
+abbrev pub second_fault : List Line → Option ScriptFault
+second_fault ls = earlier (unnamed_from (made_by ls) 2 ls) (misplaced_from (cast_of ls) none_placed 2 ls)
 
 -- the second look, where nothing else is wrong
 abbrev pub named_or_fault : List Line → Result (List Line) ScriptFault
-named_or_fault ls = unless_unnamed ls (unnamed_from (made_by ls) 2 ls)
+named_or_fault ls = unless_wrong ls (second_fault ls)
 
 -- the lines of a script, or what is wrong with the text
 abbrev pub script_in : List ℕ → Result (List Line) ScriptFault
@@ -118,3 +131,4 @@ FitFrom b (l ∷ ls) = Fits b l × FitFrom (after b l) ls
 pub record AreAccepted (ls : List Line) : Type 0 where
   pub fit : FitFrom (start (version_of ls)) ls
   pub named : unnamed_from (made_by ls) 2 ls ≡ None
+  pub placed : misplaced_from (cast_of ls) none_placed 2 ls ≡ None

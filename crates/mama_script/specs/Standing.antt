@@ -3,6 +3,7 @@ use Rattle.std.specs.Prelude.{◌≡◌, ◌^◌, ◌<◌, true, List, [], ◌�
 use Rattle.mama_link.specs.declared.faults.FaultRow.{FaultRow}
 use Rattle.mama_link.specs.declared.faults.FaultsFault.{FaultsFault}
 use Rattle.mama_link.specs.Faults.{fault_of_row}
+use Rattle.std.specs.List.{AllByRecursion}
 use Rattle.mama_words.specs.declared.id.IdWord.{IdWord}
 use Rattle.mama_words.specs.declared.order.OrderWord.{OrderWord}
 use Rattle.mama_words.specs.declared.order.OrderWord.TheVariants as orders
@@ -39,6 +40,8 @@ IsSmall (lines.Timer queue interval) = IsSmallQueue queue
 IsSmall (lines.Inbox queue) = IsSmallQueue queue
 IsSmall (lines.At call order) = IsSmallOrder order
 IsSmall (lines.Order order) = IsSmallOrder order
+IsSmall (lines.Group ids) = AllByRecursion IsSmallId ids
+IsSmall (lines.Watch sub timer retries) = IsSmallId sub × IsSmallId timer
 IsSmall _ = Unit {0}
 
 -- where the next line stands
@@ -55,6 +58,8 @@ place_behind place (lines.Timer queue interval) = places.Planned
 place_behind place (lines.Inbox queue) = places.Linked
 place_behind place (lines.Fault row) = place
 place_behind place (lines.At call order) = places.Planned
+place_behind place (lines.Group ids) = places.Groups
+place_behind place (lines.Watch sub timer retries) = places.Watches
 place_behind place _ = beside place
 
 -- the faults of the object at hand
@@ -71,11 +76,21 @@ abbrev pub Stand : Place → List FaultRow → List Line → Type 0
 Stand place rows [] = may_end place ≡ true
 Stand place rows (l ∷ ls) = (allows place (head_of l) ≡ true) × IsSmall l × (bad_fault rows l ≡ None) × Stand (place_behind place l) (faults_behind rows l) ls
 
--- sections of clients
+-- watches
+abbrev pub AreWatches : List Line → Type 0
+AreWatches [] = Unit {0}
+AreWatches (lines.Watch sub timer retries ∷ ls) = IsSmallId sub × IsSmallId timer × AreWatches ls
+AreWatches _ = ⊥
+
+-- groups, and then watches
+abbrev pub AreGroups : List Line → Type 0
+AreGroups (lines.Group ids ∷ ls) = AllByRecursion IsSmallId ids × AreGroups ls
+AreGroups ls = AreWatches ls
+
+-- sections of clients, and then groups and watches
 abbrev pub AreClients : List Line → Type 0
-AreClients [] = Unit {0}
 AreClients (lines.Client ∷ ls) = Stand places.Client [] ls
-AreClients _ = ⊥
+AreClients ls = AreGroups ls
 
 -- sections of publishers, and then of clients
 abbrev pub AreSections : List Line → Type 0

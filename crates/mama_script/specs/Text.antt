@@ -1,5 +1,5 @@
 -- inner: The text of each part of a script.
-use Rattle.std.specs.Prelude.{ℕ, List}
+use Rattle.std.specs.Prelude.{ℕ, List, ◌∷◌}
 use Rattle.std.specs.List.{flat_map}
 use Rattle.mama_event.specs.declared.order.PlanRow.{PlanRow}
 use Rattle.mama_link.specs.declared.faults.FaultRow.{FaultRow}
@@ -7,7 +7,11 @@ use Rattle.mama_script.specs.declared.publisher.PublisherLine.{PublisherLine}
 use Rattle.mama_script.specs.declared.publisher.PublisherPart.{PublisherPart}
 use Rattle.mama_script.specs.declared.client.ClientLine.{ClientLine}
 use Rattle.mama_script.specs.Line.{ended}
-use Rattle.mama_script.specs.Tree.{plan_line, fault_line, object_lines, publisher_line, publisher_lines, step_lines, client_lines, topic_line}
+use Rattle.mama_event.specs.declared.ids.SubId.{SubId}
+use Rattle.mama_event.specs.declared.group.GroupRow.{GroupRow}
+use Rattle.mama_event.specs.declared.watch.WatchRow.{WatchRow}
+use Rattle.mama_words.specs.Id.{sub_text}
+use Rattle.mama_script.specs.Tree.{group_line, watch_line, plan_line, fault_line, object_lines, publisher_line, publisher_lines, step_lines, client_lines, topic_line}
 
 abbrev pub topic_text : List ℕ → List ℕ
 topic_text name = ended (topic_line name)
@@ -32,3 +36,12 @@ step_text step = flat_map ended (step_lines step)
 
 abbrev pub client_text : List ClientLine → List ℕ
 client_text client = flat_map ended (client_lines client)
+
+abbrev pub member_text : SubId → List ℕ
+member_text sub = 32 ∷ sub_text sub
+
+abbrev pub group_text : GroupRow → List ℕ
+group_text row = ended (group_line row)
+
+abbrev pub watch_text : WatchRow → List ℕ
+watch_text row = ended (watch_line row)

@@ -1,6 +1,6 @@
 -- believed: The lines that a script has, in order: its one spelling is theirs.
-use Rattle.std.specs.Prelude.{◌≡◌, ℕ, List, [], ◌∷◌, ◌++◌, length, map}
-use Rattle.std.specs.List.{flat_map}
+use Rattle.std.specs.Prelude.{◌≡◌, ℕ, suc, ◌==◌, List, [], ◌∷◌, ◌++◌, length, map, Option, Some, None, option_and_then, slice_get, if◌then◌else◌}
+use Rattle.std.specs.List.{flat_map, AllByRecursion}
 use Rattle.mama_event.specs.declared.order.PlanRow.{PlanRow}
 use Rattle.mama_event.specs.declared.shape.Strategy.{Strategy}
 use Rattle.mama_event.specs.declared.shape.Strategy.TheVariants as strategy
@@ -8,6 +8,10 @@ use Rattle.mama_link.specs.declared.faults.FaultRow.{FaultRow}
 use Rattle.mama_words.specs.declared.version.Version.{Version}
 use Rattle.mama_words.specs.declared.version.Version.TheVariants as version
 use Rattle.mama_words.specs.Order.{word_of}
+use Rattle.mama_words.specs.Id.{sub_word, timer_word}
+use Rattle.mama_event.specs.declared.ids.SubId.{SubId}
+use Rattle.mama_event.specs.declared.group.GroupRow.{GroupRow}
+use Rattle.mama_event.specs.declared.watch.WatchRow.{WatchRow}
 use Rattle.mama_script.specs.declared.line.QueueName.{QueueName}
 use Rattle.mama_script.specs.declared.line.QueueName.TheVariants as names
 use Rattle.mama_script.specs.declared.line.Line.{Line}
@@ -67,9 +71,21 @@ abbrev pub strategy_lines : Version → Strategy → List Line
 strategy_lines version.One strategy = []
 strategy_lines version.Two strategy = lines.Strategy strategy ∷ []
 
--- the queues, the topics and the sections
+abbrev pub group_line : GroupRow → Line
+group_line row = lines.Group (map sub_word row.members)
+
+abbrev pub watch_line : WatchRow → Line
+watch_line row = lines.Watch (sub_word row.sub) (timer_word row.timer) row.retries
+
+-- the groups and the watches, behind the sections
+abbrev pub last_lines : List GroupRow → List WatchRow → List Line
+last_lines groups watches = map group_line groups ++ map watch_line watches
+
+-- the queues, the topics, the sections, the groups and the watches
 abbrev pub body_lines : ScriptData → List Line
-body_lines s = lines.Queues s.shape.bounds.queues ∷ (map topic_line s.topics ++ (flat_map publisher_lines s.publishers ++ flat_map client_lines s.clients))
+body_lines s =
+    lines.Queues s.shape.bounds.queues
+    ∷ (map topic_line s.topics ++ (flat_map publisher_lines s.publishers ++ (flat_map client_lines s.clients ++ last_lines s.groups s.watches)))
 
 -- the lines of a script behind the first
 abbrev pub lines_of : ScriptData → List Line
@@ -91,12 +107,37 @@ abbrev pub HasStrategy : Version → Strategy → Type 0
 HasStrategy version.One s = s ≡ strategy.One
 HasStrategy version.Two s = Unit {0}
 
--- the shape of a script counts what the script has
+-- the topics of a client's subscriptions, in order
+abbrev pub topic_in : ClientLine → List ℕ
+topic_in (steps.Sub topic kind queue cache recaps faults plan) = topic ∷ []
+topic_in _ = []
+
+abbrev pub topics_in : List ClientLine → List ℕ
+topics_in client = flat_map topic_in client
+
+-- the id of the first publisher of a topic, where the first of these topics is that of the publisher with the id n; 0 where there is none
+abbrev pub first_sender : ℕ → ℕ → List ℕ → ℕ
+first_sender topic n [] = 0
+first_sender topic n (t ∷ ts) = if t == topic then n else first_sender topic (suc n) ts
+
+abbrev pub sender_or_none : List ℕ → Option ℕ → ℕ
+sender_or_none topics None = 0
+sender_or_none topics (Some topic) = first_sender topic 1 topics
+
+-- the id of the first publisher of a subscription's topic
+abbrev pub sender_of : ScriptData → SubId → ℕ
+sender_of s sub = sender_or_none s.shape.publisher_topics (option_and_then (λ lines. slice_get (topics_in lines) sub.number) (slice_get s.clients sub.client))
+
+abbrev pub HasSender : ScriptData → WatchRow → Type 0
+HasSender s row = row.sender ≡ sender_of s row.sub
+
+-- the shape of a script counts what the script has, and each watch has the sender of its subscription
 pub record IsShaped (s : ScriptData) : Type 0 where
   pub clients : s.shape.clients ≡ length s.clients
   pub topics : s.shape.bounds.topics ≡ length s.topics
   pub publishers : s.shape.publisher_topics ≡ map topic_of_part s.publishers
   pub strategy : HasStrategy s.version s.shape.strategy
+  pub senders : AllByRecursion (HasSender s) s.watches
 
 -- a script that a text spells
 pub record IsScript (s : ScriptData) : Type 0 where

@@ -1,5 +1,5 @@
 -- believed: What the users of a script may rely on: what its lines name is declared, and its counts are within the limits.
-use Rattle.std.specs.Prelude.{◌≡◌, ℕ, ◌+◌, ◌<◌, ◌≤◌, ◌==◌, true, List, [], ◌∷◌, length, map, if◌then◌else◌}
+use Rattle.std.specs.Prelude.{◌≡◌, ℕ, ◌+◌, ◌<◌, ◌≤◌, ◌==◌, true, false, List, [], ◌∷◌, ◌++◌, length, map, if◌then◌else◌}
 use Rattle.std.specs.List.{AllByRecursion}
 use Rattle.mama_event.specs.declared.order.Order.{Order}
 use Rattle.mama_event.specs.declared.order.Order.TheVariants as orders
@@ -17,6 +17,12 @@ use Rattle.mama_script.specs.declared.names.Made.{Made}
 use Rattle.mama_script.specs.Names.{nothing_made, with_sub, with_timer, with_inbox, is_order_named}
 use Rattle.mama_script.specs.Script.{ScriptData}
 use Rattle.mama_words.specs.Order.{word_of}
+use Rattle.mama_words.specs.declared.id.IdWord.{IdWord}
+use Rattle.mama_words.specs.Id.{sub_word, timer_word}
+use Rattle.mama_event.specs.declared.group.GroupRow.{GroupRow}
+use Rattle.mama_event.specs.declared.watch.WatchRow.{WatchRow}
+use Rattle.mama_script.specs.Placing.{has_id}
+use Rattle.mama_words.specs.declared.version.Version.TheVariants as version
 
 -- a queue that is declared, or any
 abbrev pub IsQueueWithin : ℕ → QueueWord → Type 0
@@ -124,6 +130,25 @@ pub record IsPublisherWithin (topics : ℕ) (part : PublisherPart) : Type 0 wher
   pub base : length part.base ≤ 64
   pub sends : AreSendsWithin part.base part.lines
 
+-- no id stands twice
+abbrev pub AreIdsApart : List IdWord → Type 0
+AreIdsApart [] = Unit {0}
+AreIdsApart (x ∷ xs) = (has_id x xs ≡ false) × AreIdsApart xs
+
+-- the members of all groups, and the subscriptions and the timers of all watches, in order
+abbrev pub all_grouped : List GroupRow → List IdWord
+all_grouped [] = []
+all_grouped (g ∷ groups) = map sub_word g.members ++ all_grouped groups
+
+abbrev pub watched_subs : List WatchRow → List IdWord
+watched_subs watches = map (λ (w : WatchRow). sub_word w.sub) watches
+
+abbrev pub watched_timers : List WatchRow → List IdWord
+watched_timers watches = map (λ (w : WatchRow). timer_word w.timer) watches
+
+abbrev pub HasMember : GroupRow → Type 0
+HasMember g = 0 < length g.members
+
 pub record IsWithin (s : ScriptData) : Type 0 where
   pub queues_some : 1 ≤ s.shape.bounds.queues
   pub queues_few : s.shape.bounds.queues ≤ 64
@@ -135,3 +160,10 @@ pub record IsWithin (s : ScriptData) : Type 0 where
   pub publishers : AllByRecursion (IsPublisherWithin (length s.topics)) s.publishers
   pub clients : AllByRecursion (IsClientWithin (length s.topics) s.shape.bounds.queues) s.clients
   pub named : AllByRecursion (AreStepsNamed (map made_of s.clients)) s.clients
+  pub groups_few : length s.groups ≤ 10000
+  pub watches_few : length s.watches ≤ 10000
+  pub unlisted : s.version ≡ version.One → (s.groups ≡ []) × (s.watches ≡ [])
+  pub members : AllByRecursion HasMember s.groups
+  pub grouped : AreIdsApart (all_grouped s.groups)
+  pub watched : AreIdsApart (watched_subs s.watches)
+  pub timed : AreIdsApart (watched_timers s.watches)

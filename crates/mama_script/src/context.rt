@@ -127,6 +127,12 @@ impl Context {
             Line::Fault(row) => self.admit_fault(row.index),
             Line::At { call, order } => self.admit_at(*call, order),
             Line::Order(order) => self.admit_order(order),
+            Line::Group(_) => self.admit_group(),
+            Line::Watch {
+                sub: _,
+                timer: _,
+                retries: _,
+            } => self.admit_watch(),
         }
     }
 
@@ -398,5 +404,21 @@ impl Context {
     {
         self.check_order(order)?;
         self.admit_step()
+    }
+
+    fn admit_group(&mut self) -> Result<(), Refused>
+        ensures after { OnOk result (seen self.new ≡ before.after_group (seen self.old)) }
+        ensures refused { IfErr result (Refuses None) }
+    {
+        self.place = Place::Groups;
+        Ok(())
+    }
+
+    fn admit_watch(&mut self) -> Result<(), Refused>
+        ensures after { OnOk result (seen self.new ≡ before.after_watch (seen self.old)) }
+        ensures refused { IfErr result (Refuses None) }
+    {
+        self.place = Place::Watches;
+        Ok(())
     }
 }

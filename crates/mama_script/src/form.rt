@@ -1,16 +1,19 @@
 //! Lines by their own form.
-ghost use Rattle.std.specs.Prelude.{◌≡◌, ◌<◌, ◌^◌, map, Some};
+ghost use Rattle.std.specs.Prelude.{◌≡◌, ◌<◌, ◌^◌, map, Some, IfOk};
+ghost use Rattle.std.specs.Option.{option_map};
+ghost use Rattle.mama_words.specs.Reading.{or_fault};
 ghost use Rattle.mama_words.specs.Answer.{Gives};
 ghost use Rattle.mama_words.specs.Number.{between_in};
 ghost use Rattle.mama_script.specs.Head.{head_in};
 ghost use Rattle.mama_script.specs.Form as forms;
 
 use crate::head::{Head, Place, read_head};
-use crate::line::{Line, QueueName};
+use crate::line::{IdWords, Line, QueueName};
 use mama_link::{Fault, FaultRow};
+use mama_memory::OutOfMemory;
 use mama_words::{
-    Nums, ReadError, Version, parted, read_between, read_message, read_number, read_order,
-    read_strategy, read_sub_kind, read_text,
+    IdWord, Nums, ReadError, Version, parted, read_between, read_message, read_number, read_order,
+    read_strategy, read_sub_id, read_sub_kind, read_text, read_timer_id,
 };
 use std::alloc::Global;
 
@@ -18,6 +21,9 @@ const MOST_U32: u64 = 4_294_967_295;
 
 /// The most bytes that a cut may keep.
 const MOST_KEPT: u64 = 65_535;
+
+/// The most retries of a watch.
+const MOST_RETRIES: u64 = 1_000;
 
 /// The line that a text spells at this place of a script of this version, or the lowest of its faults from 2 to 8.
 #[tactic(auto, unfolding(crate::specs::Form::form_in))]
@@ -30,26 +36,32 @@ pub fn read_form(
     ensures { Gives (λ l. l) result (forms.form_in version place text.now) }
 {
     let words = parted(alloc, text)?;
-    let head = head_at(place, &words).ok_or(ReadError::Fault(3))?;
+    let head = head_at(version, place, &words).ok_or(ReadError::Fault(3))?;
     read_body(alloc, version, head, &words)
 }
 
 // What the first word begins, if it may stand here.
-fn head_at(place: Place, words: &[&[u8]]) -> Option<Head>
-    ensures { result ≡ forms.head_at place (map (λ w. w.now) words.now) }
+fn head_at(version: Version, place: Place, words: &[&[u8]]) -> Option<Head>
+    ensures { result ≡ forms.head_at version place (map (λ w. w.now) words.now) }
 {
     match words {
         [] => None,
-        [first, ..] => if_allowed(place, read_head(first)),
+        [first, ..] => if_allowed(version, place, read_head(first)),
     }
 }
 
-fn if_allowed(place: Place, head: Option<Head>) -> Option<Head>
-    ensures { result ≡ forms.if_allowed place head }
+fn if_allowed(version: Version, place: Place, head: Option<Head>) -> Option<Head>
+    ensures { result ≡ forms.if_allowed version place head }
 {
     match head {
         None => None,
-        Some(head) => { if place.allows(head) { Some(head) } else { None } }
+        Some(head) => {
+            if place.allows(head) && head.is_known(version) {
+                Some(head)
+            } else {
+                None
+            }
+        }
     }
 }
 
@@ -78,6 +90,8 @@ fn read_body(
         Head::At => read_at(words),
         Head::Stop | Head::Disarm | Head::Close | Head::Ask => read_order_line(words),
         Head::Now => read_now(words),
+        Head::Group => read_group(alloc, words),
+        Head::Watch => read_watch(words),
     }
 }
 
@@ -358,6 +372,63 @@ fn read_now(words: &[&[u8]]) -> Result<Line, ReadError>
                 5,
             ))?;
             Ok(Line::Now(moment))
+        }
+        _ => Err(ReadError::Fault(4)),
+    }
+}
+
+// The subscriptions that the words name. None where a word names none.
+fn read_subs(alloc: Global, words: &[&[u8]]) -> Result<Option<Vec<IdWord>>, OutOfMemory>
+    ensures { IfOk result (λ ids. option_map (λ v. v.items) ids ≡ forms.subs_in (map (λ w. w.now) words.now)) }
+{
+    let mut ids = Vec::with_capacity(alloc, words.len())?;
+    for word in words {
+        match read_sub_id(word) {
+            Some(id) => ids.push(id)?,
+            None => return Ok(None),
+        }
+    }
+    Ok(Some(ids))
+}
+
+fn read_members(alloc: Global, words: &[&[u8]]) -> Result<IdWords, ReadError>
+    ensures { Gives (λ ids. ids) result (or_fault 5 (forms.subs_in (map (λ w. w.now) words.now))) }
+{
+    match read_subs(alloc, words) {
+        Ok(Some(ids)) => Ok(IdWords::new(ids)),
+        Ok(None) => Err(ReadError::Fault(5)),
+        Err(OutOfMemory) => Err(ReadError::Memory),
+    }
+}
+
+#[tactic(auto, unfolding(crate::specs::Form::group_in))]
+fn read_group(alloc: Global, words: &[&[u8]]) -> Result<Line, ReadError>
+    ensures { Gives (λ l. l) result (forms.group_in (map (λ w. w.now) words.now)) }
+{
+    match words {
+        [] => Err(ReadError::Fault(4)),
+        [_] => Err(ReadError::Fault(4)),
+        [_, members @ ..] => {
+            let ids = read_members(alloc, members)?;
+            Ok(Line::Group(ids))
+        }
+    }
+}
+
+#[tactic(auto, unfolding(crate::specs::Form::watch_in))]
+fn read_watch(words: &[&[u8]]) -> Result<Line, ReadError>
+    ensures { Gives (λ l. l) result (forms.watch_in (map (λ w. w.now) words.now)) }
+{
+    match words {
+        [_, sub, timer, retries] => {
+            let sub = read_sub_id(sub).ok_or(ReadError::Fault(5))?;
+            let timer = read_timer_id(timer).ok_or(ReadError::Fault(5))?;
+            let retries = read_u32(0, MOST_RETRIES, retries).ok_or(ReadError::Fault(5))?;
+            Ok(Line::Watch {
+                sub,
+                timer,
+                retries,
+            })
         }
         _ => Err(ReadError::Fault(4)),
     }

@@ -27,6 +27,8 @@ pub enum Head {
     Close,
     Ask,
     Now,
+    Group,
+    Watch,
 }
 
 /// Where a line stands, by the lines before it.
@@ -46,10 +48,14 @@ pub enum Place {
     Linked,
     /// Behind a timer, or an order of any object's plan.
     Planned,
+    /// Behind a group.
+    Groups,
+    /// Behind a watch.
+    Watches,
 }
 
 impl Head {
-    const ALL: [Head; 18] = [
+    const ALL: [Head; 20] = [
         Head::Strategy,
         Head::Queues,
         Head::Topic,
@@ -68,6 +74,8 @@ impl Head {
         Head::Close,
         Head::Ask,
         Head::Now,
+        Head::Group,
+        Head::Watch,
     ];
 
     // The word.
@@ -93,6 +101,8 @@ impl Head {
             Head::Close => b"close",
             Head::Ask => b"ask",
             Head::Now => b"now",
+            Head::Group => b"group",
+            Head::Watch => b"watch",
         }
     }
 }
@@ -159,7 +169,7 @@ fn follows_client(head: Head) -> bool
 {
     match head {
         Head::Sub | Head::Timer | Head::Inbox | Head::Stop | Head::Disarm | Head::Close => true,
-        Head::Ask | Head::Now | Head::Pause | Head::Client => true,
+        Head::Ask | Head::Now | Head::Pause | Head::Client | Head::Group | Head::Watch => true,
         _ => false,
     }
 }
@@ -179,6 +189,36 @@ fn follows_link(head: Head) -> bool
     match head {
         Head::Fault => true,
         _ => follows_plan(head),
+    }
+}
+
+fn follows_group(head: Head) -> bool
+    ensures { result ≡ words.follows_group head }
+{
+    match head {
+        Head::Group | Head::Watch => true,
+        _ => false,
+    }
+}
+
+fn follows_watch(head: Head) -> bool
+    ensures { result ≡ words.follows_watch head }
+{
+    match head {
+        Head::Watch => true,
+        _ => false,
+    }
+}
+
+impl Head {
+    /// Whether lines of this version begin so.
+    pub fn is_known(self, version: Version) -> bool
+        ensures { result ≡ words.knows version self }
+    {
+        match version {
+            Version::One => !follows_group(self),
+            Version::Two => true,
+        }
     }
 }
 
@@ -205,6 +245,8 @@ impl Place {
             Place::Client => follows_client(head),
             Place::Linked => follows_link(head),
             Place::Planned => follows_plan(head),
+            Place::Groups => follows_group(head),
+            Place::Watches => follows_watch(head),
         }
     }
 
@@ -215,6 +257,7 @@ impl Place {
         match self {
             Place::Strategy | Place::Start | Place::Topics | Place::Publisher => false,
             Place::Client | Place::Linked | Place::Planned => true,
+            Place::Groups | Place::Watches => true,
         }
     }
 }

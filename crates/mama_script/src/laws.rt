@@ -18,7 +18,7 @@ use crate::script::Script;
 
 /// The line that reading tells is the first that is wrong: line 1 that is another one; or a line before which all
 /// lines fit, and which has the fault or passes the limit itself; or, where all lines fit, the first that names an
-/// object which is not in the script.
+/// object which is not in the script, or has a group or a watch that may not be.
 pub fn first_fault_is_told()
     ensures { (text : List ℕ) (line : ℕ) (found : Flaw) → script_in text ≡ Err (at_line line found) → IsFirst text line found }
 {}

@@ -8,7 +8,7 @@
 //!
 //! [`parse`] gives just what that reading gives, and [`print`] the one spelling; each undoes the other.
 //! [`first_fault_is_told`] says in plain words which line a refusal names, and [`Script::shape`] what the users of a
-//! script may rely on.
+//! script may rely on. `specs/Placing.antt` says which groups and watches there may be.
 #![tactic(auto)]
 
 mod client;
@@ -20,6 +20,7 @@ mod laws;
 mod line;
 mod names;
 mod parsing;
+mod placing;
 mod plan;
 mod printing;
 mod publisher;

@@ -1,5 +1,6 @@
 //! The second look: whether the objects that lines name are in the script.
 ghost use Rattle.std.specs.Prelude.{◌≡◌, ◌<◌, ◌+◌, ◌-◌, ◌^◌, length, IfOk, OnOk, OnErr, slice_get};
+ghost use Rattle.std.specs.List.{list_all};
 ghost use Rattle.mama_script.specs.Counted.{AreCounted};
 ghost use Rattle.mama_script.specs.Names as names;
 
@@ -121,13 +122,19 @@ fn add_inbox(made: &mut Vec<Made>) -> Result<(), OutOfMemory>
     Ok(())
 }
 
-// Whether the object that a line names, if it names one, is in the script.
+// Whether the objects that a line names, if it names some, are in the script.
 fn is_named(made: &[Made], line: &Line) -> bool
     ensures { result ≡ names.is_named made.now line.now }
 {
     match line {
         Line::At { call: _, order } => is_order_named(made, order),
         Line::Order(order) => is_order_named(made, order),
+        Line::Group(ids) => are_subs_made(made, ids.as_slice()),
+        Line::Watch {
+            sub,
+            timer,
+            retries: _,
+        } => is_sub_made(made, *sub) && is_timer_made(made, *timer),
         _ => true,
     }
 }
@@ -136,14 +143,8 @@ fn is_order_named(made: &[Made], order: &OrderWord) -> bool
     ensures { result ≡ names.is_order_named made.now order.now }
 {
     match order {
-        OrderWord::Stop(id) => match made_of(made, *id) {
-            Some(made) => id.number < made.subs,
-            None => false,
-        },
-        OrderWord::Disarm(id) => match made_of(made, *id) {
-            Some(made) => id.number < made.timers,
-            None => false,
-        },
+        OrderWord::Stop(id) => is_sub_made(made, *id),
+        OrderWord::Disarm(id) => is_timer_made(made, *id),
         OrderWord::Close(id) => match made_of(made, *id) {
             Some(made) => id.number < made.inboxes,
             None => false,
@@ -156,6 +157,30 @@ fn is_order_named(made: &[Made], order: &OrderWord) -> bool
             Some(made) => inbox.number < made.inboxes,
             None => false,
         },
+    }
+}
+
+fn are_subs_made(made: &[Made], ids: &[IdWord]) -> bool
+    ensures { result ≡ list_all (λ id. names.is_made (λ m. m.subs) made.now id) ids.now }
+{
+    ids.iter().all(|id| is_sub_made(made, *id))
+}
+
+fn is_sub_made(made: &[Made], id: IdWord) -> bool
+    ensures { result ≡ names.is_made (λ m. m.subs) made.now id }
+{
+    match made_of(made, id) {
+        Some(made) => id.number < made.subs,
+        None => false,
+    }
+}
+
+fn is_timer_made(made: &[Made], id: IdWord) -> bool
+    ensures { result ≡ names.is_made (λ m. m.timers) made.now id }
+{
+    match made_of(made, id) {
+        Some(made) => id.number < made.timers,
+        None => false,
     }
 }
 

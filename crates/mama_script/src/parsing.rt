@@ -15,13 +15,15 @@ use crate::form::read_form;
 use crate::head::Place;
 use crate::line::Line;
 use crate::names::first_unnamed;
+use crate::placing::first_misplaced;
 use crate::script::Script;
 use crate::tree::{Parts, parts_of};
 use mama_words::{ReadError, Version, cut_at};
 use std::alloc::Global;
 
-/// The script that a text spells, or the first line that has a fault or passes a limit. An object that is not in the
-/// script is told only where nothing else is wrong. The number of bytes is not tested here.
+/// The script that a text spells, or the first line that has a fault or passes a limit. Objects that are not in the script,
+/// and groups and watches that may not be, are looked for only where every line fits by itself: then the first such line is
+/// told, and on one line the object. The number of bytes is not tested here.
 pub fn parse(alloc: Global, text: &[u8]) -> Result<Script, ScriptFault>
     // What is read is spelled so.
     ensures found { IfOk result (λ s. tree.IsScript s × (text.now ≡ tree.script_text s)) }
@@ -51,10 +53,31 @@ fn read_script(alloc: Global, text: &[u8]) -> Result<Vec<Line>, ScriptFault>
     ensures { Gives (λ v. v.items) result (reading.script_in text.now) }
 {
     let lines = read_lines(alloc, text)?;
-    if let Some(line) = first_unnamed(alloc, &lines)? {
-        return Err(ScriptFault::Bad { line, fault: 10 });
+    let unnamed = first_unnamed(alloc, &lines)?;
+    let misplaced = first_misplaced(alloc, &lines)?;
+    match earlier(unnamed, misplaced) {
+        Some(fault) => Err(fault),
+        None => Ok(lines),
     }
-    Ok(lines)
+}
+
+// Which comes first: the line that names an object which is not in the script, or the one whose group or watch may not be. On
+// one line it is the object.
+fn earlier(unnamed: Option<u64>, misplaced: Option<(u64, u8)>) -> Option<ScriptFault>
+    ensures { result ≡ reading.earlier unnamed misplaced }
+{
+    match (unnamed, misplaced) {
+        (None, None) => None,
+        (Some(line), None) => Some(ScriptFault::Bad { line, fault: 10 }),
+        (None, Some((line, fault))) => Some(ScriptFault::Bad { line, fault }),
+        (Some(line), Some((other, fault))) => {
+            if line <= other {
+                Some(ScriptFault::Bad { line, fault: 10 })
+            } else {
+                Some(ScriptFault::Bad { line: other, fault })
+            }
+        }
+    }
 }
 
 /// The lines behind the first, each in its form and fitting those before it.

@@ -15,11 +15,14 @@ use crate::plan::Plan;
 use crate::publisher::{PublisherLine, PublisherPart};
 use crate::script::Script;
 use mama_edge::{print_quoted, print_u64};
-use mama_event::{Order, PlanRow, Strategy, SubKind};
+use mama_event::{GroupRow, Order, PlanRow, Strategy, SubId, SubKind, WatchRow};
 use mama_link::{Fault, FaultRow};
 use mama_memory::OutOfMemory;
 use mama_msg::{Msg, TextValue};
-use mama_words::{Version, print_fields, print_order, print_strategy, print_sub_kind};
+use mama_words::{
+    Version, print_fields, print_order, print_strategy, print_sub_id, print_sub_kind,
+    print_timer_id,
+};
 use std::alloc::Global;
 
 /// The one text that is read as this script.
@@ -33,6 +36,8 @@ pub fn print(alloc: Global, script: &Script) -> Result<Vec<u8>, OutOfMemory>
     put_topics(script.topics(), &mut out)?;
     put_publishers(script.publishers(), &mut out)?;
     put_clients(script.clients(), &mut out)?;
+    put_groups(script.groups(), &mut out)?;
+    put_watches(script.watches(), &mut out)?;
     Ok(out)
 }
 
@@ -362,6 +367,61 @@ fn put_at(row: &PlanRow, out: &mut Vec<u8>) -> Result<(), OutOfMemory>
     put_number(u64::from(row.call), out)?;
     out.push(b' ')?;
     print_order(&row.order, out)?;
+    out.push(b'\n')?;
+    Ok(())
+}
+
+fn put_groups(groups: &[GroupRow], out: &mut Vec<u8>) -> Result<(), OutOfMemory>
+    ensures { OnOk result (out.new.items ≡ out.old.items ++ flat_map texts.group_text groups.now) }
+{
+    for row in groups {
+        put_group(row, out)?;
+    }
+    Ok(())
+}
+
+fn put_group(row: &GroupRow, out: &mut Vec<u8>) -> Result<(), OutOfMemory>
+    ensures { OnOk result (out.new.items ≡ out.old.items ++ texts.group_text row.now) }
+{
+    out.extend_from_slice(b"group")?;
+    put_members(row.members.as_slice(), out)?;
+    out.push(b'\n')?;
+    Ok(())
+}
+
+fn put_members(members: &[SubId], out: &mut Vec<u8>) -> Result<(), OutOfMemory>
+    ensures { OnOk result (out.new.items ≡ out.old.items ++ flat_map texts.member_text members.now) }
+{
+    for sub in members {
+        put_member(*sub, out)?;
+    }
+    Ok(())
+}
+
+fn put_member(sub: SubId, out: &mut Vec<u8>) -> Result<(), OutOfMemory>
+    ensures { OnOk result (out.new.items ≡ out.old.items ++ texts.member_text sub) }
+{
+    out.push(b' ')?;
+    print_sub_id(sub, out)
+}
+
+fn put_watches(watches: &[WatchRow], out: &mut Vec<u8>) -> Result<(), OutOfMemory>
+    ensures { OnOk result (out.new.items ≡ out.old.items ++ flat_map texts.watch_text watches.now) }
+{
+    for row in watches {
+        put_watch(row, out)?;
+    }
+    Ok(())
+}
+
+fn put_watch(row: &WatchRow, out: &mut Vec<u8>) -> Result<(), OutOfMemory>
+    ensures { OnOk result (out.new.items ≡ out.old.items ++ texts.watch_text row.now) }
+{
+    out.extend_from_slice(b"watch ")?;
+    print_sub_id(row.sub, out)?;
+    out.push(b' ')?;
+    print_timer_id(row.timer, out)?;
+    put_number(u64::from(row.retries), out)?;
     out.push(b'\n')?;
     Ok(())
 }

@@ -4,7 +4,7 @@ ghost use Rattle.mama_script.specs.Equality.{same_shape};
 use crate::client::ClientLines;
 use crate::publisher::PublisherPart;
 use crate::tree::Parts;
-use mama_event::Shape;
+use mama_event::{GroupRow, Shape, WatchRow};
 use mama_msg::TextValue;
 use mama_words::Version;
 use std::marker::Model;
@@ -27,6 +27,8 @@ pub struct Script {
     topics: Vec<TextValue>,
     publishers: Vec<PublisherPart>,
     clients: Vec<ClientLines>,
+    groups: Vec<GroupRow>,
+    watches: Vec<WatchRow>,
 }
 
 impl Model for Script {
@@ -36,9 +38,9 @@ impl Model for Script {
 
     ghost use Rattle.mama_script.specs.Tree.{IsScript};
 
-    ghost view = { λ s. record { version = s.version; shape = s.shape; topics = s.topics.items; publishers = s.publishers.items; clients = s.clients.items } };
+    ghost view = { λ s. record { version = s.version; shape = s.shape; topics = s.topics.items; publishers = s.publishers.items; clients = s.clients.items; groups = s.groups.items; watches = s.watches.items } };
 
-    ghost invariant = { λ s. IsScript (record { version = s.version; shape = s.shape; topics = s.topics.items; publishers = s.publishers.items; clients = s.clients.items }) };
+    ghost invariant = { λ s. IsScript (record { version = s.version; shape = s.shape; topics = s.topics.items; publishers = s.publishers.items; clients = s.clients.items; groups = s.groups.items; watches = s.watches.items }) };
 }
 
 impl PartialEq for Script {
@@ -58,6 +60,8 @@ impl PartialEq for Script {
             && self.topics == other.topics
             && self.publishers == other.publishers
             && self.clients == other.clients
+            && self.groups == other.groups
+            && self.watches == other.watches
     }
 }
 
@@ -83,6 +87,8 @@ impl Script {
             topics,
             publishers,
             clients,
+            groups,
+            watches,
         } = parts;
         Script {
             version,
@@ -90,6 +96,8 @@ impl Script {
             topics,
             publishers,
             clients,
+            groups,
+            watches,
         }
     }
 
@@ -120,6 +128,8 @@ impl Script {
             topics,
             publishers,
             clients,
+            groups,
+            watches,
         } = self;
         Script {
             version: Version::Two,
@@ -127,6 +137,8 @@ impl Script {
             topics,
             publishers,
             clients,
+            groups,
+            watches,
         }
     }
 
@@ -149,5 +161,20 @@ impl Script {
         ensures { result.now ≡ self.now.clients }
     {
         self.clients.as_slice()
+    }
+
+    /// The groups in order of their numbers; a script of version 1 has none. Each has members, and no subscription is a member
+    /// twice.
+    pub fn groups(&self) -> &[GroupRow]
+        ensures { result.now ≡ self.now.groups }
+    {
+        self.groups.as_slice()
+    }
+
+    /// The watches in order of their numbers; a script of version 1 has none. No subscription and no timer is in two.
+    pub fn watches(&self) -> &[WatchRow]
+        ensures { result.now ≡ self.now.watches }
+    {
+        self.watches.as_slice()
     }
 }

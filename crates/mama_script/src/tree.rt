@@ -1,6 +1,9 @@
 //! Lines to the sections of a script.
-ghost use Rattle.std.specs.Prelude.{◌≡◌, ◌<◌, ◌^◌, ◌∷◌, ◌++◌, [], length, map, None, IfOk, OnOk};
-ghost use Rattle.std.specs.List.{flat_map};
+ghost use Rattle.std.specs.Prelude.{◌≡◌, ◌<◌, ◌^◌, ◌+◌, ◌∷◌, ◌++◌, [], length, map, None, IfOk, OnOk};
+ghost use Rattle.std.specs.List.{flat_map, AllByRecursion};
+ghost use Rattle.mama_journal.specs.Journal.{numbers_below};
+ghost use Rattle.mama_event.specs.declared.watch.WatchRow.{WatchRow};
+ghost use Rattle.mama_script.specs.declared.publisher.PublisherPart.{PublisherPart};
 ghost use Rattle.mama_words.specs.Order.{word_of};
 ghost use Rattle.mama_words.specs.Id.{sub_word, timer_word, inbox_word};
 ghost use Rattle.mama_script.specs.Tree as tree;
@@ -12,10 +15,13 @@ ghost use Rattle.mama_script.specs.Standing as standing;
 
 use crate::client::{ClientLine, ClientLines, QueueWord};
 use crate::head::Place;
-use crate::line::{Line, QueueName};
+use crate::line::{IdWords, Line, QueueName};
 use crate::plan::Plan;
 use crate::publisher::{PublisherLine, PublisherLines, PublisherPart};
-use mama_event::{Bounds, InboxId, Order, PlanRow, Shape, Strategy, SubId, TimerId, Topics};
+use mama_event::{
+    Bounds, GroupRow, InboxId, Members, Order, PlanRow, Shape, Strategy, SubId, TimerId, Topics,
+    WatchRow,
+};
 use mama_link::{FaultRow, Faults, FaultsFault};
 use mama_memory::OutOfMemory;
 use mama_msg::{Msg, TextValue};
@@ -31,10 +37,12 @@ pub struct Parts {
     pub topics: Vec<TextValue>,
     pub publishers: Vec<PublisherPart>,
     pub clients: Vec<ClientLines>,
+    pub groups: Vec<GroupRow>,
+    pub watches: Vec<WatchRow>,
 }
 
 /// The parts of the script that has these lines.
-#[tactic(auto, using(crate::proofs::Standing::accepted_stand, crate::proofs::Standing::few_topics, crate::proofs::Standing::few_clients))]
+#[tactic(auto, using(crate::proofs::Standing::accepted_stand))]
 pub fn parts_of(alloc: Global, lines: Vec<Line>) -> Result<Parts, OutOfMemory>
     requires { AreAccepted lines.items }
     ensures lines { IfOk result (λ parts. taken.parts_lines parts ≡ lines.items) }
@@ -46,13 +54,18 @@ pub fn parts_of(alloc: Global, lines: Vec<Line>) -> Result<Parts, OutOfMemory>
     let topics = take_topics(alloc, &mut lines)?;
     let publishers = take_publishers(alloc, &mut lines)?;
     let clients = take_clients(alloc, &mut lines)?;
+    let groups = take_groups(alloc, &mut lines)?;
     let shape = shape_of(alloc, queues, strategy, &topics, &publishers, &clients)?;
+    let senders = Senders::of(alloc, &topics, &publishers, &clients)?;
+    let watches = take_watches(alloc, &senders, &mut lines)?;
     Ok(Parts {
         version,
         shape,
         topics,
         publishers,
         clients,
+        groups,
+        watches,
     })
 }
 
@@ -204,16 +217,161 @@ fn take_sends(alloc: Global, lines: &mut VecDeque<Line>) -> Result<Vec<Publisher
 
 fn take_clients(alloc: Global, lines: &mut VecDeque<Line>) -> Result<Vec<ClientLines>, OutOfMemory>
     requires { standing.AreClients lines.now.items }
-    ensures { IfOk result (λ clients. lines.old.items ≡ flat_map tree.client_lines clients.items) }
+    ensures lines { IfOk result (λ clients. lines.old.items ≡ flat_map tree.client_lines clients.items ++ lines.new.items) }
+    ensures rest { OnOk result (standing.AreGroups lines.new.items) }
 {
     let mut clients = Vec::new(alloc);
     while let Some(line) = lines.pop_front() {
         match line {
             Line::Client => clients.push(ClientLines::new(take_steps(alloc, lines)?))?,
-            _ => unreachable!(),
+            other => {
+                lines.push_front(other)?;
+                return Ok(clients);
+            }
         }
     }
     Ok(clients)
+}
+
+fn take_groups(alloc: Global, lines: &mut VecDeque<Line>) -> Result<Vec<GroupRow>, OutOfMemory>
+    requires { standing.AreGroups lines.now.items }
+    ensures lines { IfOk result (λ groups. lines.old.items ≡ map tree.group_line groups.items ++ lines.new.items) }
+    ensures rest { OnOk result (standing.AreWatches lines.new.items) }
+{
+    let mut groups = Vec::new(alloc);
+    while let Some(line) = lines.pop_front() {
+        match line {
+            Line::Group(ids) => groups.push(group_of(alloc, &ids)?)?,
+            other => {
+                lines.push_front(other)?;
+                return Ok(groups);
+            }
+        }
+    }
+    Ok(groups)
+}
+
+fn group_of(alloc: Global, ids: &IdWords) -> Result<GroupRow, OutOfMemory>
+    requires { AllByRecursion standing.IsSmallId ids.now }
+    ensures { IfOk result (λ row. tree.group_line row ≡ Line.Group ids.now) }
+{
+    let mut members = Vec::with_capacity(alloc, ids.as_slice().len())?;
+    for id in ids.as_slice() {
+        members.push(sub_of(*id))?;
+    }
+    Ok(GroupRow {
+        members: Members::new(members),
+    })
+}
+
+// The first publisher's id of each topic, and the topic of each subscription, client by client.
+#[derive(Drop)]
+struct Senders {
+    first: Vec<u32>,
+    topics: Vec<Vec<u32>>,
+}
+
+impl Senders {
+    fn of(
+        alloc: Global,
+        topics: &[TextValue],
+        publishers: &[PublisherPart],
+        clients: &[ClientLines],
+    ) -> Result<Senders, OutOfMemory>
+        requires few { length publishers.now + 1 < 2 ^ 32 }
+        requires within { AllByRecursion (λ (part : PublisherPart). part.topic < length topics.now) publishers.now }
+        ensures first { IfOk result (λ s. s.first.items ≡ map (λ t. tree.first_sender t 1 (map tree.topic_of_part publishers.now)) (numbers_below (length topics.now))) }
+        ensures topics { IfOk result (λ s. map (λ v. v.items) s.topics.items ≡ map tree.topics_in clients.now) }
+    {
+        let first = first_senders(alloc, topics.len(), publishers)?;
+        let mut topics = Vec::with_capacity(alloc, clients.len())?;
+        for lines in clients {
+            topics.push(topics_in(alloc, lines.as_slice())?)?;
+        }
+        Ok(Senders { first, topics })
+    }
+
+    // The id of the first publisher of a subscription's topic.
+    fn sender(&self, sub: SubId) -> u32
+        ensures { result ≡ taken.sender_in self.now.first.items (map (λ v. v.items) self.now.topics.items) sub }
+    {
+        match self.topics.get(sub.client as usize) {
+            Some(topics) => match topics.get(sub.number as usize) {
+                Some(topic) => self.first.get(*topic as usize).copied().unwrap_or(0),
+                None => 0,
+            },
+            None => 0,
+        }
+    }
+}
+
+fn first_senders(
+    alloc: Global,
+    topics: usize,
+    publishers: &[PublisherPart],
+) -> Result<Vec<u32>, OutOfMemory>
+    requires few { length publishers.now + 1 < 2 ^ 32 }
+    requires within { AllByRecursion (λ (part : PublisherPart). part.topic < topics) publishers.now }
+    ensures { IfOk result (λ first. first.items ≡ map (λ t. tree.first_sender t 1 (map tree.topic_of_part publishers.now)) (numbers_below topics)) }
+{
+    let mut first = vec![in alloc; 0u32; topics]?;
+    for (number, part) in publishers.iter().enumerate() {
+        note_sender(&mut first, part.topic as usize, number as u32 + 1);
+    }
+    Ok(first)
+}
+
+// The publisher with this id has this topic. It is the first if there was none.
+fn note_sender(first: &mut Vec<u32>, topic: usize, id: u32)
+    requires { topic < length first.now.items }
+    ensures { first.new.items ≡ taken.with_sender topic id first.old.items }
+{
+    if first[topic] == 0 {
+        first[topic] = id;
+    }
+}
+
+fn topics_in(alloc: Global, lines: &[ClientLine]) -> Result<Vec<u32>, OutOfMemory>
+    ensures { IfOk result (λ topics. topics.items ≡ tree.topics_in lines.now) }
+{
+    let mut topics = Vec::new(alloc);
+    for line in lines {
+        if let ClientLine::Sub { topic, .. } = line {
+            topics.push(*topic)?;
+        }
+    }
+    Ok(topics)
+}
+
+fn take_watches(
+    alloc: Global,
+    senders: &Senders,
+    lines: &mut VecDeque<Line>,
+) -> Result<Vec<WatchRow>, OutOfMemory>
+    requires { standing.AreWatches lines.now.items }
+    ensures lines { IfOk result (λ watches. lines.old.items ≡ map tree.watch_line watches.items) }
+    ensures senders { IfOk result (λ watches. AllByRecursion (λ (row : WatchRow). row.sender ≡ taken.sender_in senders.now.first.items (map (λ v. v.items) senders.now.topics.items) row.sub) watches.items) }
+{
+    let mut watches = Vec::new(alloc);
+    while let Some(line) = lines.pop_front() {
+        match line {
+            Line::Watch {
+                sub,
+                timer,
+                retries,
+            } => {
+                let sub = sub_of(sub);
+                watches.push(WatchRow {
+                    sub,
+                    timer: timer_of(timer),
+                    retries,
+                    sender: senders.sender(sub),
+                })?;
+            }
+            _ => unreachable!(),
+        }
+    }
+    Ok(watches)
 }
 
 // A step of a client, or a line that is none.
@@ -241,6 +399,7 @@ fn take_steps(alloc: Global, lines: &mut VecDeque<Line>) -> Result<Vec<ClientLin
     Ok(steps)
 }
 
+#[tactic(auto, using(crate::proofs::Behind::groups_stand, crate::proofs::Behind::watches_stand))]
 fn take_step(alloc: Global, line: Line, lines: &mut VecDeque<Line>) -> Result<Taken, OutOfMemory>
     requires { standing.Stand Place.Client [] (line ∷ lines.now.items) }
     ensures lines { IfOk result (λ t. line ∷ lines.old.items ≡ taken.taken_lines t ++ lines.new.items) }
@@ -287,7 +446,18 @@ fn take_step(alloc: Global, line: Line, lines: &mut VecDeque<Line>) -> Result<Ta
         Line::Now(moment) => Ok(Taken::Step(ClientLine::Now(moment))),
         Line::NowClock => Ok(Taken::Step(ClientLine::NowClock)),
         Line::Pause(rounds) => Ok(Taken::Step(ClientLine::Pause(rounds))),
-        other => Ok(Taken::Other(other)),
+        Line::Client => Ok(Taken::Other(Line::Client)),
+        Line::Group(ids) => Ok(Taken::Other(Line::Group(ids))),
+        Line::Watch {
+            sub,
+            timer,
+            retries,
+        } => Ok(Taken::Other(Line::Watch {
+            sub,
+            timer,
+            retries,
+        })),
+        _ => unreachable!(),
     }
 }
 

@@ -7,3 +7,5 @@ pub mod Server
 pub mod Listening
 pub mod Lane
 pub mod Waiting
+pub mod Heard
+pub mod Behind

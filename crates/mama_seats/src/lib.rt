@@ -14,6 +14,7 @@ mod listening;
 mod publisher_seat;
 mod publisher_state;
 mod queue_seat;
+mod served_turn;
 mod waiting;
 
 pub use client_seat::ClientSeat;
@@ -21,5 +22,6 @@ pub use client_state::ClientState;
 pub use mama_memory::{OutOfMemory, Outbox};
 pub use publisher_seat::PublisherSeat;
 pub use publisher_state::PublisherState;
-pub use queue_seat::QueueSeat;
+pub use queue_seat::{QueueParts, QueueSeat};
+pub use served_turn::ServedTurn;
 pub use waiting::Waiting;

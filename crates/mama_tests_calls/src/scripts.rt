@@ -80,3 +80,20 @@ now clock
 client
 now clock
 "#;
+
+/// A group, and a watch of one of its members, whose first retry brings the image that its link lost.
+pub const LISTED: &str = r#"mama script 2
+strategy 1
+queues 1
+topic "A"
+publisher 0 22:bid:u32:100
+client
+sub 0 market 0 10 1000
+sub 0 market 0 10 1000
+fault lose 1
+timer 0 10
+now 10
+now 20
+group s0.0 s0.1
+watch s0.1 t0.0 1
+"#;

@@ -154,6 +154,8 @@ fn actor_word(actor: Actor) -> &'static str {
         Actor::Timers => "timers",
         Actor::Queue(_) => "queue",
         Actor::Object(_) => "object",
+        Actor::Group(_) => "group",
+        Actor::Watch(_) => "watch",
     }
 }
 
@@ -176,13 +178,18 @@ fn judged(alloc: Global, script: &Script, log: &[u8]) -> Result<Verdict, OutOfMe
     }
 }
 
+// Whether this is the verdict on a log.
+fn is_verdict(alloc: Global, script: &Script, log: &str, want: &str) -> Result<bool, Fail> {
+    let text = text_of(alloc, log)?;
+    let verdict = judged(alloc, script, &text)?;
+    Ok(verdict_text(alloc, verdict)?.as_str() == want)
+}
+
 // Whether the verdict on a row's log is that of the row.
 fn is_judged(alloc: Global, script: &Script, row: &str) -> Result<bool, Fail> {
     let (want, sections) = row.split_once('@').unwrap_or((row, ""));
     let log = format!(in alloc; "mama log 1|{sections}")?;
-    let text = text_of(alloc, log.as_str())?;
-    let verdict = judged(alloc, script, &text)?;
-    Ok(verdict_text(alloc, verdict)?.as_str() == want)
+    is_verdict(alloc, script, log.as_str(), want)
 }
 
 #[test]
@@ -190,6 +197,58 @@ fn small_records_are_judged(rt: HostRuntime) -> Result<(), Fail> {
     let script = script_of(rt.alloc(), "mama script 1|queues 1|client|")?;
     for row in VERDICTS.lines() {
         assert!(rt; is_judged(rt.alloc(), &script, row)?, "{row}");
+    }
+    Ok(())
+}
+
+// Two subscriptions in a group, of which the second loses its first image and is watched: the first tick finds no image, and
+// the second finds that of the recap.
+const GROUPED: &str =
+    "mama script 2|strategy 1|queues 1|topic \"EQ.ABC\"|topic \"EQ.XYZ\"|publisher 0 22:bid:u32:100|update 22:bid:u32:101|publisher 1 22:bid:u32:200|client|sub 0 market 0 10 1000|sub 1 market 0 10 1000|fault lose 1|timer 0 10|now 10|now 20|group s0.0 s0.1|watch s0.1 t0.0 2|";
+
+// Its log before the queue takes the first tick and the recap, behind that, and behind the lists of the group and the watch.
+const BEFORE: &str =
+    "mama log 2|strategy 1|client 0 0|publisher 0 5|want s0.0 initial|send|done|settle|fin|publisher 1 5|done|want s0.1 initial|want s0.1 recap|settle|fin|bridge 13|c0 join s0.0|p0 image s0.0 initial 1 0 22:bid:u32:100|p0 publish update 1 1 22:bid:u32:101|p1 done|c0 join s0.1|p1 image s0.1 initial 2 0 22:bid:u32:200|p0 done|q0 recap s0.1 2|p1 image s0.1 recap 2 0 22:bid:u32:200|c0 done|p0 settled|p1 settled|q0 bye|timers 6|c0 arm t0.0|c0 now 10|c0 now 20|c0 done|b fin|q0 bye|queue 0 13|b create 0 s0.0|b data 0 s0.0 initial 1 0 22:bid:u32:100|b data 0 s0.0 update 1 1 22:bid:u32:101|b create 1 s0.1|t create 0 t0.0|";
+
+const BEHIND: &str =
+    "t tick 0 t0.0 20|b gone 0 s0.0|b gone 1 s0.1|b fin|t gone 0 t0.0|t fin|on s0.0 4|create|msg initial 1 0 ok 22:bid:u32:100|msg update 1 1 ok 22:bid:u32:101|destroy|on s0.1 3|create|msg recap 2 0 ok 22:bid:u32:200|destroy|on t0.0 4|create|tick 10|tick 20|destroy|";
+
+const IMAGES: &str = "images 2|s0.0 ok 1 1 22:bid:u32:101|s0.1 ok 2 0 22:bid:u32:200|end|";
+
+// A verdict in words, what the queue took there, and what the group heard and the watch noted. In order: as it was; the recap
+// before the tick, so that the bridge took a wish that no watch made; a state that is told at first, left out, told before its
+// callback, another, told twice, and told before all members are ended; a callback that is left out, and two in another
+// order; a retry that is left out, one more, one at another tick, and a timeout in its place; and both wrong.
+const LISTS: &str =
+    "causal@t tick 0 t0.0 10|b data 1 s0.1 recap 2 0 22:bid:u32:200|@group 0 9|s0.0 create|s0.0 msg initial 1 0 ok 22:bid:u32:100|s0.0 msg update 1 1 ok 22:bid:u32:101|s0.1 create|s0.1 msg recap 2 0 ok 22:bid:u32:200|state fresh|s0.0 destroy|s0.1 destroy|state ended|watch 0 1|retry 1 10|
+3 bridge@b data 1 s0.1 recap 2 0 22:bid:u32:200|t tick 0 t0.0 10|@group 0 9|s0.0 create|s0.0 msg initial 1 0 ok 22:bid:u32:100|s0.0 msg update 1 1 ok 22:bid:u32:101|s0.1 create|s0.1 msg recap 2 0 ok 22:bid:u32:200|state fresh|s0.0 destroy|s0.1 destroy|state ended|watch 0 1|retry 1 10|
+10 group@t tick 0 t0.0 10|b data 1 s0.1 recap 2 0 22:bid:u32:200|@group 0 10|state waiting|s0.0 create|s0.0 msg initial 1 0 ok 22:bid:u32:100|s0.0 msg update 1 1 ok 22:bid:u32:101|s0.1 create|s0.1 msg recap 2 0 ok 22:bid:u32:200|state fresh|s0.0 destroy|s0.1 destroy|state ended|watch 0 1|retry 1 10|
+10 group@t tick 0 t0.0 10|b data 1 s0.1 recap 2 0 22:bid:u32:200|@group 0 8|s0.0 create|s0.0 msg initial 1 0 ok 22:bid:u32:100|s0.0 msg update 1 1 ok 22:bid:u32:101|s0.1 create|s0.1 msg recap 2 0 ok 22:bid:u32:200|s0.0 destroy|s0.1 destroy|state ended|watch 0 1|retry 1 10|
+10 group@t tick 0 t0.0 10|b data 1 s0.1 recap 2 0 22:bid:u32:200|@group 0 9|s0.0 create|s0.0 msg initial 1 0 ok 22:bid:u32:100|s0.0 msg update 1 1 ok 22:bid:u32:101|s0.1 create|state fresh|s0.1 msg recap 2 0 ok 22:bid:u32:200|s0.0 destroy|s0.1 destroy|state ended|watch 0 1|retry 1 10|
+10 group@t tick 0 t0.0 10|b data 1 s0.1 recap 2 0 22:bid:u32:200|@group 0 9|s0.0 create|s0.0 msg initial 1 0 ok 22:bid:u32:100|s0.0 msg update 1 1 ok 22:bid:u32:101|s0.1 create|s0.1 msg recap 2 0 ok 22:bid:u32:200|state stale|s0.0 destroy|s0.1 destroy|state ended|watch 0 1|retry 1 10|
+10 group@t tick 0 t0.0 10|b data 1 s0.1 recap 2 0 22:bid:u32:200|@group 0 10|s0.0 create|s0.0 msg initial 1 0 ok 22:bid:u32:100|s0.0 msg update 1 1 ok 22:bid:u32:101|s0.1 create|s0.1 msg recap 2 0 ok 22:bid:u32:200|state fresh|state fresh|s0.0 destroy|s0.1 destroy|state ended|watch 0 1|retry 1 10|
+10 group@t tick 0 t0.0 10|b data 1 s0.1 recap 2 0 22:bid:u32:200|@group 0 10|s0.0 create|s0.0 msg initial 1 0 ok 22:bid:u32:100|s0.0 msg update 1 1 ok 22:bid:u32:101|s0.1 create|s0.1 msg recap 2 0 ok 22:bid:u32:200|state fresh|s0.0 destroy|state ended|s0.1 destroy|state ended|watch 0 1|retry 1 10|
+10 group@t tick 0 t0.0 10|b data 1 s0.1 recap 2 0 22:bid:u32:200|@group 0 8|s0.0 create|s0.0 msg initial 1 0 ok 22:bid:u32:100|s0.0 msg update 1 1 ok 22:bid:u32:101|s0.1 msg recap 2 0 ok 22:bid:u32:200|state fresh|s0.0 destroy|s0.1 destroy|state ended|watch 0 1|retry 1 10|
+10 group@t tick 0 t0.0 10|b data 1 s0.1 recap 2 0 22:bid:u32:200|@group 0 9|s0.0 create|s0.0 msg initial 1 0 ok 22:bid:u32:100|s0.1 create|s0.0 msg update 1 1 ok 22:bid:u32:101|s0.1 msg recap 2 0 ok 22:bid:u32:200|state fresh|s0.0 destroy|s0.1 destroy|state ended|watch 0 1|retry 1 10|
+11 watch@t tick 0 t0.0 10|b data 1 s0.1 recap 2 0 22:bid:u32:200|@group 0 9|s0.0 create|s0.0 msg initial 1 0 ok 22:bid:u32:100|s0.0 msg update 1 1 ok 22:bid:u32:101|s0.1 create|s0.1 msg recap 2 0 ok 22:bid:u32:200|state fresh|s0.0 destroy|s0.1 destroy|state ended|watch 0 0|
+11 watch@t tick 0 t0.0 10|b data 1 s0.1 recap 2 0 22:bid:u32:200|@group 0 9|s0.0 create|s0.0 msg initial 1 0 ok 22:bid:u32:100|s0.0 msg update 1 1 ok 22:bid:u32:101|s0.1 create|s0.1 msg recap 2 0 ok 22:bid:u32:200|state fresh|s0.0 destroy|s0.1 destroy|state ended|watch 0 2|retry 1 10|retry 2 20|
+11 watch@t tick 0 t0.0 10|b data 1 s0.1 recap 2 0 22:bid:u32:200|@group 0 9|s0.0 create|s0.0 msg initial 1 0 ok 22:bid:u32:100|s0.0 msg update 1 1 ok 22:bid:u32:101|s0.1 create|s0.1 msg recap 2 0 ok 22:bid:u32:200|state fresh|s0.0 destroy|s0.1 destroy|state ended|watch 0 1|retry 1 20|
+11 watch@t tick 0 t0.0 10|b data 1 s0.1 recap 2 0 22:bid:u32:200|@group 0 9|s0.0 create|s0.0 msg initial 1 0 ok 22:bid:u32:100|s0.0 msg update 1 1 ok 22:bid:u32:101|s0.1 create|s0.1 msg recap 2 0 ok 22:bid:u32:200|state fresh|s0.0 destroy|s0.1 destroy|state ended|watch 0 1|timeout 10|
+10 group@t tick 0 t0.0 10|b data 1 s0.1 recap 2 0 22:bid:u32:200|@group 0 0|watch 0 0|";
+
+// Whether the verdict on the log with a row's lists is that of the row.
+fn is_listed(alloc: Global, script: &Script, row: &str) -> Result<bool, Fail> {
+    let (want, rest) = row.split_once('@').unwrap_or((row, ""));
+    let (took, lists) = rest.split_once('@').unwrap_or((rest, ""));
+    let log = format!(in alloc; "{BEFORE}{took}{BEHIND}{lists}{IMAGES}")?;
+    is_verdict(alloc, script, log.as_str(), want)
+}
+
+#[test]
+fn lists_of_groups_and_watches_are_judged(rt: HostRuntime) -> Result<(), Fail> {
+    let script = script_of(rt.alloc(), GROUPED)?;
+    for row in LISTS.lines() {
+        assert!(rt; is_listed(rt.alloc(), &script, row)?, "{row}");
     }
     Ok(())
 }

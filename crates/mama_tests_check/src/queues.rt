@@ -1,3 +1,5 @@
+ghost use Rattle.std.specs.Prelude.{◌≡◌, ◌∷◌, [], IfOk};
+
 use crate::lists::{bridge_puts, names_of, queue_journal, script_of, text_of, timers_puts};
 use mama_check_queue::{ServedQueue, serve_all};
 use mama_event::{
@@ -59,6 +61,7 @@ fn add_left(
 }
 
 fn recorded(
+    alloc: Global,
     clients: Vec<Vec<u64>>,
     publishers: Vec<Vec<PublisherEntry>>,
     bridge: Vec<(u32, BridgeNote)>,
@@ -67,7 +70,11 @@ fn recorded(
     calls: Calls,
     images: Images,
 ) -> RunRecord {
-    RunRecord::new(clients, publishers, bridge, timers, queues, calls, images)
+    let groups = Vec::new(alloc);
+    let watches = Vec::new(alloc);
+    RunRecord::new(
+        clients, publishers, bridge, timers, queues, calls, images, groups, watches,
+    )
 }
 
 // The record of no journals.
@@ -77,7 +84,9 @@ fn record_of(alloc: Global, calls: Calls, images: Images) -> RunRecord {
     let bridge = Vec::new(alloc);
     let timers = Vec::new(alloc);
     let queues = Vec::new(alloc);
-    recorded(clients, publishers, bridge, timers, queues, calls, images)
+    recorded(
+        alloc, clients, publishers, bridge, timers, queues, calls, images,
+    )
 }
 
 // The callbacks and the images that a queue left, of the objects of these plans.
@@ -117,23 +126,26 @@ fn planned(alloc: Global, script: &Script) -> Result<Plans, OutOfMemory> {
     plans_of(alloc, script)
 }
 
-fn serve<'a>(
-    alloc: Global,
-    plans: &'a Plans,
-    journals: &'a [Vec<(u32, QueueNote)>],
-) -> Result<Vec<ServedQueue<'a>>, OutOfMemory> {
-    serve_all(alloc, plans, journals)
+fn one_list<T: Drop>(alloc: Global, list: Vec<T>) -> Result<Vec<Vec<T>>, OutOfMemory>
+    ensures { IfOk result (λ lists. lists.items ≡ list ∷ []) }
+{
+    let mut lists = Vec::new(alloc);
+    lists.push(list)?;
+    Ok(lists)
 }
 
 fn is_served_so(
     alloc: Global,
     script: &Script,
     names: &Names,
-    journals: &[Vec<(u32, QueueNote)>],
+    journal: Vec<(u32, QueueNote)>,
     row: &str,
 ) -> Result<bool, Fail> {
     let plans = planned(alloc, script)?;
-    let served = serve(alloc, &plans, journals)?;
+    let groups = one_list(alloc, Vec::new(alloc))?;
+    let watches = one_list(alloc, Vec::new(alloc))?;
+    let journals = one_list(alloc, journal)?;
+    let served = serve_all(alloc, &plans, &groups, &watches, &journals)?;
     let queue = served.first().ok_or("a queue")?;
     let (calls, puts) = parted(row)?;
     let run = left(alloc, &plans, queue)?;
@@ -145,8 +157,8 @@ fn is_served(alloc: Global, row: &str) -> Result<bool, Fail> {
     let (journal, rest) = parted(rest)?;
     let script = script_with(alloc, lines)?;
     let names = names_of(alloc, &script)?;
-    let journals = [queue_journal(alloc, &names, journal)?];
-    is_served_so(alloc, &script, &names, &journals[..], rest)
+    let journal = queue_journal(alloc, &names, journal)?;
+    is_served_so(alloc, &script, &names, journal, rest)
 }
 
 #[test]

@@ -1,4 +1,5 @@
 //! What is seen of a crew that was opened, turned on one thread and closed.
+ghost use Rattle.std.specs.Prelude.{◌≡◌, [], true};
 ghost use Rattle.mama_rules_legal.specs.Legal.{IsLegal};
 
 use crate::turning::{first_paces, turn_out};
@@ -32,8 +33,15 @@ pub fn script_of(alloc: Global, text: &str) -> Result<Script, Fail> {
     Ok(parsed(alloc, text)?)
 }
 
-/// Opens the crew of a script, turns the seats at these places in rotation until all have ended, and closes the crew. Where
-/// that fails the test ends at once: so no proof is about letting a crew go.
+// Whether a script has no groups.
+fn is_ungrouped(script: &Script) -> bool
+    ensures { result ≡ true → script.now.groups ≡ [] }
+{
+    script.groups().is_empty()
+}
+
+/// Opens the crew of a script without groups, turns the seats at these places in rotation until all have ended, and closes
+/// the crew. Where that fails the test ends at once: so no proof is about letting a crew go.
 pub fn play<Rt: Wait + Abort + Copy>(
     rt: Rt,
     alloc: Global,
@@ -42,6 +50,7 @@ pub fn play<Rt: Wait + Abort + Copy>(
 ) -> Played
     ensures { IsLegal script.now result.run }
 {
+    assert!(rt; is_ungrouped(script), "a script has groups");
     let mut maker = PlanMaker::new();
     let crew = open_crew(rt, alloc, script, &mut maker);
     let Crew { hall, mut seats } = crew.expect(&rt, "a crew");

@@ -1,9 +1,9 @@
 use crate::rows::message;
 use mama_event::{
-    CallNote, Callback, Duplicate, Fids, InboxId, InboxTerms, MarketMsg, MsgKind, ObjectId, Order,
-    Orders, Packet, Piece, PieceMsg, PublisherNote, Quality, QueueNote, Stream, SubId, SubKind,
-    SubTerms, Tagged, TimerId, TimersNote, ToBridge, ToPublisher, ToQueue, ToService, ToTimers,
-    Topics,
+    CallNote, Callback, Duplicate, Fids, GroupNote, GroupState, InboxId, InboxTerms, MarketMsg,
+    Members, MsgKind, ObjectId, Order, Orders, Packet, Piece, PieceMsg, PublisherNote, Quality,
+    QueueNote, Stream, SubId, SubKind, SubTerms, Tagged, TimerId, TimersNote, ToBridge,
+    ToPublisher, ToQueue, ToService, ToTimers, Topics,
 };
 use mama_link::{Fault, FaultRow, Faults};
 use mama_memory::OutOfMemory;
@@ -293,5 +293,25 @@ fn events_of_queues_have_the_bytes_that_spell_nothing(rt: HostRuntime) -> Result
         bytes: Piece::of_bytes(alloc, LONGER)?,
     };
     assert!(rt; is_noted(&deliver_of(alloc, LONGER)?, delivered, 6)?);
+    Ok(())
+}
+
+#[test]
+fn members_and_notes_of_groups(rt: HostRuntime) -> Result<(), Fail> {
+    let alloc = rt.alloc();
+    let first = SubId {
+        client: 0,
+        number: 0,
+    };
+    let members = Members::new(vec![in alloc; first, SUB]?);
+    assert_eq!(rt; members.len(), 2);
+    assert!(rt; !members.is_empty());
+    assert!(rt; members.at(1) == SUB);
+    assert!(rt; members.as_slice() == [first, SUB].as_slice());
+    assert!(rt; copies(members)?);
+    let call = Callback::Gap { first: 2, to: 3 };
+    assert!(rt; copies(GroupNote::Call { sub: SUB, call })?);
+    let state = GroupState::Stale;
+    assert!(rt; copies(GroupNote::State { state })?);
     Ok(())
 }

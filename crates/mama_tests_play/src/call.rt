@@ -1,16 +1,17 @@
-//! `play`, with two workers.
+//! `play` and `play_groups`, with two workers.
 
 ghost use Rattle.std.specs.Prelude.{IfOk};
 ghost use Rattle.mama_rules_legal.specs.Form.{IsFormed};
 
+use crate::keeper::{Keeper, Keepers};
 use crate::meeting::{Host, Meeting};
-use crate::scripts::{FIRST, TWO_QUEUES};
+use crate::scripts::{FIRST, GROUPED, TWO_QUEUES};
 use mama_carry::{Maker, PlanListener, PlanMaker};
 use mama_check::{Verdict, check, legal_records_are_formed};
 use mama_edge::{MemoryClock, OpenGate};
 use mama_event::{CallNote, Listener, ObjectId, SubId};
 use mama_memory::OutOfMemory;
-use mama_play::play;
+use mama_play::{GroupListener, GroupMaker, play, play_groups};
 use mama_record::RunRecord;
 use mama_script::{Script, ScriptFault, parse};
 use std::alloc::Global;
@@ -34,6 +35,26 @@ fn played<L: Listener + Send, M: Maker<L>, R: Threads + Wait + Copy + Sync>(
     legal_records_are_formed();
     let mut clock = MemoryClock::new(Vec::new(alloc));
     play(rt, alloc, script, maker, &mut clock, &OpenGate, 2)
+}
+
+fn played_in_groups<
+    L: Listener + Send,
+    H: GroupListener + Send,
+    M: Maker<L>,
+    N: GroupMaker<H>,
+    R: Threads + Wait + Copy + Sync,
+>(
+    rt: &R,
+    alloc: Global,
+    script: &Script,
+    maker: &mut M,
+    groups: &mut N,
+) -> Result<(RunRecord, Vec<(ObjectId, L)>, Vec<(u32, H)>), OutOfMemory>
+    ensures { IfOk result (λ r. IsFormed script.now r.0) }
+{
+    legal_records_are_formed();
+    let mut clock = MemoryClock::new(Vec::new(alloc));
+    play_groups(rt, alloc, script, maker, groups, &mut clock, &OpenGate, 2)
 }
 
 // Whether a record is found legal and causal.
@@ -73,6 +94,17 @@ fn is_back(run: &RunRecord, listeners: &[(ObjectId, PlanListener)]) -> bool {
     }
 }
 
+// Whether the one group's listener came back with what the group heard in the record: its member's create, first image and
+// destroy, and two states, at least.
+fn has_kept(run: &RunRecord, listeners: &[(u32, Keeper)]) -> bool {
+    match (run.groups(), listeners) {
+        ([(group, notes)], [(back, keeper)]) => {
+            *group == 0 && *back == 0 && notes.len() >= 5 && keeper.has_kept(notes.as_slice())
+        }
+        _ => false,
+    }
+}
+
 #[test]
 fn the_listener_comes_back_with_its_callbacks(rt: HostRuntime) -> Result<(), Fail> {
     let script = parsed(rt.alloc(), FIRST)?;
@@ -80,6 +112,23 @@ fn the_listener_comes_back_with_its_callbacks(rt: HostRuntime) -> Result<(), Fai
     let (run, listeners) = played(&rt, rt.alloc(), &script, &mut maker)?;
     assert!(rt; is_causal(rt.alloc(), &script, &run));
     assert!(rt; is_back(&run, &listeners));
+    Ok(())
+}
+
+#[test]
+fn a_group_hears_its_member_and_its_state(rt: HostRuntime) -> Result<(), Fail> {
+    let script = parsed(rt.alloc(), GROUPED)?;
+    let mut maker = PlanMaker::new();
+    let mut keepers = Keepers { alloc: rt.alloc() };
+    let (run, _listeners, groups) = played_in_groups(
+        &rt,
+        rt.alloc(),
+        &script,
+        &mut maker,
+        &mut keepers,
+    )?;
+    assert!(rt; is_causal(rt.alloc(), &script, &run));
+    assert!(rt; has_kept(&run, &groups));
     Ok(())
 }
 

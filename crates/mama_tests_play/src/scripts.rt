@@ -12,7 +12,21 @@ client
 sub 0 market 0 10 1000
 "#;
 
-/// How each log of it ends.
+/// The same in version 2, with a group of its subscription.
+pub const GROUPED: &str = r#"mama script 2
+strategy 1
+queues 1
+topic "EQ.ABC"
+publisher 0 22:bid:u32:100
+update 22:bid:u32:101
+update 25:ask:u32:103
+update 22:bid:u32:102
+client
+sub 0 market 0 10 1000
+group s0.0
+"#;
+
+/// How each log of the first ends.
 pub const FIRST_IMAGE: &str = "images\ns0.0 ok 1 3 22:bid:u32:102 25:ask:u32:103\nend\n";
 
 /// Two queues with one subscription each.

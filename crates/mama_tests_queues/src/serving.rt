@@ -52,7 +52,7 @@ fn create(
 }
 
 // A message with no fields for the subscription.
-fn deliver<L>(alloc: Global, kind: MsgKind, seq: u32) -> Result<ToQueue<L>, Fail> {
+pub fn deliver<L>(alloc: Global, kind: MsgKind, seq: u32) -> Result<ToQueue<L>, Fail> {
     let msg = MarketMsg {
         kind,
         sender: 1,
@@ -184,7 +184,7 @@ fn a_live_market_subscription_has_an_image(rt: HostRuntime) -> Result<(), Fail> 
 }
 
 // A timer, with a listener that gives an order so many times in its callback of this number.
-fn arm(order: Order, call: u64, times: u32) -> ToQueue<Orderer> {
+pub fn arm(order: Order, call: u64, times: u32) -> ToQueue<Orderer> {
     ToQueue::Create {
         slot: 1,
         object: ObjectId::Timer(TIMER),
@@ -193,7 +193,7 @@ fn arm(order: Order, call: u64, times: u32) -> ToQueue<Orderer> {
     }
 }
 
-fn orderer(tag: ObjectId, order: Order, call: u64, times: u32) -> Orderer {
+pub fn orderer(tag: ObjectId, order: Order, call: u64, times: u32) -> Orderer {
     Orderer {
         tag,
         count: 0,

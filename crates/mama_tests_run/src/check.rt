@@ -52,3 +52,16 @@ fn an_update_that_was_told_before_its_gap_is_not_legal(rt: HostRuntime) -> Resul
     assert!(rt; is_late(rt.alloc(), GAP, GAP_LATE_LOG)?);
     Ok(())
 }
+
+// Whether the line behind the first log's last is the first that does not fit, where its line `end` is not there.
+fn ends_early(alloc: Global) -> Result<bool, Fail> {
+    let log = FIRST_LOG.strip_suffix("end\n").unwrap_or(FIRST_LOG);
+    let bad = Status::BadLog { line: 53 };
+    is_judged(alloc, FIRST.as_bytes(), log.as_bytes(), bad, "")
+}
+
+#[test]
+fn a_log_without_its_end_is_bad_behind_its_last_line(rt: HostRuntime) -> Result<(), Fail> {
+    assert!(rt; ends_early(rt.alloc())?);
+    Ok(())
+}

@@ -133,6 +133,17 @@ fn object_of(word: &str) -> Option<Actor> {
     }
 }
 
+// The group or the watch that a verdict names so, or the object.
+fn listed_of(word: &str) -> Option<Actor> {
+    if word == "g0" {
+        Some(Actor::Group(0))
+    } else if word == "w0" {
+        Some(Actor::Watch(0))
+    } else {
+        object_of(word)
+    }
+}
+
 // The actor that a verdict names so.
 fn actor_of(word: &str) -> Option<Actor> {
     if word == "c0" {
@@ -146,7 +157,7 @@ fn actor_of(word: &str) -> Option<Actor> {
     } else if word == "q0" {
         Some(Actor::Queue(0))
     } else {
-        object_of(word)
+        listed_of(word)
     }
 }
 
@@ -229,6 +240,17 @@ const INBOX_DAMAGES: &str = "7 i0.0@error 1@error 2|
 3 q0@b badreply 0 i0.0 x0101@b badreply 0 i0.0 x01|
 3 q0@b badreply 0 i0.0 x0101@b reply 0 i0.0 22:bid:u32:100|";
 
+// A group, and a watch whose first retry brings the image that its link lost.
+const LISTS: &str =
+    r#"mama script 2|strategy 1|queues 1|topic "T"|publisher 0 22:bid:u32:100|client|sub 0 market 0 10 1000|fault lose 1|timer 0 10|now 10|now 20|group s0.0|watch s0.0 t0.0 1|"#;
+
+// The same of it. In order: a state of the group, and a callback of its member, that it did not hear; a retry of the watch at
+// another tick, and a timeout in its place.
+const LIST_DAMAGES: &str = "10 g0@state fresh@state stale|
+10 g0@s0.0 destroy@s0.0 create|
+11 w0@retry 1 10@retry 1 20|
+11 w0@retry 1 10@timeout 10|";
+
 // A log with another text in place of each line like this.
 fn log_damaged(alloc: Global, whole: &[u8], damaged: &str, row: &str) -> Result<Vec<u8>, Fail> {
     let mut log = Vec::new(alloc);
@@ -261,6 +283,14 @@ fn each_damage_of_what_was_cut_is_told(rt: HostRuntime) -> Result<(), Fail> {
     }
     for row in INBOX_DAMAGES.lines() {
         assert!(rt; is_told_of(rt.alloc(), CUT_INBOX, row)?, "{row}");
+    }
+    Ok(())
+}
+
+#[test]
+fn each_damage_of_a_group_or_a_watch_is_told(rt: HostRuntime) -> Result<(), Fail> {
+    for row in LIST_DAMAGES.lines() {
+        assert!(rt; is_told_of(rt.alloc(), LISTS, row)?, "{row}");
     }
     Ok(())
 }

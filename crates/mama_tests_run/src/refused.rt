@@ -9,7 +9,8 @@ use std::test::Fail;
 // A row has the answer, the exit status, how many bytes are left and written, and then the words, the number of the read
 // that fails, the room and the input. Words that are no command are told before anything is read, a read that fails before what
 // was read; a fault of the script before one of the log, a line that does not fit before a rule, and an object that is
-// not there last of a script's faults; a topic that is not declared has any number. A write fails last of all.
+// not there last of a script's faults, with groups and watches that may not be; a topic that is not declared has any number. A write
+// fails last of all. A log of version 1 does not fit a script with a group.
 const REFUSALS: &str = r#"bad words@2 23 0=@1@0@mama script 1|client|x|
 bad words@2 23 0=play@0@100@mama script 1|client|x|
 bad words@2 23 0=play 0@0@100@mama script 1|client|x|
@@ -39,6 +40,10 @@ over limit 2, line 2@4 0 0=serial@0@0@mama script 1|queues 65|client|x|
 bad script, line 2, fault 5@3 0 0=check@0@0@mama script 1|queues 0|log|mama log 2|
 over limit 2, line 2@4 0 0=check@0@0@mama script 1|queues 65|log|mama log 2|
 bad script, line 4, fault 7@3 0 0=serial@0@0@mama script 1|queues 1|topic "T"|publisher 0 5:dp:nums:[1,-2]|
+bad script, line 6, fault 3@3 0 0=serial@0@0@mama script 1|queues 1|topic "T"|client|sub 0 market 0 10 1000|group s0.0|
+bad script, line 7, fault 13@3 0 0=serial@0@0@mama script 2|strategy 1|queues 1|topic "T"|client|sub 0 market 0 10 1000|group s0.0 s0.0|
+bad script, line 8, fault 14@3 0 0=serial@0@0@mama script 2|strategy 1|queues 1|topic "T"|client|sub 0 basic 0 0 0|timer 0 10|watch s0.0 t0.0 1|
+bad log, line 9@7 0 0=check@0@0@mama script 2|strategy 1|queues 1|topic "T"|client|sub 0 market 0 10 1000|group s0.0|log|mama log 1|
 bad script, line 2, fault 3@3 0 0=rewrite@0@0@mama script 1|client|x|
 bad log, line 5@7 0 0=rewrite@0@0@mama script 1|queues 1|client|log|mama log 2|
 bad log, line 7@7 0 0=rewrite@0@0@mama script 2|strategy 2|queues 1|client|log|mama log 2|strategy 1|

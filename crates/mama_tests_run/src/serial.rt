@@ -34,7 +34,8 @@ fn a_script_with_a_gap_is_played_whole(rt: HostRuntime) -> Result<(), Fail> {
 // client. Orders of one queue mute: what the link still held is not told. Those of another queue do not. An inbox
 // that is closed in a callback hears no second reply. Version 2 with the first strategy: a message that comes twice is
 // called back once. With the second: it is told as late. Updates that come before the first image are used at the first gap,
-// and where there is none they are not used; one that was cut is an error and is not used. Version 2 knows lists of numbers. At
+// and where there is none they are not used; one that was cut is an error and is not used. Version 2 knows lists of numbers. A
+// group of one subscription; the same with a gap. A watch whose first retry brings the image; one whose retries bring none. At
 // the head: payloads that are cut, of updates and of replies: what is cut short is an error, and its update a gap; one that
 // is muted is told nothing of it.
 const WORKED: &str =
@@ -71,7 +72,11 @@ const WORKED: &str =
 @strategy 2|queues 1|topic "EQ.ABC"|publisher 0 22:bid:u32:100|update 22:bid:u32:101|update 25:ask:u32:103|update 22:bid:u32:102|client|sub 0 market 0 10 1000|fault hold 1 2|@b data 0 s0.0 update 1 2 25:ask:u32:103|b data 0 s0.0 initial 1 0 22:bid:u32:100|b data 0 s0.0 update 1 3 22:bid:u32:102|b gone 0 s0.0|b fin|t fin|on s0.0 6|create|msg initial 1 0 ok 22:bid:u32:100|msg update 1 1 ok 22:bid:u32:101|msg update 1 2 ok 25:ask:u32:103|msg update 1 3 ok 22:bid:u32:102|destroy|images 1|s0.0 ok 1 3 22:bid:u32:102 25:ask:u32:103|end|
 @strategy 2|queues 1|topic "EQ.ABC"|publisher 0 22:bid:u32:100|update 22:bid:u32:101|update 25:ask:u32:103|update 22:bid:u32:102|client|sub 0 market 0 10 1000|fault hold 1 2|fault lose 4|@on s0.0 3|create|msg initial 1 0 ok 22:bid:u32:100|destroy|images 1|s0.0 ok 1 0 22:bid:u32:100|end|
 @strategy 2|queues 1|topic "EQ.ABC"|publisher 0 22:bid:u32:100|update 22:bid:u32:101|update 25:ask:u32:103|update 22:bid:u32:102|client|sub 0 market 0 10 1000|fault hold 1 2|fault cut 2 7|@b bad 0 s0.0 update 1 1 x01010900160362|b data 0 s0.0 update 1 2 25:ask:u32:103|b data 0 s0.0 initial 1 0 22:bid:u32:100|b data 0 s0.0 update 1 3 22:bid:u32:102|~on s0.0 11|create|error 1|msg initial 1 0 ok 22:bid:u32:100|gap 1 1|quality stale 0|request 1|msg update 1 2 stale 25:ask:u32:103|msg update 1 3 stale 22:bid:u32:102|msg recap 1 3 ok 22:bid:u32:102 25:ask:u32:103|quality ok 3|destroy|images 1|s0.0 ok 1 3 22:bid:u32:102 25:ask:u32:103|end|
-@strategy 1|queues 1|topic "EQ.ABC"|publisher 0 5:dp:nums:[1,-2]|update 5:dp:nums:[]|client|sub 0 market 0 10 1000|@on s0.0 4|create|msg initial 1 0 ok 5:dp:nums:[1,-2]|msg update 1 1 ok 5:dp:nums:[]|destroy|images 1|s0.0 ok 1 1 5:dp:nums:[]|end|"#;
+@strategy 1|queues 1|topic "EQ.ABC"|publisher 0 5:dp:nums:[1,-2]|update 5:dp:nums:[]|client|sub 0 market 0 10 1000|@on s0.0 4|create|msg initial 1 0 ok 5:dp:nums:[1,-2]|msg update 1 1 ok 5:dp:nums:[]|destroy|images 1|s0.0 ok 1 1 5:dp:nums:[]|end|
+@strategy 1|queues 1|topic "EQ.ABC"|publisher 0 22:bid:u32:100|update 22:bid:u32:101|update 25:ask:u32:103|update 22:bid:u32:102|client|sub 0 market 0 10 1000|group s0.0|@destroy|group 0 8|s0.0 create|s0.0 msg initial 1 0 ok 22:bid:u32:100|state fresh|s0.0 msg update 1 1 ok 22:bid:u32:101|s0.0 msg update 1 2 ok 25:ask:u32:103|s0.0 msg update 1 3 ok 22:bid:u32:102|s0.0 destroy|state ended|images 1|
+@strategy 1|queues 1|topic "EQ.ABC"|publisher 0 22:bid:u32:100|update 22:bid:u32:101|update 25:ask:u32:103|update 22:bid:u32:102|update 25:ask:u32:104|client|sub 0 market 0 10 1000|fault lose 3|group s0.0|@s0.0 msg update 1 3 stale 22:bid:u32:102|state stale|~s0.0 quality ok 3|state fresh|~s0.0 destroy|state ended|images 1|
+@strategy 1|queues 1|topic "EQ.ABC"|publisher 0 22:bid:u32:100|client|sub 0 market 0 10 1000|fault lose 1|timer 0 10|now 10|now 20|watch s0.0 t0.0 1|@on s0.0 3|create|msg recap 1 0 ok 22:bid:u32:100|destroy|~watch 0 1|retry 1 10|images 1|
+@strategy 1|queues 1|topic "EQ.ABC"|publisher 0 22:bid:u32:100|client|sub 0 market 0 10 1000|fault lose 1|fault lose 2|timer 0 10|now 10|now 20|watch s0.0 t0.0 1|@on s0.0 2|create|destroy|~watch 0 2|retry 1 10|timeout 20|images 0|"#;
 
 fn moments_of(alloc: Global, text: &str) -> Result<Vec<u64>, AllocError> {
     let mut moments = Vec::new(alloc);

@@ -54,6 +54,7 @@ type Calls = Vec<(ObjectId, Vec<CallNote>)>;
 type Images = Vec<(SubId, ImageHead, Msg)>;
 
 fn recorded(
+    alloc: Global,
     clients: Vec<Vec<u64>>,
     publishers: Vec<Vec<PublisherEntry>>,
     bridge: Vec<(u32, BridgeNote)>,
@@ -62,7 +63,11 @@ fn recorded(
     calls: Calls,
     images: Images,
 ) -> RunRecord {
-    RunRecord::new(clients, publishers, bridge, timers, queues, calls, images)
+    let groups = Vec::new(alloc);
+    let watches = Vec::new(alloc);
+    RunRecord::new(
+        clients, publishers, bridge, timers, queues, calls, images, groups, watches,
+    )
 }
 
 /// The record of these journals.
@@ -76,7 +81,9 @@ pub fn record_of(
     let clients = Vec::new(alloc);
     let calls = Vec::new(alloc);
     let images = Vec::new(alloc);
-    recorded(clients, publishers, bridge, timers, queues, calls, images)
+    recorded(
+        alloc, clients, publishers, bridge, timers, queues, calls, images,
+    )
 }
 
 fn printed(alloc: Global, shape: &Shape, run: &RunRecord) -> Result<Vec<u8>, OutOfMemory> {

@@ -1,11 +1,11 @@
 use crate::rows::{numbered, text_of};
 use mama_event::{
     BridgeNote, InboxId, Make, ObjectId, PublisherNote, QueueNote, SubId, SubKind, TimerId,
-    TimersNote,
+    TimersNote, WatchNote,
 };
 use mama_log_line::{
-    Names, bridge_entry_in, call_in, clock_in, image_in, order_line_in, publisher_entry_in,
-    queue_entry_in, timers_entry_in,
+    Names, bridge_entry_in, call_in, clock_in, group_note_in, image_in, order_line_in,
+    publisher_entry_in, queue_entry_in, timers_entry_in, watch_note_in,
 };
 use mama_memory::OutOfMemory;
 use mama_script::parse;
@@ -393,5 +393,85 @@ fn moments(rt: HostRuntime) -> Result<(), Fail> {
         let found = clock_in(rt.alloc(), line.as_bytes())?;
         assert_eq!(rt; fits(found == Some(7)), wanted, "{row}");
     }
+    Ok(())
+}
+
+// A group hears what a subscription may hear, of any subscription of the script, and its states.
+const GROUPS: &str = "1 s0.0 create
+1 s1.0 msg update 1 1 ok 1:p:u32:6
+1 s0.0 gap 2 3
+1 s1.0 destroy
+1 state waiting
+1 state fresh
+1 state stale
+1 state ended
+0 s0.1 create
+0 t0.0 create
+0 i1.0 create
+0 s0.0 tick 5
+0 s0.0 order stop s0.0
+0 s0.0
+0 create
+0 state
+0 state ok
+0 state Fresh
+0 state fresh stale
+0 states fresh
+0 ";
+
+const WATCHES: &str = "1 retry 1 10
+1 retry 4294967295 18446744073709551615
+1 timeout 0
+1 timeout 18446744073709551615
+0 retry 1
+0 retry 01 10
+0 retry 1 10 10
+0 retry 4294967296 10
+0 retry 1 18446744073709551616
+0 timeout
+0 timeout 020
+0 timeout 1 20
+0 timeouts 20
+0 timers
+0 clock 20
+0 ";
+
+// Whether each row says rightly whether its line is what a group may hear.
+fn group_notes_fit(alloc: Global, names: &Names, rows: &str) -> Result<bool, OutOfMemory> {
+    for row in rows.lines() {
+        let (wanted, line) = numbered(row);
+        let found = group_note_in(alloc, names, line.as_bytes())?.is_some();
+        if fits(found) != wanted {
+            return Ok(false);
+        }
+    }
+    Ok(true)
+}
+
+// Whether each row says rightly whether its line is what a watch may note.
+fn watch_notes_fit(alloc: Global, rows: &str) -> Result<bool, OutOfMemory> {
+    for row in rows.lines() {
+        let (wanted, line) = numbered(row);
+        let found = watch_note_in(alloc, line.as_bytes())?.is_some();
+        if fits(found) != wanted {
+            return Ok(false);
+        }
+    }
+    Ok(true)
+}
+
+#[test]
+fn notes_of_groups_and_watches(rt: HostRuntime) -> Result<(), Fail> {
+    let names = names_of(rt.alloc())?;
+    assert!(rt; group_notes_fit(rt.alloc(), &names, GROUPS)?);
+    assert!(rt; watch_notes_fit(rt.alloc(), WATCHES)?);
+    let retry = watch_note_in(rt.alloc(), b"retry 3 40")?;
+    assert!(rt;
+        retry
+            == Some(WatchNote::Retry {
+                count: 3,
+                moment: 40
+            })
+    );
     Ok(())
 }

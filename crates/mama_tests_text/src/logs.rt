@@ -91,6 +91,52 @@ const LOGS: &str = "0 mama log 1|client 0|bridge|timers|queue 0|on s0.0|on s0.1|
 6 mama log 1|client 0|bridge|timers|queue 0|on s0.1|
 3 mama log 1|client 0|clock x|bridge|";
 
+// A script with a group and a watch, and its log, of no run.
+const GROUPED: &str =
+    r#"mama script 2|strategy 1|queues 1|topic "A"|client|sub 0 market 0 10 1000|timer 0 10|group s0.0|watch s0.0 t0.0 1|"#;
+
+const GROUPED_LOG: &str = "mama log 2
+strategy 1
+client 0 0
+bridge 0
+timers 0
+queue 0 0
+on s0.0 0
+on t0.0 0
+group 0 4
+s0.0 create
+state fresh
+s0.0 destroy
+state ended
+watch 0 2
+retry 1 10
+timeout 20
+images 0
+end
+";
+
+// The first line that does not fit a log of that script, or 0. In order: nothing heard and noted; a group's section
+// that is missing, of another number, and without its number of lines; a watch's that is missing; a state and a member that
+// are not there; a line too few and one too many in a group's section; a callback of no member, and lines of another kind of
+// section; and a line too few in a watch's.
+const GROUPED_LOGS: &str = "0 group 0 0|watch 0 0|images 0|end|
+9 watch 0 0|images 0|end|
+9 group 1 0|watch 0 0|images 0|end|
+9 group 0|watch 0 0|images 0|end|
+10 group 0 0|images 0|end|
+10 group 0 1|state gone|
+10 group 0 1|s0.1 create|
+10 group 0 1|watch 0 0|images 0|end|
+11 group 0 1|s0.0 create|state ended|watch 0 0|images 0|end|
+10 group 0 1|create|
+10 group 0 1|retry 1 10|
+11 group 0 0|watch 0 1|tick 10|
+11 group 0 0|watch 0 1|state ended|
+12 group 0 0|watch 0 2|timeout 10|images 0|end|";
+
+const GROUPED_HEAD: &str =
+    "mama log 2|strategy 1|client 0 0|bridge 0|timers 0|queue 0 0|on s0.0 0|on t0.0 0|";
+
 fn told(alloc: Global, script: &Script, text: &[u8]) -> Result<u64, Fail> {
     match parse_log(alloc, script, text) {
         Ok(_run) => Ok(0),
@@ -107,5 +153,28 @@ fn the_first_line_that_does_not_fit(rt: HostRuntime) -> Result<(), Fail> {
         let text = text_of(rt.alloc(), lines)?;
         assert_eq!(rt; told(rt.alloc(), &script, &text)?, line, "{row}");
     }
+    Ok(())
+}
+
+#[test]
+fn a_log_with_lists_is_printed_as_it_was_read(rt: HostRuntime) -> Result<(), Fail> {
+    let script = script_of(rt.alloc(), GROUPED)?;
+    let run = parse_log(rt.alloc(), &script, GROUPED_LOG.as_bytes())?;
+    let printed = print_log(rt.alloc(), script.shape(), &run, script.version())?;
+    assert_eq!(rt; printed.as_slice(), GROUPED_LOG.as_bytes());
+    Ok(())
+}
+
+#[test]
+fn the_first_line_that_does_not_fit_a_log_with_lists(rt: HostRuntime) -> Result<(), Fail> {
+    let script = script_of(rt.alloc(), GROUPED)?;
+    for row in GROUPED_LOGS.lines() {
+        let (line, lines) = numbered(row);
+        let log = format!(in rt.alloc(); "{GROUPED_HEAD}{lines}")?;
+        let text = text_of(rt.alloc(), log.as_str())?;
+        assert_eq!(rt; told(rt.alloc(), &script, &text)?, line, "{row}");
+    }
+    let first = b"mama log 1\n".as_slice();
+    assert_eq!(rt; told(rt.alloc(), &script, first)?, 1);
     Ok(())
 }

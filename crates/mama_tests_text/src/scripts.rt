@@ -1,5 +1,5 @@
 use crate::rows::{numbered, text_of};
-use mama_event::SubKind;
+use mama_event::{GroupRow, SubId, SubKind, TimerId, WatchRow};
 use mama_script::{ClientLine, QueueWord, Script, ScriptFault, parse, print};
 use std::alloc::Global;
 use std::test::Fail;
@@ -9,7 +9,8 @@ const ACCEPTED: &str =
     r#"mama script 1|queues 2|topic "A \"b\" \\"|topic "B"|publisher 1 1:bid:u32:7 0:n:text:"x y"|update|update 1:bid:u32:8|recap|pause 1000000|publisher 0|client|sub 0 market any 4096 1000000|fault lose 1|fault dup 2|fault hold 3 4294967295|fault cut 4 0|fault cut 5 65535|at 1 ask i1.0 1 1 2 65535|at 1 stop s0.1|sub 1 snapshot 1 0 0|timer 0 4294967295|at 4294967295 disarm t0.0|inbox any|at 2 close i1.0|now 9223372036854775807|now clock|pause 1|stop s0.0|client|inbox 1|fault hold 1 1|ask i0.0 0 5|
 mama script 1|queues 1|topic "EQ.ABC"|publisher 0 22:bid:u32:100|update 22:bid:u32:101|update 25:ask:u32:103|update 22:bid:u32:102|client|sub 0 market 0 10 1000|
 mama script 1|queues 64|client|
-mama script 1|queues 1|client|client|pause 3|"#;
+mama script 1|queues 1|client|client|pause 3|
+mama script 2|strategy 2|queues 2|topic "A"|topic "B"|publisher 1|publisher 0 1:p:u32:5|publisher 1|client|sub 0 market 0 4 10|sub 1 snapshot 0 4 10|sub 1 market 1 0 0|timer 0 10|timer 1 20|client|sub 1 market 0 4 10|sub 0 market 1 1 1|at 1 stop s0.1|group s1.0 s0.0|group s0.2|watch s0.1 t0.0 0|watch s1.1 t0.1 1000|"#;
 
 #[test]
 fn scripts_are_printed_as_they_were_read(rt: HostRuntime) -> Result<(), Fail> {
@@ -44,6 +45,47 @@ fn a_script_has_its_parts(rt: HostRuntime) -> Result<(), Fail> {
     assert_eq!(rt; publisher.lines.as_slice().len(), 4);
     let client = script.clients().first().expect(&rt, "a client");
     assert_eq!(rt; client.as_slice().len(), 8);
+    Ok(())
+}
+
+// The script of the last row.
+fn grouped(alloc: Global) -> Result<Script, Fail> {
+    let row = ACCEPTED.lines().last().unwrap_or("");
+    Ok(parse(alloc, &text_of(alloc, row)?)?)
+}
+
+fn sub(client: u32, number: u32) -> SubId {
+    SubId { client, number }
+}
+
+// Whether these are the groups of the script, each with its members in order.
+fn are_groups(groups: &[GroupRow]) -> bool {
+    match groups {
+        [first, second] => {
+            first.members.as_slice() == [sub(1, 0), sub(0, 0)].as_slice()
+                && second.members.as_slice() == [sub(0, 2)].as_slice()
+        }
+        _ => false,
+    }
+}
+
+fn watch(sub: SubId, number: u32, retries: u32, sender: u32) -> WatchRow {
+    let timer = TimerId { client: 0, number };
+    WatchRow {
+        sub,
+        timer,
+        retries,
+        sender,
+    }
+}
+
+// The sender is the first publisher of the topic, of which one has two.
+#[test]
+fn a_script_has_its_groups_and_watches(rt: HostRuntime) -> Result<(), Fail> {
+    let script = grouped(rt.alloc())?;
+    assert!(rt; are_groups(script.groups()));
+    let watches = [watch(sub(0, 1), 0, 0, 1), watch(sub(1, 1), 1, 1000, 2)];
+    assert!(rt; script.watches() == watches.as_slice());
     Ok(())
 }
 
@@ -126,7 +168,36 @@ const REFUSED: &str = r#"1 1
 9 9 mama script 1|queues 1|topic "EQ.ABC"|publisher 0 22:bid:u32:100|update 22:bid:u32:101|update 25:ask:u32:103|update 22:bid:u32:102|client|sub 7 market 0 10 1000|
 10 10 mama script 1|queues 1|topic "EQ.ABC"|publisher 0 22:bid:u32:100|update 22:bid:u32:101|update 25:ask:u32:103|update 22:bid:u32:102|client|sub 0 market 0 10 1000|stop s0.5|
 6 9 mama script 1|queues 1|topic "A"|client|inbox 0|ask i0.0 1 1|
-6 9 mama script 1|queues 1|topic "A"|client|inbox 0|at 2 ask i0.0 1 1|"#;
+6 9 mama script 1|queues 1|topic "A"|client|inbox 0|at 2 ask i0.0 1 1|
+4 3 mama script 1|queues 1|client|group s0.0|
+4 3 mama script 1|queues 1|client|watch s0.0 t0.0 1|
+14 4 mama script 2|strategy 1|queues 2|topic "A"|publisher 0|client|sub 0 market 0 1 1|sub 0 market 0 1 1|sub 0 market 1 1 1|sub 0 snapshot 0 1 1|sub 0 basic 0 1 1|timer 0 1|timer 1 1|group|
+14 5 mama script 2|strategy 1|queues 2|topic "A"|publisher 0|client|sub 0 market 0 1 1|sub 0 market 0 1 1|sub 0 market 1 1 1|sub 0 snapshot 0 1 1|sub 0 basic 0 1 1|timer 0 1|timer 1 1|group s0.0 x|
+14 5 mama script 2|strategy 1|queues 2|topic "A"|publisher 0|client|sub 0 market 0 1 1|sub 0 market 0 1 1|sub 0 market 1 1 1|sub 0 snapshot 0 1 1|sub 0 basic 0 1 1|timer 0 1|timer 1 1|group s0.0 t0.0|
+15 3 mama script 2|strategy 1|queues 2|topic "A"|publisher 0|client|sub 0 market 0 1 1|sub 0 market 0 1 1|sub 0 market 1 1 1|sub 0 snapshot 0 1 1|sub 0 basic 0 1 1|timer 0 1|timer 1 1|group s0.0|client|
+15 3 mama script 2|strategy 1|queues 2|topic "A"|publisher 0|client|sub 0 market 0 1 1|sub 0 market 0 1 1|sub 0 market 1 1 1|sub 0 snapshot 0 1 1|sub 0 basic 0 1 1|timer 0 1|timer 1 1|watch s0.0 t0.0 1|group s0.0|
+14 4 mama script 2|strategy 1|queues 2|topic "A"|publisher 0|client|sub 0 market 0 1 1|sub 0 market 0 1 1|sub 0 market 1 1 1|sub 0 snapshot 0 1 1|sub 0 basic 0 1 1|timer 0 1|timer 1 1|watch s0.0 t0.0|
+14 5 mama script 2|strategy 1|queues 2|topic "A"|publisher 0|client|sub 0 market 0 1 1|sub 0 market 0 1 1|sub 0 market 1 1 1|sub 0 snapshot 0 1 1|sub 0 basic 0 1 1|timer 0 1|timer 1 1|watch s0.0 t0.0 1001|
+14 5 mama script 2|strategy 1|queues 2|topic "A"|publisher 0|client|sub 0 market 0 1 1|sub 0 market 0 1 1|sub 0 market 1 1 1|sub 0 snapshot 0 1 1|sub 0 basic 0 1 1|timer 0 1|timer 1 1|watch t0.0 s0.0 1|
+14 13 mama script 2|strategy 1|queues 2|topic "A"|publisher 0|client|sub 0 market 0 1 1|sub 0 market 0 1 1|sub 0 market 1 1 1|sub 0 snapshot 0 1 1|sub 0 basic 0 1 1|timer 0 1|timer 1 1|group s0.0 s0.0|
+14 13 mama script 2|strategy 1|queues 2|topic "A"|publisher 0|client|sub 0 market 0 1 1|sub 0 market 0 1 1|sub 0 market 1 1 1|sub 0 snapshot 0 1 1|sub 0 basic 0 1 1|timer 0 1|timer 1 1|group s0.0 s0.3|
+14 13 mama script 2|strategy 1|queues 2|topic "A"|publisher 0|client|sub 0 market 0 1 1|sub 0 market 0 1 1|sub 0 market 1 1 1|sub 0 snapshot 0 1 1|sub 0 basic 0 1 1|timer 0 1|timer 1 1|group s0.0 s0.2|
+14 10 mama script 2|strategy 1|queues 2|topic "A"|publisher 0|client|sub 0 market 0 1 1|sub 0 market 0 1 1|sub 0 market 1 1 1|sub 0 snapshot 0 1 1|sub 0 basic 0 1 1|timer 0 1|timer 1 1|group s0.9|
+15 13 mama script 2|strategy 1|queues 2|topic "A"|publisher 0|client|sub 0 market 0 1 1|sub 0 market 0 1 1|sub 0 market 1 1 1|sub 0 snapshot 0 1 1|sub 0 basic 0 1 1|timer 0 1|timer 1 1|group s0.0|group s0.1 s0.0|
+14 14 mama script 2|strategy 1|queues 2|topic "A"|publisher 0|client|sub 0 market 0 1 1|sub 0 market 0 1 1|sub 0 market 1 1 1|sub 0 snapshot 0 1 1|sub 0 basic 0 1 1|timer 0 1|timer 1 1|watch s0.4 t0.0 1|
+14 14 mama script 2|strategy 1|queues 2|topic "A"|publisher 0|client|sub 0 market 0 1 1|sub 0 market 0 1 1|sub 0 market 1 1 1|sub 0 snapshot 0 1 1|sub 0 basic 0 1 1|timer 0 1|timer 1 1|watch s0.0 t0.1 1|
+14 10 mama script 2|strategy 1|queues 2|topic "A"|publisher 0|client|sub 0 market 0 1 1|sub 0 market 0 1 1|sub 0 market 1 1 1|sub 0 snapshot 0 1 1|sub 0 basic 0 1 1|timer 0 1|timer 1 1|watch s0.9 t0.0 1|
+15 14 mama script 2|strategy 1|queues 2|topic "A"|publisher 0|client|sub 0 market 0 1 1|sub 0 market 0 1 1|sub 0 market 1 1 1|sub 0 snapshot 0 1 1|sub 0 basic 0 1 1|timer 0 1|timer 1 1|watch s0.0 t0.0 1|watch s0.1 t0.0 1|
+15 14 mama script 2|strategy 1|queues 2|topic "A"|publisher 0|client|sub 0 market 0 1 1|sub 0 market 0 1 1|sub 0 market 1 1 1|sub 0 snapshot 0 1 1|sub 0 basic 0 1 1|timer 0 1|timer 1 1|watch s0.3 t0.0 1|watch s0.3 t0.0 1|
+14 10 mama script 2|strategy 1|queues 2|topic "A"|publisher 0|client|sub 0 market 0 1 1|sub 0 market 0 1 1|sub 0 market 1 1 1|sub 0 snapshot 0 1 1|sub 0 basic 0 1 1|timer 0 1|timer 1 1|group s0.9|watch s0.9 t0.0 1|
+14 13 mama script 2|strategy 1|queues 2|topic "A"|publisher 0|client|sub 0 market 0 1 1|sub 0 market 0 1 1|sub 0 market 1 1 1|sub 0 snapshot 0 1 1|sub 0 basic 0 1 1|timer 0 1|timer 1 1|group s0.0 s0.4|
+14 10 mama script 2|strategy 1|queues 2|topic "A"|publisher 0|client|sub 0 market 0 1 1|sub 0 market 0 1 1|sub 0 market 1 1 1|sub 0 snapshot 0 1 1|sub 0 basic 0 1 1|timer 0 1|timer 1 1|group s0.0 s0.3 s0.9|
+14 13 mama script 2|strategy 1|queues 2|topic "A"|publisher 0|client|sub 0 market 0 1 1|sub 0 market 0 1 1|sub 0 market 1 1 1|sub 0 snapshot 0 1 1|sub 0 basic 0 1 1|timer 0 1|timer 1 1|group s0.3|group s0.9|
+8 13 mama script 2|strategy 1|queues 1|topic "A"|client|sub 0 market 0 1 1|at 2 stop s0.0|group s0.0|
+10 13 mama script 2|strategy 1|queues 1|topic "A"|client|sub 0 market 0 1 1|client|timer 0 1|at 2 stop s0.0|group s0.0|
+14 5 mama script 2|strategy 1|queues 2|topic "A"|publisher 0|client|sub 0 market 0 1 1|sub 0 market 0 1 1|sub 0 market 1 1 1|sub 0 snapshot 0 1 1|sub 0 basic 0 1 1|timer 0 1|timer 1 1|watch s0.0 t0.0 01|
+15 14 mama script 2|strategy 1|queues 2|topic "A"|publisher 0|client|sub 0 market 0 1 1|sub 0 market 0 1 1|sub 0 market 1 1 1|sub 0 snapshot 0 1 1|sub 0 basic 0 1 1|timer 0 1|timer 1 1|watch s0.0 t0.0 1|watch s0.0 t0.0 1|
+7 10 mama script 2|strategy 1|queues 1|topic "A"|client|sub 0 market 0 1 1|stop s0.5|group s0.5|"#;
 
 // The line and the fault of a text that is refused, or zeros.
 fn told(alloc: Global, text: &[u8]) -> (u64, u64) {

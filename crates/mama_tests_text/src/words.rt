@@ -1,10 +1,11 @@
 use crate::rows::numbered;
-use mama_event::{MsgKind, ObjectId, Order, Quality, SubId, SubKind};
+use mama_event::{GroupState, MsgKind, ObjectId, Order, Quality, SubId, SubKind};
 use mama_memory::OutOfMemory;
 use mama_msg::Msg;
 use mama_words::{
-    Nums, ReadError, parted, print_block, print_fields, print_msg_kind, print_object_id,
-    print_order, print_quality, print_sub_kind, read_block, read_message, read_order,
+    Nums, ReadError, parted, print_block, print_fields, print_group_state, print_msg_kind,
+    print_object_id, print_order, print_quality, print_sub_kind, read_block, read_message,
+    read_order,
 };
 use std::alloc::Global;
 use std::test::Fail;
@@ -198,9 +199,10 @@ fn printers_append(rt: HostRuntime) -> Result<(), Fail> {
     print_order(&Order::Stop(id), &mut out)?;
     print_fields(&Msg::new(rt.alloc()), &mut out)?;
     print_block(&[1], &mut out)?;
+    print_group_state(GroupState::Waiting, &mut out)?;
     assert_eq!(rt;
         out.as_slice(),
-        b"basicrecapstales3.4294967295stop s3.4294967295x01".as_slice()
+        b"basicrecapstales3.4294967295stop s3.4294967295x01waiting".as_slice()
     );
     Ok(())
 }

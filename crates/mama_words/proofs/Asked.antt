@@ -5,7 +5,6 @@ use Rattle.std.proofs.lemmas.List.{take_more_set}
 use Rattle.mama_words.specs.Value.{onto}
 use Rattle.mama_words.specs.Number.{between_in}
 use Rattle.mama_words.specs.Order.{cons_fid, fids_in}
-use Rattle.mama_words.proofs.Hex.{onto-nil}
 
 onto_cons : (front : List ℕ) (f : ℕ) (r : Option (List ℕ)) → onto front (cons_fid f r) ≡ onto (front ++ f ∷ []) r
 onto_cons front f None = refl

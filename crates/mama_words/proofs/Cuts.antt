@@ -1,9 +1,9 @@
 -- How a loop over the bytes finds where to cut.
-use Rattle.std.proofs.Common.{◌≡◌, ℕ, suc, ◌+◌, ◌-◌, ◌<◌, ◌≤◌, Bool, true, false, cond, eqb, List, [], ◌∷◌, ◌++◌, length, get_or, take, drop, Option, Some, None, refl, sym, ap, ◌∙◌, append_assoc, arith, eq-eqb}
+use Rattle.std.proofs.Common.{◌≡◌, ℕ, suc, ◌+◌, ◌-◌, ◌<◌, ◌≤◌, Bool, true, false, eqb, List, [], ◌∷◌, ◌++◌, length, get_or, take, drop, Option, Some, None, refl, sym, ap, ◌∙◌, append_assoc, arith, eq-eqb}
 use Rattle.std.proofs.lemmas.Bool.{ne_eqb}
-use Rattle.std.proofs.lemmas.List.{append-nil, drop_more, take_more, take_rest, drop_all, length-drop}
+use Rattle.std.proofs.lemmas.List.{append-nil, drop_more, take_more, take_rest, drop_all}
 use Rattle.mama_words.specs.declared.parting.Place.{Place}
-use Rattle.mama_words.specs.Parting.{onto_cut, cut_at, is_gap, next_place, place_after, words_from, onto_first, pieces}
+use Rattle.mama_words.specs.Parting.{onto_cut, cut_at, is_gap, next_place, words_from, onto_first, pieces}
 use Rattle.mama_words.specs.CutWord.{cut_word}
 use Rattle.mama_words.specs.declared.parting.Place.TheVariants.{Outside}
 

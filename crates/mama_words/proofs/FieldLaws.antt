@@ -1,8 +1,8 @@
 -- What is read as a field or a message is so spelled, and what is so spelled is read.
-use Rattle.std.proofs.Common.{◌≡◌, ◌≢◌, ℕ, ◌<◌, ◌≤◌, ◌^◌, Bool, true, false, cond, eqb, leb, List, [], ◌∷◌, ◌++◌, length, map, Option, Some, None, Result, Ok, Err, refl, sym, ap, subst, ◌∙◌, arith}
+use Rattle.std.proofs.Common.{◌≡◌, ℕ, ◌^◌, Bool, true, false, eqb, leb, List, [], ◌∷◌, ◌++◌, length, map, Some, Ok, refl, sym, ap, subst, ◌∙◌, arith}
 use Rattle.std.specs.Prelude.{◌&&◌, ◌==◌}
 use Rattle.std.specs.List.{list_all, AllByRecursion}
-use Rattle.std.proofs.lemmas.Bool.{le-leb, leb-true, and_parts, and_from, and_cases, and_left, and_right, cases_Bool, ne_eqb, eq-eqb, eqb-true}
+use Rattle.std.proofs.lemmas.Bool.{le-leb, leb-true, and_parts, and_from, eq-eqb, eqb-true}
 use Rattle.std.proofs.lemmas.List.{nil_from_length}
 use Rattle.mama_edge.specs.Decimal.{decimal}
 use Rattle.mama_msg.specs.Name.{is_name_byte, IsNameText}
@@ -12,12 +12,12 @@ use Rattle.mama_words.specs.declared.nums.Nums.{Nums}
 use Rattle.mama_words.specs.declared.nums.Nums.TheVariants.{Unknown, Known}
 use Rattle.mama_words.specs.declared.value_type.ValueType.{ValueType}
 use Rattle.mama_words.specs.declared.value_type.ValueType.TheVariants as types
-use Rattle.mama_words.specs.Reading.{◌>>=◌, or_fault, both}
+use Rattle.mama_words.specs.Reading.{both}
 use Rattle.mama_words.specs.Parting.{cut_at}
 use Rattle.mama_words.specs.Number.{below_in}
-use Rattle.mama_words.specs.Value.{type_of, type_text, value_text, is_known, type_in, value_in, IsValue}
+use Rattle.mama_words.specs.Value.{type_of, type_text, value_text, is_known, type_in, value_in}
 use Rattle.mama_words.specs.Field.{field_text, IsField, name_in, keyed_or_fault, field_in, fields_in, are_distinct, distinct_or_fault, message_in, IsMessage}
-use Rattle.mama_words.proofs.Choices.{some_is, ok_is, chosen_some, guard_ok, guard_bad, bind_ok, step_ok, both_ok}
+use Rattle.mama_words.proofs.Choices.{ok_is, chosen_some, guard_ok, guard_bad, bind_ok, step_ok, both_ok}
 use Rattle.mama_words.proofs.Numbers.{below_in_again, below_in_found}
 use Rattle.mama_words.proofs.Cutting.{lacks, all_lack, cut_at_again, cut_at_split, decimal_lacks}
 use Rattle.mama_words.proofs.KindLaws.{type_again, type_found}

@@ -1,5 +1,5 @@
 -- What is read as an id is so spelled, and what is so spelled is read.
-use Rattle.std.proofs.Common.{◌≡◌, ℕ, ◌<◌, ◌^◌, Bool, true, false, eqb, List, [], ◌∷◌, ◌++◌, Option, Some, None, refl, sym, ap, subst, ◌∙◌, eq-eqb}
+use Rattle.std.proofs.Common.{◌≡◌, ℕ, Bool, true, false, eqb, List, [], ◌∷◌, ◌++◌, Some, None, refl, sym, ap, subst, ◌∙◌, eq-eqb}
 use Rattle.std.specs.Prelude.{option_and_then, option_map}
 use Rattle.std.proofs.lemmas.Bool.{eqb-true}
 use Rattle.mama_edge.specs.Decimal.{decimal}
@@ -8,7 +8,7 @@ use Rattle.mama_words.specs.Parting.{cut_at}
 use Rattle.mama_words.specs.Number.{number_in}
 use Rattle.mama_words.specs.Id.{numbers_text, id_text, pair_in, id_in}
 use Rattle.mama_words.specs.Order.{IsId}
-use Rattle.mama_words.proofs.Choices.{some_is, chosen, chosen_some, map_some, and_then_some}
+use Rattle.mama_words.proofs.Choices.{map_some, and_then_some}
 use Rattle.mama_words.proofs.Numbers.{number_in_again, number_in_found}
 use Rattle.mama_words.proofs.Cutting.{cut_at_again, cut_at_split, decimal_lacks}
 

@@ -6,13 +6,15 @@ use Rattle.mama_event.specs.declared.market.MsgKind.{MsgKind}
 use Rattle.mama_event.specs.declared.market.MsgKind.TheVariants.{Initial, Update, Recap}
 use Rattle.mama_event.specs.declared.market.Quality.{Quality}
 use Rattle.mama_event.specs.declared.market.Quality.TheVariants.{Ok as Good, Stale}
+use Rattle.mama_event.specs.declared.group.GroupState.{GroupState}
+use Rattle.mama_event.specs.declared.group.GroupState.TheVariants as state
 use Rattle.mama_event.specs.declared.shape.Strategy.{Strategy}
 use Rattle.mama_event.specs.declared.shape.Strategy.TheVariants.{One, Two}
 use Rattle.mama_words.specs.declared.value_type.ValueType.{ValueType}
 use Rattle.mama_words.specs.declared.value_type.ValueType.TheVariants as types
 use Rattle.mama_words.specs.declared.order.OrderKind.{OrderKind}
 use Rattle.mama_words.specs.declared.order.OrderKind.TheVariants as kinds
-use Rattle.mama_words.specs.Kind.{sub_kind_text, sub_kind_in, msg_kind_text, quality_text, strategy_text, strategy_in}
+use Rattle.mama_words.specs.Kind.{sub_kind_text, sub_kind_in, msg_kind_text, quality_text, strategy_text, strategy_in, group_state_text, group_state_in}
 use Rattle.mama_words.specs.KindIn.{msg_kind_in, quality_in}
 use Rattle.mama_words.specs.Value.{type_text, any_type_in, is_known, if_known, type_in}
 use Rattle.mama_words.specs.Order.{order_kind_in}
@@ -51,6 +53,15 @@ strategy_again Two = refl
 
 pub strategy_found : (word : List ℕ) (s : Strategy) → strategy_in word ≡ Some s → word ≡ strategy_text s
 strategy_found word s = named_found strategy_text word (One ∷ Two ∷ []) s
+
+pub group_state_again : (s : GroupState) → group_state_in (group_state_text s) ≡ Some s
+group_state_again state.Waiting = refl
+group_state_again state.Fresh = refl
+group_state_again state.Stale = refl
+group_state_again state.Ended = refl
+
+pub group_state_found : (word : List ℕ) (s : GroupState) → group_state_in word ≡ Some s → word ≡ group_state_text s
+group_state_found word s = named_found group_state_text word (state.Waiting ∷ state.Fresh ∷ state.Stale ∷ state.Ended ∷ []) s
 
 pub order_kind_again : (k : OrderKind) → order_kind_in (order_kind_text k) ≡ Some k
 unfolding order_kind_in

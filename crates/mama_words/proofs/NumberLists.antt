@@ -1,16 +1,16 @@
 -- What is read as a list of numbers is so spelled, and what is so spelled is read.
-use Rattle.std.proofs.Common.{◌≡◌, ℕ, ℤ, pos, negsuc, suc, ◌+◌, ◌<◌, ◌≤◌, ◌^◌, Bool, true, false, cond, eqb, ltb, leb, List, [], ◌∷◌, ◌++◌, length, map, Option, Some, None, refl, sym, ap, subst, ◌∙◌, append_assoc, arith, inl, inr}
-use Rattle.std.specs.Prelude.{◌||◌, option_and_then, option_map}
+use Rattle.std.proofs.Common.{◌≡◌, ℕ, ℤ, pos, negsuc, ◌+◌, ◌<◌, ◌≤◌, ◌^◌, Bool, true, false, cond, eqb, ltb, leb, List, [], ◌∷◌, ◌++◌, length, map, Option, Some, None, refl, sym, ap, subst, ◌∙◌, append_assoc, arith}
+use Rattle.std.specs.Prelude.{option_and_then}
 use Rattle.std.specs.List.{flat_map, list_any, list_all}
 use Rattle.std.proofs.lemmas.Bool.{ltb-true, ltb-false, leb-true, le-leb, lt-leb, eqb-true, or_from, and_parts, and_from, ne_eqb}
 use Rattle.std.proofs.lemmas.List.{append-nil, length-append, nil_from_length}
 use Rattle.std.proofs.lemmas.List.Folds.{list_any-append}
 use Rattle.std.proofs.lemmas.Fmt.{decimal_nonempty}
-use Rattle.mama_edge.specs.Decimal.{decimal, int_decimal}
+use Rattle.mama_edge.specs.Decimal.{int_decimal}
 use Rattle.mama_words.specs.Parting.{onto_first, pieces, cut_at}
 use Rattle.mama_words.specs.Number.{int_in, is_within}
 use Rattle.mama_words.specs.NumberList.{after_comma, with_commas, numbers_text, if_last, bracketed_in, before, ints_in, list_in, if_few, numbers_in, AreNumbers}
-use Rattle.mama_words.proofs.Choices.{some_is, chosen, chosen_some, chosen_other, and_then_some}
+use Rattle.mama_words.proofs.Choices.{some_is, chosen_some, chosen_other, and_then_some}
 use Rattle.mama_words.proofs.Cuts.{pieces_at_some, pieces_at_none}
 use Rattle.mama_words.proofs.Cutting.{lacks, cut_at_again, cut_at_none, cut_at_split, int_lacks}
 use Rattle.mama_words.proofs.Numbers.{int_in_again, int_in_found}

@@ -1,18 +1,18 @@
 -- What is read as a number is the one spelling of it, and the spelling of a number is read.
-use Rattle.std.proofs.Common.{inl, inr, ◌≡◌, ℕ, ℤ, pos, negsuc, zero, suc, ◌+◌, ◌^◌, ◌<◌, ◌≤◌, Bool, true, false, cond, eqb, ltb, List, [], ◌∷◌, length, get_or, drop, Option, Some, None, refl, sym, ap, subst, ◌∙◌, arith, eq-eqb, FitsSigned}
+use Rattle.std.proofs.Common.{inl, inr, ◌≡◌, ℕ, ℤ, pos, negsuc, zero, suc, ◌^◌, ◌<◌, ◌≤◌, Bool, true, eqb, ltb, List, [], ◌∷◌, get_or, drop, Option, Some, None, refl, sym, ap, subst, ◌∙◌, arith, FitsSigned}
 use Rattle.std.specs.Prelude.{◌&&◌, IfSome, IfNone, Result, Ok, Err}
 use Rattle.std.specs.Result.{OkIff, result_ok}
 use Rattle.std.specs.Int.{Width, w64}
 use mir.Val.{hbits, to_z, of_z}
 use Rattle.std.proofs.lemmas.Int.{to_z-of_z}
 use Rattle.std.specs.Str.{bytes_eq}
-use Rattle.std.specs.Str.Parse.{digits_value, IsNumeral}
-use Rattle.std.proofs.lemmas.Bool.{ltb-true, lt-ltb, and_parts, and_from, ne_eqb, eqb-true, eqb-false, cases_Bool, false_from_ne_true}
-use Rattle.std.proofs.lemmas.Fmt.{decimal_is_IsNumeral, decimal_injective}
+use Rattle.std.specs.Str.Parse.{digits_value}
+use Rattle.std.proofs.lemmas.Bool.{ltb-true, lt-ltb, and_parts, ne_eqb, eqb-true}
+use Rattle.std.proofs.lemmas.Fmt.{decimal_is_IsNumeral}
 use Rattle.std.proofs.lemmas.Str.Parse.{digit_at}
 use Rattle.mama_edge.specs.Decimal.{decimal, int_decimal}
-use Rattle.mama_words.specs.Number.{number_in, if_below, below_in, between_in, is_within, int_in, any_int_in, plain_int, opposite_int, if_within}
-use Rattle.mama_words.proofs.Choices.{some_is, chosen, chosen_some, chosen_other, same_text, text_same}
+use Rattle.mama_words.specs.Number.{number_in, if_below, below_in, is_within, int_in, any_int_in, plain_int, opposite_int, if_within}
+use Rattle.mama_words.proofs.Choices.{some_is, chosen, chosen_some, same_text, text_same}
 
 pub number_in_again : (n : ℕ) → n < 2 ^ 64 → number_in (decimal n) ≡ Some n
 unfolding number_in

@@ -1,13 +1,13 @@
 -- What is read between quotes is so spelled, and what is so spelled is read.
-use Rattle.std.proofs.Common.{◌≡◌, ℕ, Bool, true, false, cond, eqb, List, [], ◌∷◌, ◌++◌, drop, Option, Some, None, refl, sym, ap, subst, ◌∙◌, append_assoc}
-use Rattle.std.specs.Prelude.{◌&&◌, ◌||◌, IfSome, IfNone, IfOk, Result, Ok, Err, option_map}
+use Rattle.std.proofs.Common.{◌≡◌, ℕ, Bool, true, false, eqb, List, [], ◌∷◌, ◌++◌, drop, Option, Some, None, refl, sym, ap, subst, ◌∙◌, append_assoc}
+use Rattle.std.specs.Prelude.{◌&&◌, IfSome, IfNone, IfOk, Result, Ok, Err, option_map}
 use Rattle.std.specs.Global.{Vec}
 use Rattle.std.specs.List.{flat_map, list_all}
 use Rattle.std.specs.Str.{bytes_eq}
 use Rattle.std.proofs.lemmas.Bool.{and_parts}
 use Rattle.mama_edge.specs.Quoted.{quoted, escaped, is_printable, IsPrintable}
 use Rattle.mama_words.specs.Quote.{unquoted_from, quoted_in}
-use Rattle.mama_words.proofs.Choices.{some_is, chosen_some, same_text, text_same}
+use Rattle.mama_words.proofs.Choices.{chosen_some, same_text, text_same}
 
 abbrev closed : List ℕ → List ℕ
 closed text = flat_map escaped text ++ 34 ∷ []

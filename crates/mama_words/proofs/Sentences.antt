@@ -1,15 +1,14 @@
 -- Words in a row are parted again, and the words of a line make the line.
-use Rattle.std.proofs.Common.{◌≡◌, ℕ, Bool, true, false, cond, eqb, leb, List, [], ◌∷◌, ◌++◌, length, map, Option, Some, None, refl, sym, ap, subst, ◌∙◌, append_assoc, arith}
-use Rattle.std.specs.Prelude.{◌&&◌, ◌||◌, ◌==◌, not, nat_le}
-use Rattle.std.specs.List.{list_all, list_any, flat_map, AllByRecursion}
+use Rattle.std.proofs.Common.{◌≡◌, ℕ, Bool, true, false, cond, eqb, List, [], ◌∷◌, ◌++◌, Some, None, refl, sym, ap, ◌∙◌}
+use Rattle.std.specs.Prelude.{◌&&◌, ◌==◌, not}
+use Rattle.std.specs.List.{list_all, list_any, flat_map}
 use Rattle.std.proofs.lemmas.Bool.{and_parts, and_from, or_parts, or_from, not_from_false, eqb-true}
-use Rattle.std.proofs.lemmas.List.{append-nil}
 use Rattle.std.proofs.lemmas.List.Folds.{list_all-append}
 use Rattle.mama_words.specs.declared.parting.Place.{Place}
-use Rattle.mama_words.specs.declared.parting.Place.TheVariants.{Outside, Inside, Escaped}
+use Rattle.mama_words.specs.declared.parting.Place.TheVariants.{Outside}
 use Rattle.mama_words.specs.Parting.{onto_first, is_plain, is_gap, is_outside, next_place, place_after, words_from, words, is_empty_word, is_parted, parted_in}
 use Rattle.mama_words.specs.Sentence.{spaced, sentence}
-use Rattle.mama_words.specs.WordForm.{has_gap, IsPiece, IsWord, AreWords}
+use Rattle.mama_words.specs.WordForm.{has_gap, IsPiece, AreWords}
 use Rattle.mama_words.proofs.Choices.{chosen_some}
 
 abbrev onto_all : List ℕ → List (List ℕ) → List (List ℕ)

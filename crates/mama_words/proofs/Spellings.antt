@@ -1,9 +1,9 @@
 -- Each spelling is a word.
-use Rattle.std.proofs.Common.{◌≡◌, ℕ, ℤ, pos, negsuc, zero, suc, ◌+◌, ◌/◌, ◌%◌, ◌<◌, ◌≤◌, ◌^◌, Bool, true, false, cond, eqb, ltb, leb, List, [], ◌∷◌, ◌++◌, length, map, refl, sym, ap, subst, ◌∙◌, append_assoc, arith, inl, inr}
-use Rattle.std.specs.Prelude.{◌&&◌, ◌||◌, ◌==◌, not, nat_le, nat_lt, codes}
+use Rattle.std.proofs.Common.{◌≡◌, ℕ, ℤ, pos, negsuc, suc, ◌+◌, ◌/◌, ◌%◌, ◌<◌, ◌≤◌, ◌^◌, Bool, true, false, eqb, ltb, leb, List, [], ◌∷◌, ◌++◌, length, map, refl, sym, ap, ◌∙◌, arith, inl, inr}
+use Rattle.std.specs.Prelude.{◌&&◌, ◌||◌, ◌==◌, not, nat_lt, codes}
 use Rattle.std.specs.List.{list_all, flat_map, AllByRecursion}
 use Rattle.std.specs.Fmt.{digit_glyph}
-use Rattle.std.proofs.lemmas.Bool.{and_parts, and_from, or_from, le-leb, leb-true, ltb-true, lt-ltb, le-ltb, ne_eqb, not_from_false, cases_lt, or_cases, eqb-true}
+use Rattle.std.proofs.lemmas.Bool.{and_parts, and_from, le-leb, leb-true, ltb-true, lt-ltb, le-ltb, ne_eqb, not_from_false, cases_lt, or_cases, eqb-true}
 use Rattle.std.specs.Char.{is_ascii_alphanumeric}
 use Rattle.std.specs.Int.{is_in_range}
 use Rattle.std.proofs.lemmas.List.{append-nil}
@@ -17,10 +17,11 @@ use Rattle.mama_event.specs.declared.market.MsgKind.{MsgKind}
 use Rattle.mama_event.specs.declared.market.MsgKind.TheVariants.{Initial, Update, Recap}
 use Rattle.mama_event.specs.declared.market.Quality.{Quality}
 use Rattle.mama_event.specs.declared.market.Quality.TheVariants.{Ok as Good, Stale}
+use Rattle.mama_event.specs.declared.group.GroupState.{GroupState}
+use Rattle.mama_event.specs.declared.group.GroupState.TheVariants as state
 use Rattle.mama_event.specs.declared.shape.Strategy.{Strategy}
 use Rattle.mama_event.specs.declared.shape.Strategy.TheVariants.{One, Two}
-use Rattle.mama_event.specs.FidList.{is_fid_list}
-use Rattle.mama_msg.specs.Name.{is_name_byte, IsNameText}
+use Rattle.mama_msg.specs.Name.{is_name_byte}
 use Rattle.mama_msg.specs.Field.{FieldData}
 use Rattle.mama_msg.specs.declared.value.Value.{Value}
 use Rattle.mama_msg.specs.declared.value.Value.TheVariants as values
@@ -31,15 +32,15 @@ use Rattle.mama_words.specs.declared.value_type.ValueType.TheVariants as types
 use Rattle.mama_words.specs.declared.order.OrderWord.{OrderWord}
 use Rattle.mama_words.specs.declared.order.OrderWord.TheVariants.{Stop, Disarm, Close, Ask}
 use Rattle.mama_words.specs.declared.parting.Place.{Place}
-use Rattle.mama_words.specs.declared.parting.Place.TheVariants.{Outside, Inside, Escaped}
-use Rattle.mama_words.specs.Parting.{is_plain, is_gap, next_place, place_after, is_empty_word}
+use Rattle.mama_words.specs.declared.parting.Place.TheVariants.{Inside}
+use Rattle.mama_words.specs.Parting.{is_plain, place_after, is_empty_word}
 use Rattle.mama_words.specs.Sentence.{spaced, sentence}
 use Rattle.mama_words.specs.WordForm.{has_gap, IsPiece, IsWord, AreWords}
 use Rattle.mama_words.specs.Number.{is_within}
-use Rattle.mama_words.specs.Kind.{sub_kind_text, msg_kind_text, quality_text, strategy_text}
+use Rattle.mama_words.specs.Kind.{sub_kind_text, msg_kind_text, quality_text, strategy_text, group_state_text}
 use Rattle.mama_words.specs.Id.{numbers_text, id_text}
 use Rattle.mama_words.specs.NumberList.{after_comma, with_commas}
-use Rattle.mama_words.specs.Value.{type_text, type_of, hex_pair, bool_text, bytes_text, price_text, value_text, IsValue}
+use Rattle.mama_words.specs.Value.{type_text, type_of, hex_pair, bool_text, bytes_text, value_text, IsValue}
 use Rattle.mama_words.specs.Field.{field_text, IsField, spaced_field, fields_text}
 use Rattle.mama_words.specs.Order.{order_words, IsId, are_small, IsOrder, spaced_number, order_text}
 use Rattle.mama_words.proofs.Cutting.{is_digit, decimal_digits}
@@ -94,6 +95,12 @@ quality_word Stale = fixed_word _ _ refl
 pub strategy_word : (s : Strategy) → IsWord (strategy_text s)
 strategy_word One = fixed_word _ _ refl
 strategy_word Two = fixed_word _ _ refl
+
+pub group_state_word : (s : GroupState) → IsWord (group_state_text s)
+group_state_word state.Waiting = fixed_word _ _ refl
+group_state_word state.Fresh = fixed_word _ _ refl
+group_state_word state.Stale = fixed_word _ _ refl
+group_state_word state.Ended = fixed_word _ _ refl
 
 -- ---- quoted texts
 

@@ -1,5 +1,5 @@
 -- believed: Numbers in their one decimal spelling.
-use Rattle.std.specs.Prelude.{◌≡◌, ℕ, zero, suc, ℤ, pos, negsuc, ◌^◌, ◌==◌, Bool, true, ◌&&◌, nat_lt, List, drop, slice_index, Option, Some, None, if◌then◌else◌}
+use Rattle.std.specs.Prelude.{ℕ, zero, suc, ℤ, pos, negsuc, ◌^◌, ◌==◌, Bool, ◌&&◌, nat_lt, List, drop, slice_index, Option, Some, None, if◌then◌else◌}
 use Rattle.std.specs.Str.{bytes_eq}
 use Rattle.std.specs.Str.Parse.{digits_value}
 use Rattle.mama_edge.specs.Decimal.{decimal}

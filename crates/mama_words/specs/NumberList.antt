@@ -1,5 +1,5 @@
 -- believed: Lists of numbers, and how they are spelled: between brackets, with one comma between two.
-use Rattle.std.specs.Prelude.{◌≡◌, ℕ, ℤ, ◌^◌, ◌≤◌, ◌==◌, Bool, true, nat_lt, nat_le, List, [], ◌∷◌, ◌++◌, length, Option, Some, None, option_and_then, if◌then◌else◌}
+use Rattle.std.specs.Prelude.{◌≡◌, ℕ, ℤ, ◌^◌, ◌≤◌, ◌==◌, true, nat_lt, nat_le, List, [], ◌∷◌, ◌++◌, length, Option, Some, None, option_and_then, if◌then◌else◌}
 use Rattle.std.specs.List.{flat_map, list_all}
 use Rattle.mama_edge.specs.Decimal.{int_decimal}
 use Rattle.mama_words.specs.Parting.{pieces, cut_at}

@@ -8,7 +8,7 @@ use mama_event::{InboxId, ObjectId, SubId, TimerId};
 use mama_memory::OutOfMemory;
 
 /// An id as a text names it: the client's number and the object's. It may name what no run can have.
-#[derive(Clone, Copy, Debug, PartialEq, Eq)]
+#[derive(Clone, Copy, Debug, PartialEq, Eq, Hash)]
 pub struct IdWord {
     pub client: u64,
     pub number: u64,

@@ -2,7 +2,7 @@ ghost use Rattle.std.specs.Prelude.{◌≡◌, ◌++◌, OnOk, OnErr};
 ghost use Rattle.mama_words.specs.Kind as kinds;
 ghost use Rattle.mama_words.specs.KindIn.{msg_kind_in, quality_in};
 
-use mama_event::{MsgKind, Quality, Strategy, SubKind};
+use mama_event::{GroupState, MsgKind, Quality, Strategy, SubKind};
 use mama_memory::OutOfMemory;
 
 /// The kind of subscription that a word names.
@@ -107,6 +107,37 @@ pub fn print_strategy(strategy: Strategy, out: &mut Vec<u8>) -> Result<(), OutOf
     match strategy {
         Strategy::One => out.extend_from_slice(b"1")?,
         Strategy::Two => out.extend_from_slice(b"2")?,
+    }
+    Ok(())
+}
+
+/// The state of a group that a word names.
+pub fn read_group_state(word: &[u8]) -> Option<GroupState>
+    ensures { result ≡ kinds.group_state_in word.now }
+{
+    if word == b"waiting".as_slice() {
+        Some(GroupState::Waiting)
+    } else if word == b"fresh".as_slice() {
+        Some(GroupState::Fresh)
+    } else if word == b"stale".as_slice() {
+        Some(GroupState::Stale)
+    } else if word == b"ended".as_slice() {
+        Some(GroupState::Ended)
+    } else {
+        None
+    }
+}
+
+/// Appends the word for the state of a group. Where no memory is found, nothing is appended.
+pub fn print_group_state(state: GroupState, out: &mut Vec<u8>) -> Result<(), OutOfMemory>
+    ensures ok { OnOk result (out.new.items ≡ out.old.items ++ kinds.group_state_text state) }
+    ensures err { OnErr result (out.new.items ≡ out.old.items) }
+{
+    match state {
+        GroupState::Waiting => out.extend_from_slice(b"waiting")?,
+        GroupState::Fresh => out.extend_from_slice(b"fresh")?,
+        GroupState::Stale => out.extend_from_slice(b"stale")?,
+        GroupState::Ended => out.extend_from_slice(b"ended")?,
     }
     Ok(())
 }

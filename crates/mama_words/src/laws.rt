@@ -5,6 +5,7 @@ ghost use Rattle.mama_edge.specs.Quoted.{quoted, IsPrintable};
 ghost use Rattle.mama_event.specs.declared.market.SubKind.{SubKind};
 ghost use Rattle.mama_event.specs.declared.market.MsgKind.{MsgKind};
 ghost use Rattle.mama_event.specs.declared.market.Quality.{Quality};
+ghost use Rattle.mama_event.specs.declared.group.GroupState.{GroupState};
 ghost use Rattle.mama_event.specs.declared.shape.Strategy.{Strategy};
 ghost use Rattle.mama_msg.specs.Field.{FieldData};
 ghost use Rattle.mama_words.specs.declared.id.IdWord.{IdWord};
@@ -16,7 +17,7 @@ ghost use Rattle.mama_words.specs.Sentence.{spaced, sentence};
 ghost use Rattle.mama_words.specs.WordForm.{IsWord, AreWords};
 ghost use Rattle.mama_words.specs.Number.{number_in, int_in, is_within};
 ghost use Rattle.mama_words.specs.Quote.{quoted_in};
-ghost use Rattle.mama_words.specs.Kind.{sub_kind_in, sub_kind_text, msg_kind_text, quality_text, strategy_in, strategy_text};
+ghost use Rattle.mama_words.specs.Kind.{sub_kind_in, sub_kind_text, msg_kind_text, quality_text, strategy_in, strategy_text, group_state_in, group_state_text};
 ghost use Rattle.mama_words.specs.KindIn.{msg_kind_in, quality_in};
 ghost use Rattle.mama_words.specs.Id.{id_in, id_text};
 ghost use Rattle.mama_words.specs.Field.{field_in, field_text, IsField, fields_text, message_in, IsMessage};
@@ -46,6 +47,8 @@ pub fn kinds_are_spelled()
     ensures quality_again { (q : Quality) → quality_in (quality_text q) ≡ Some q }
     ensures strategy_found { (word : List ℕ) (s : Strategy) → strategy_in word ≡ Some s → word ≡ strategy_text s }
     ensures strategy_again { (s : Strategy) → strategy_in (strategy_text s) ≡ Some s }
+    ensures group_state_found { (word : List ℕ) (s : GroupState) → group_state_in word ≡ Some s → word ≡ group_state_text s }
+    ensures group_state_again { (s : GroupState) → group_state_in (group_state_text s) ≡ Some s }
 {}
 
 /// Ids, with any letter.
@@ -89,6 +92,7 @@ pub fn spellings_are_words()
     ensures msg_kind { (k : MsgKind) → IsWord (msg_kind_text k) }
     ensures quality { (q : Quality) → IsWord (quality_text q) }
     ensures strategy { (s : Strategy) → IsWord (strategy_text s) }
+    ensures group_state { (s : GroupState) → IsWord (group_state_text s) }
     ensures sub_id { (id : IdWord) → IsId id → IsWord (id_text 115 id) }
     ensures timer_id { (id : IdWord) → IsId id → IsWord (id_text 116 id) }
     ensures inbox_id { (id : IdWord) → IsId id → IsWord (id_text 105 id) }

@@ -37,8 +37,8 @@ pub use id::{
     read_sub_id, read_timer_id,
 };
 pub use kind::{
-    print_msg_kind, print_quality, print_strategy, print_sub_kind, read_msg_kind, read_quality,
-    read_strategy, read_sub_kind,
+    print_group_state, print_msg_kind, print_quality, print_strategy, print_sub_kind,
+    read_group_state, read_msg_kind, read_quality, read_strategy, read_sub_kind,
 };
 pub use laws::{
     fields_are_spelled, ids_are_spelled, kinds_are_spelled, lines_are_words, numbers_are_spelled,

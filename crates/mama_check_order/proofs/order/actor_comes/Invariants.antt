@@ -4,7 +4,7 @@ use Rattle.mama_check_order.proofs.order.actor_comes.Given as goal
 
 abbrev pub invariant-loop-made : goal.invariant-loop-made
 invariant-loop-made l = record {
-  reached : IsReached (map (λ actor. actor.items) l.needs) l.made;
+  reached : IsReached (map (λ actor. actor.items) l.needs) l.made l.turns.items;
   none : NoneIsAsked l.askers;
   goes_on : GoesOn l.fn.made l.made;
 }

@@ -1,9 +1,9 @@
-use Rattle.std.proofs.Common.{◌≡◌, ℕ, ◌+◌, ◌<◌, List, [], length, map, get_or, set, Option, Vec, Global, arith, sym, ap, subst, get_or-set_same}
+use Rattle.std.proofs.Common.{◌≡◌, ℕ, ◌+◌, ◌<◌, List, [], length, map, get_or, set, Option, Vec, Global, arith, sym, ap, subst, get_or-set_same, get_or-set_other}
 use Rattle.std.proofs.lemmas.List.{length-map}
-use Rattle.mama_check_order.specs.Search.{NoneIsAsked}
+use Rattle.mama_check_order.specs.Search.{IsReached, NoneIsAsked}
 use Rattle.mama_check_order.specs.declared.order.Need.{Need}
 use Rattle.mama_check_order.proofs.Orders.{reached_more, goes_more}
-use Rattle.mama_check_order.proofs.Searches.{IsSearch, countable, exists, search_asks, search_asker, search_answers, search_ends, search_stuck, left_less, free, free_more}
+use Rattle.mama_check_order.proofs.Searches.{IsSearch, countable, exists, search_asks, search_asker, search_answers, search_ends, asked_apart, most_stuck, left_less, free, free_more}
 use Rattle.mama_check_order.proofs.order.next_comes.Goals as goal
 
 abbrev needs_in : List (Vec (Option Need) Global) → List (List (Option Need))
@@ -19,7 +19,8 @@ overflow_add-made c =
 
 pub returns-in-None-take-clause-reached : goal.returns-in-None-take-clause-reached
 returns-in-None-take-clause-reached c =
-    reached_more (needs_in c.args.needs.now) c.loop-made.made c.loop-made.actor (omega arith) c.loop-made.invariant.reached c.in-None.ensures.none
+    subst (IsReached (needs_in c.args.needs.now) (set c.loop-made.made c.loop-made.actor (get_or c.loop-made.made c.loop-made.actor 0 + 1))) (sym c.in_ok-push-in-None.ensures.items)
+    (reached_more (needs_in c.args.needs.now) c.loop-made.made c.loop-made.turns.items c.loop-made.actor (omega arith) c.loop-made.invariant.reached c.in-None.ensures.none)
 
 pub returns-in-None-take-clause-none : goal.returns-in-None-take-clause-none
 returns-in-None-take-clause-none c =
@@ -61,13 +62,15 @@ loop-made-preserved-in-Some-take c =
       next = short;
       search = subst (λ (o : Option ℕ). IsSearch needs (set made c.loop-made.actor next) (set askers c.loop-made.actor o) c.args.wanted asker) (sym c.take.ensures.after)
           (search_answers needs made askers c.args.wanted c.loop-made.actor asker next inv.search is);
-      reached = reached_more needs made c.loop-made.actor (omega arith) inv.reached c.in-None.ensures.none;
+      reached = subst (IsReached needs (set made c.loop-made.actor next)) (sym c.in_ok-push-in-None.ensures.items) (reached_more needs made c.loop-made.turns.items c.loop-made.actor (omega arith) inv.reached c.in-None.ensures.none);
       goes_on = goes_more c.args.made.now made c.loop-made.actor (omega arith) inv.goes_on;
+      wanted = subst (λ (n : ℕ). n < length (get_or needs c.args.wanted []))
+          (sym (get_or-set_other made c.loop-made.actor c.args.wanted next 0 (λ same. asked_apart needs made askers c.args.wanted c.loop-made.actor asker inv.search is (sym same)))) inv.wanted;
     }
 
 pub returns-then-not-may_ask-clause-stuck : goal.returns-then-not-may_ask-clause-stuck
 returns-then-not-may_ask-clause-stuck c =
-    search_stuck (needs_in c.args.needs.now) c.loop-made.made c.loop-made.askers c.args.wanted c.loop-made.actor c.in-Some.need c.loop-made.invariant.search c.in-Some.ensures.some c.if-not-may_ask.ensures.not
+    most_stuck (needs_in c.args.needs.now) c.loop-made.made c.loop-made.askers c.args.wanted c.loop-made.actor c.in-Some.need c.loop-made.invariant.search c.in-Some.ensures.some c.if-not-may_ask.ensures.not
 
 pub loop-made-preserved : goal.loop-made-preserved
 loop-made-preserved c =
@@ -81,4 +84,5 @@ loop-made-preserved c =
       search = search_asks (needs_in c.args.needs.now) c.loop-made.made c.loop-made.askers c.args.wanted c.loop-made.actor need c.loop-made.invariant.search lacks (omega (arith, may.actor)) may.other may.free;
       reached = c.loop-made.invariant.reached;
       goes_on = c.loop-made.invariant.goes_on;
+      wanted = c.loop-made.invariant.wanted;
     }

@@ -8,8 +8,10 @@ invariant-loop-made l = record {
   inside : l.actor < length l.needs;
   next : get_or l.made l.actor 0 < length (entries_of (map (λ actor. actor.items) l.needs) l.actor);
   search : IsSearch (map (λ actor. actor.items) l.needs) l.made l.askers l.wanted l.actor;
-  reached : IsReached (map (λ actor. actor.items) l.needs) l.made;
+  reached : IsReached (map (λ actor. actor.items) l.needs) l.made l.turns.items;
   goes_on : GoesOn l.fn.made l.made;
+  -- the entry that is wanted has not had its turn
+  wanted : get_or l.made l.wanted 0 < length (entries_of (map (λ actor. actor.items) l.needs) l.wanted);
 }
 
 -- a turn makes one entry less that is left, and frees one actor at most; each that is asked is one less that is free

@@ -1,4 +1,4 @@
-use Rattle.std.proofs.Common.{List, ◌++◌, ◌+◌, take, drop, sym, subst, true≢false}
+use Rattle.std.proofs.Common.{List, ◌+◌, take, drop, sym, subst, true≢false}
 use Rattle.std.specs.Prelude.{Option}
 use Rattle.mama_check_order.specs.declared.order.Need.{Need}
 use Rattle.mama_check_order.proofs.SenderWalk.{IsHeard, heard_at, stuck_at}

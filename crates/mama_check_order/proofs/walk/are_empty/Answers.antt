@@ -1,4 +1,4 @@
-use Rattle.std.proofs.Common.{◌≡◌, ℕ, List, [], length, map, get_or, sym, ap, ◌∙◌, true≢false, below_more}
+use Rattle.std.proofs.Common.{ℕ, List, [], length, map, get_or, sym, ap, ◌∙◌, true≢false, below_more}
 use Rattle.std.specs.Prelude.{◌==◌}
 use Rattle.std.specs.Borrow.{Bor}
 use Rattle.std.proofs.lemmas.Bool.{eqb-true}

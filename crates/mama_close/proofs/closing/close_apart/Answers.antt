@@ -11,7 +11,8 @@ returns g c =
     let is = c.in_ok-left.ensures in
     let objects = c.args.parts.plans in
     let images = c.args.images.items in
-    IfOk-weaker c.in_record.result (λ r. IsMade objects left images r.0 r.1.items) (λ r. IsClosed objects c.args.apart images r.0 r.1.items)
+    let groups = c.args.groups.items in
+    IfOk-weaker c.in_record.result (λ r. IsMade objects left images groups r.0 r.1.items) (λ r. IsClosed objects c.args.apart images groups r.0 r.1.items)
     (λ r m. record {
       left = left;
       edges = is.edges;
@@ -22,6 +23,7 @@ returns g c =
       events = is.events;
       calls = is.calls;
       listeners = is.listeners;
+      noted = is.noted;
       made = m;
     })
     c.in_record.ensures

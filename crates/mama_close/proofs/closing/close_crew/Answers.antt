@@ -1,20 +1,12 @@
-use Rattle.std.proofs.Common.{◌≡◌, sym, subst}
-use Rattle.std.proofs.lemmas.Result.{IfOk-weaker}
-use Rattle.mama_close.specs.Journals.{AreJournalsOf}
-use Rattle.mama_close.specs.Kinds.{record_of}
-use Rattle.mama_close.specs.InKinds.{kinds_in}
+use Rattle.std.proofs.Common.{List, map, ap, ◌∙◌, sym}
+use Rattle.std.specs.List.{flat_map}
+use Rattle.mama_event.specs.declared.group.GroupRow.{GroupRow}
+use Rattle.mama_record.specs.RunView.{groups_of}
+use Rattle.mama_rules_rounds.specs.Round.{setting_of, groups_from, planned_in, group_told}
+use Rattle.mama_close.specs.Journals.{events_in}
 use Rattle.mama_close.proofs.closing.close_crew.Goals as goal
 
-pub by_kind-requires : goal.by_kind-requires
-by_kind-requires g c = record { crew = c.requires.crew; ended = c.requires.ended }
-
-pub close_kinds-requires : goal.close_kinds-requires
-close_kinds-requires g c = c.in_ok-seats.ensures.kinds
-
-pub returns : goal.returns
-returns g c = record {
-  journals = IfOk-weaker c.close_kinds.result (λ r. r.0 ≡ record_of c.args.script.now (kinds_in c.in_ok-seats.seats)) (λ r. AreJournalsOf c.args.seats.items r.0)
-      (λ r is. subst (AreJournalsOf c.args.seats.items) (sym is) c.in_ok-seats.ensures.journals) c.close_kinds.ensures.record_is;
-  legal = c.close_kinds.ensures.legal;
-  listeners = c.close_kinds.ensures.listeners;
-}
+pub close_heard-requires-clause-groups : goal.close_heard-requires-clause-groups
+close_heard-requires-clause-groups g c =
+    ap groups_of c.new.ensures.items
+    ∙ ap (λ (rows : List GroupRow). map (group_told (setting_of c.args.script.now) (flat_map events_in c.args.seats.items)) (groups_from (planned_in c.args.script.now) 0 rows)) (sym c.requires.ungrouped)

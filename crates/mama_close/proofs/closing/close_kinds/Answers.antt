@@ -15,7 +15,7 @@ all_images-requires g c =
     let p = c.into_parts-parts.result in
     let hall : HallValue = record { objects = p.plans; to_bridge = p.to_bridge; to_timers = p.to_timers; to_publishers = p.to_publishers.items; to_queues = p.to_queues.items } in
     let kinds : Kinds = kinds_in c.args.seats in
-    let crew : AreKindsOf c.args.script.now hall kinds = subst (λ (h : HallValue). AreKindsOf c.args.script.now h kinds) c.into_parts-parts.ensures c.requires in
+    let crew : AreKindsOf c.args.script.now hall kinds = subst (λ (h : HallValue). AreKindsOf c.args.script.now h kinds) c.into_parts-parts.ensures c.requires.kinds in
     subst (All (λ (s : ℕ × QueuePostValue). ArePlanned (orders_in c.into_parts-parts.result.plans) s.1.served.seats)) (sym c.as_slice.ensures.value)
     (queues_planned c.args.script.now hall kinds crew c.into_parts-parts.result.plans refl)
 
@@ -24,7 +24,8 @@ close_parts-requires g c =
     let p = c.into_parts-parts.result in
     let objects = p.plans in
     record {
-      crew = subst (λ (h : HallValue). AreKindsOf c.args.script.now h (kinds_in c.args.seats)) c.into_parts-parts.ensures c.requires;
+      groups = c.requires.groups;
+      crew = subst (λ (h : HallValue). AreKindsOf c.args.script.now h (kinds_in c.args.seats)) c.into_parts-parts.ensures c.requires.kinds;
       images = c.in_ok-images.ensures ∙ ap (λ (qs : List (ℕ × QueuePostValue)). flat_map (images_by objects (map events_by qs)) objects) c.as_slice.ensures.value;
     }
 

@@ -20,5 +20,5 @@ returns g c =
       play = c.in_ok-run.ensures;
       told = told;
       only = λ v other known logged is.
-          (c.logs_tell_one_record.ensures script script.version v run other c.shape-shape.ensures.script c.shape-shape.ensures.within (own_version script) known c.in_ok-run.ensures.logged logged short (sym told ∙ is)).1;
+          (c.logs_tell_one_record.ensures script script.version v run other c.shape-shape.ensures.script c.shape-shape.ensures.within (own_version script c.shape-shape.ensures.within) known c.in_ok-run.ensures.logged logged short (sym told ∙ is)).1;
     }

@@ -1,4 +1,4 @@
-use Rattle.std.proofs.Common.{◌≡◌, Err, refl, subst}
+use Rattle.std.proofs.Common.{Err, refl, subst}
 use Rattle.mama_script.specs.Answer.{Fails}
 use Rattle.mama_script.specs.Reading.{script_in}
 use Rattle.mama_script.specs.declared.fault.ScriptFault.{ScriptFault}

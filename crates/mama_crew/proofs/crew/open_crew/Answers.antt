@@ -8,6 +8,12 @@ use Rattle.mama_crew.specs.New.{HasDoneNothing, IsNewSeatOf}
 use Rattle.mama_crew.proofs.OpeningLemmas.{actors_joined}
 use Rattle.mama_crew.proofs.crew.open_crew.Goals as goal
 
+pub watches_by_queue-requires : goal.watches_by_queue-requires
+watches_by_queue-requires g c = c.plans.ensures ∙ c.in_ok-hall.ensures.hall.objects
+
+pub seat_queues-requires-clause-watches : goal.seat_queues-requires-clause-watches
+seat_queues-requires-clause-watches g c = c.in_ok-watches.ensures
+
 pub seat_clients-requires-clause-listeners : goal.seat_clients-requires-clause-listeners
 seat_clients-requires-clause-listeners g c = c.in_ok-listeners.ensures ∙ ap clients_of c.shape.ensures.value
 
@@ -15,6 +21,12 @@ pub seat_clients-requires-clause-seats : goal.seat_clients-requires-clause-seats
 seat_clients-requires-clause-seats g c =
     let P = IsNewSeatOf c.args.script.now c.in_ok-hall.hall in
     All-same P c.new-seats.result.items [] c.new-seats.ensures.items (All-nil P)
+
+pub seat_publishers-requires-clause-takers : goal.seat_publishers-requires-clause-takers
+seat_publishers-requires-clause-takers g c = c.in_ok-hall.ensures.publishers_takers
+
+pub seat_publishers-requires-clause-bridge : goal.seat_publishers-requires-clause-bridge
+seat_publishers-requires-clause-bridge g c = c.in_ok-hall.ensures.publishers_bridge
 
 pub seat_bridge-requires-clause-taker : goal.seat_bridge-requires-clause-taker
 seat_bridge-requires-clause-taker g c = c.in_ok-hall.ensures.bridge_taker

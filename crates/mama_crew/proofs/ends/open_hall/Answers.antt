@@ -1,4 +1,4 @@
-use Rattle.std.proofs.Common.{◌≡◌, ℕ, ◌+◌, map, sym, ◌∙◌, ap}
+use Rattle.std.proofs.Common.{◌+◌, map, sym, ◌∙◌, ap}
 use Rattle.mama_event.specs.declared.shape.Shape.{Shape}
 use Rattle.mama_event.specs.Ports.{clients_of, publishers_of, queues_of, timers_port_of_bridge, queue_port_of_bridge, queue_port_of_timers}
 use Rattle.mama_lane.specs.Values.{LaneValue, new_port, new_taker}

@@ -1,4 +1,3 @@
-use Rattle.std.proofs.Common.{subst, sym}
 use Rattle.std.proofs.lemmas.List.Elements.{All-push, All-same}
 use Rattle.mama_crew.specs.New.{IsNewSeatOf}
 use Rattle.mama_crew.proofs.opening.add.Goals as goal

@@ -1,13 +1,11 @@
-use Rattle.std.proofs.Common.{◌≡◌, ℕ, ◌+◌, ◌<◌, ◌++◌, List, [], ◌∷◌, length, map, sym, ◌∙◌, ap, subst, arith}
+use Rattle.std.proofs.Common.{◌≡◌, ℕ, ◌+◌, ◌++◌, map, ◌∙◌, ap, arith}
 use Rattle.std.specs.Vec.Iter.{into_iter_items}
 use Rattle.mama_journal.specs.Journal.{numbers_below}
 use Rattle.mama_edge.specs.declared.gate.GateActor.TheVariants as gate
 use Rattle.mama_event.specs.declared.to_bridge.BridgeNote.{BridgeNote}
 use Rattle.mama_event.specs.declared.to_publisher.PublisherNote.{PublisherNote}
-use Rattle.mama_event.specs.declared.to_queue.QueueNote.{QueueNote}
-use Rattle.mama_event.specs.declared.to_timers.TimersNote.{TimersNote}
-use Rattle.mama_event.specs.Ports.{clients_of, publishers_of, queues_of}
-use Rattle.mama_lane.specs.Values.{new_port, new_taker}
+use Rattle.mama_event.specs.Ports.{clients_of, publishers_of}
+use Rattle.mama_lane.specs.Values.{new_taker}
 use Rattle.mama_hall.specs.Ends.{ports_from}
 use Rattle.mama_crew.specs.Seat.{actor_of}
 use Rattle.mama_crew.proofs.OpeningLemmas.{next_left, some_left, takers_length, ports_length, port_at, actors_more}

@@ -16,6 +16,7 @@ invariant-loop-number g l = record {
   takers : into_iter_items l.inlets ≡ drop l.number (map new_taker l.hall.to_queues);
   bridge : into_iter_items l.bridge_ports ≡ drop l.number (ports_from l.hall.to_bridge (clients_of l.script.shape + publishers_of l.script.shape) (queues_of l.script.shape));
   timers : into_iter_items l.timer_ports ≡ drop l.number (ports_from l.hall.to_timers (clients_of l.script.shape) (queues_of l.script.shape));
+  watches : into_iter_items l.lists ≡ drop l.number l.fn.watches.items;
   actors : map actor_of l.seats.items ≡ map actor_of l.initial.seats.items ++ map (λ q. gate.Queue q) (numbers_below l.number);
   seats : All (IsNewSeatOf l.script l.hall) l.seats.items;
 }

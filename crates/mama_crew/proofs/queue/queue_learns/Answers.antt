@@ -1,4 +1,4 @@
-use Rattle.std.proofs.Common.{◌≡◌, Option, Some, IfSome, ◌∙◌, ap, sym, subst}
+use Rattle.std.proofs.Common.{Option, Some, IfSome, ◌∙◌, ap, sym, subst}
 use Rattle.mama_event.specs.declared.to_queue.QueueNote.{QueueNote}
 use Rattle.mama_lane.specs.Values.{NoteValue}
 use Rattle.mama_crew.specs.Hall.{IsLaneAt}

@@ -24,7 +24,7 @@ turn-requires-clause-timers g c = c.requires.on_timers.lane_is ∙ ap (λ (l : L
 pub returns-clause-seat : goal.returns-clause-seat
 returns-clause-seat g c =
     queue_turned c.args._script.now c.args.hall.now c.args.number c.args.post.now c.turn.new.self c.requires
-    (subst (λ (objects : List Planned). IsQueueOf objects c.args.number c.turn.new.self) c.plans-plans.ensures c.turn.ensures.seat) c.turn.ensures.place c.turn.ensures.taker
+    (subst (λ (objects : List Planned). IsQueueOf objects c.args.number c.turn.new.self) c.plans-plans.ensures c.turn.ensures.seat) c.turn.ensures.place c.turn.ensures.taker c.turn.ensures.rows
 
 pub returns-clause-waiting : goal.returns-clause-waiting
 returns-clause-waiting g c = λ is. let idle = c.turn.ensures.waiting is in (idle.0, (idle.1, idle.2, idle.3))

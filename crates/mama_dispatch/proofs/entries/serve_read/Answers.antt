@@ -8,7 +8,7 @@ use Rattle.mama_event.specs.declared.callback.Callback.TheVariants as on
 use Rattle.mama_event.specs.declared.to_queue.QueueNote.{QueueNote}
 use Rattle.mama_event.specs.declared.to_queue.QueueNote.TheVariants as q
 use Rattle.mama_dispatch.specs.Turns.{put_note}
-use Rattle.mama_dispatch.specs.Standing.{Serves, MayServe, is_making}
+use Rattle.mama_dispatch.specs.Standing.{Serves, MayServe}
 use Rattle.mama_dispatch.specs.Answering.{Answers}
 use Rattle.mama_dispatch.proofs.ServeLemmas.{telling_bad, telling_bad_reply, serves_each_told, serves_fin}
 use Rattle.mama_dispatch.proofs.AnswerLemmas.{answers_what_was_told}

@@ -1,5 +1,5 @@
 -- Each of the 40 cells holds the action of its phase, its relation and its kind of message.
-use Rattle.std.proofs.Common.{◌≡◌, ℕ, ◌+◌, ◌*◌, Bool, true, false, List, [], ◌∷◌, slice_index_or, refl}
+use Rattle.std.proofs.Common.{◌≡◌, ◌+◌, ◌*◌, Bool, true, false, List, [], ◌∷◌, slice_index_or, refl}
 use Rattle.mama_event.specs.declared.shape.Strategy.TheVariants.{Two}
 use Rattle.mama_dq.specs.declared.table.Phase.{Phase}
 use Rattle.mama_dq.specs.declared.table.Phase.TheVariants.{Await, LiveOk, LiveStale, LiveKept}

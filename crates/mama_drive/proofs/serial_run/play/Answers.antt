@@ -1,6 +1,5 @@
 use Rattle.std.proofs.Common.{refl}
-use Rattle.mama_drive.proofs.StageLemmas.{if_ok}
-use Rattle.mama_drive.proofs.PlaceLemmas.{to_same, hearing_none, hearing_then, hearing_refused}
+use Rattle.mama_drive.proofs.PlaceLemmas.{to_same, hearing_none, hearing_then, hearing_refused, hearing_parts, end_parts}
 use Rattle.mama_drive.proofs.serial_run.play.Goals as goal
 
 pub loop-init : goal.loop-init
@@ -12,6 +11,10 @@ loop-preserved g c = hearing_then _ _ _ c.args.place.now c.loop.place _ c.args.r
 pub returns-in_err-place-clause-on : goal.returns-in_err-place-clause-on
 returns-in_err-place-clause-on g c = hearing_refused _ _ _ c.args.place.now c.loop.place c.args.run.now c.loop.run c.next_place.new.run c.loop.invariant c.in_err-place.ensures.err c.in_err-place.ensures.clock_err
 
+pub returns-then-is_played-clause-on : goal.returns-then-is_played-clause-on
+returns-then-is_played-clause-on g c = hearing_parts c.parts.result _ _ c.args.place.now c.loop.place c.args.run.now c.loop.run c.parts.new.self c.loop.invariant
+    (c.is_played.ensures.rounds c.if-is_played.true) c.parts.ensures.ok c.parts.ensures.err
+
 pub returns-then-is_played-clause-end : goal.returns-then-is_played-clause-end
-returns-then-is_played-clause-end g c = if_ok c.parts.result
-    (λ parts are. record { rounds = c.is_played.ensures.rounds c.if-is_played.true; played = c.is_played.ensures.played c.if-is_played.true; parts_are = are }) c.parts.ensures
+returns-then-is_played-clause-end g c = end_parts c.parts.result c.loop.place c.loop.run c.parts.new.self (c.is_played.ensures.rounds c.if-is_played.true) (c.is_played.ensures.played c.if-is_played.true)
+    c.parts.ensures.ok c.parts.ensures.parts

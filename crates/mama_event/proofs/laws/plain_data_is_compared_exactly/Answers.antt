@@ -58,3 +58,18 @@ returns-clause-fids c = bytes_eq-Decides
 
 pub returns-clause-topics : goal.returns-clause-topics
 returns-clause-topics c = bytes_eq-Decides
+
+pub returns-clause-members : goal.returns-clause-members
+returns-clause-members c = equality.same_members-Decides
+
+pub returns-clause-group : goal.returns-clause-group
+returns-clause-group c = equality.same_group_row-Decides
+
+pub returns-clause-group_note : goal.returns-clause-group_note
+returns-clause-group_note c = equality.same_group_note-Decides
+
+pub returns-clause-watch : goal.returns-clause-watch
+returns-clause-watch c = equality.same_watch_row-Decides
+
+pub returns-clause-watch_note : goal.returns-clause-watch_note
+returns-clause-watch_note c = equality.same_watch_note-Decides

@@ -1,4 +1,4 @@
-use Rattle.std.proofs.Common.{◌≡◌, ◌<◌, ◌^◌, ℕ, [], ◌∷◌, ◌++◌}
+use Rattle.std.proofs.Common.{◌≡◌, [], ◌∷◌, ◌++◌}
 use Rattle.mama_record.specs.LogText.{line, callback_text}
 use Rattle.mama_log_line.specs.Entering.{MayHear}
 use Rattle.mama_log_line.specs.Calls.{call_line_in}

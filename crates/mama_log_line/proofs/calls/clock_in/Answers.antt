@@ -1,4 +1,4 @@
-use Rattle.std.proofs.Common.{◌≡◌, ◌<◌, ◌^◌, ℕ, [], ◌∷◌, ◌++◌}
+use Rattle.std.proofs.Common.{◌≡◌, ◌<◌, ◌^◌, [], ◌∷◌, ◌++◌}
 use Rattle.mama_record.specs.LogText.{clock_line}
 use Rattle.mama_log_line.specs.Calls.{clock_line_in}
 use Rattle.mama_log_line.proofs.OtherLaws.{clock_found, clock_again}

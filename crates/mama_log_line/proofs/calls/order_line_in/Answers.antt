@@ -1,4 +1,4 @@
-use Rattle.std.proofs.Common.{sym, ◌∙◌, ◌≡◌, ◌<◌, ◌^◌, ℕ, [], ◌∷◌, ◌++◌}
+use Rattle.std.proofs.Common.{sym, ◌∙◌, ◌≡◌, [], ◌∷◌, ◌++◌}
 use Rattle.mama_record.specs.LogText.{order_line}
 use Rattle.mama_log_line.specs.Entering.{MayOrder}
 use Rattle.mama_log_line.specs.Calls.{order_line_in}

@@ -1,6 +1,5 @@
 use Rattle.std.proofs.Common.{List, ℕ, ◌<◌, ◌≤◌, length, take, sym, subst, ◌∙◌}
 use Rattle.mama_edge.specs.Told.{Appended}
-use Rattle.mama_plain.specs.Parts.{script_part, log_part}
 use Rattle.mama_plain.specs.Rewritten.{IsInTwo, IsTaken}
 use Rattle.mama_plain.proofs.AnswerLemmas.{gave_is}
 use Rattle.mama_plain.proofs.RewriteLemmas.{taken_no_fault, taken_no_limit}

@@ -2,7 +2,7 @@ use Rattle.std.specs.List.{All}
 use Rattle.std.proofs.Common.{rules, arith}
 use Rattle.std.proofs.lemmas.Grind.{common_steps}
 use Rattle.std.proofs.lemmas.List.Elements.{All-push, All-same, All-set}
-use Rattle.mama_crew.specs.Seat.{IsSeatOf}
+use Rattle.mama_grouped.specs.Seat.{IsSeatOf}
 use Rattle.mama_play.proofs.groups.add_to_group.Goals as goal
 
 pub returns : goal.returns

@@ -1,5 +1,5 @@
 use Rattle.std.proofs.Common.{◌≡◌, length, sym, ◌∙◌, arith}
-use Rattle.mama_crew.specs.Seat.{actor_of}
+use Rattle.mama_grouped.specs.Seat.{actor_of}
 use Rattle.mama_play.specs.Kinds.{numbered}
 use Rattle.mama_play.proofs.OrderLemmas.{one_more, whole_row}
 use Rattle.mama_play.proofs.order.are_numbered.Goals as goal

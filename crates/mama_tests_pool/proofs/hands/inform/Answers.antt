@@ -1,6 +1,6 @@
-use Rattle.std.proofs.Common.{◌≡◌, ◌≢◌, ℕ, ◌<◌, length, get_or, set, refl, sym, ap, ◌∙◌, subst, map, arith}
+use Rattle.std.proofs.Common.{◌≡◌, length, get_or, set, sym, ap, ◌∙◌, arith}
 use Rattle.std.proofs.lemmas.List.{length-set, get_or-set_other}
-use Rattle.mama_pool.specs.Values.{HandValue, IsPool, SamePlaces, places_of}
+use Rattle.mama_pool.specs.Values.{HandValue, places_of}
 use Rattle.mama_pool.proofs.Pools.{pool_set, pool_told}
 use Rattle.mama_tests_pool.proofs.hands.inform.Goals as goal
 

@@ -1,5 +1,4 @@
-use Rattle.std.proofs.Common.{◌∙◌, arith}
-use Rattle.mama_pool.proofs.Pools.{pool_set, pool_hand}
+use Rattle.mama_pool.proofs.Pools.{pool_set}
 use Rattle.mama_tests_pool.proofs.hands.pop.Goals as goal
 
 pub returns-clause-pool : goal.returns-clause-pool

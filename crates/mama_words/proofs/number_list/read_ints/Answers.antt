@@ -1,4 +1,4 @@
-use Rattle.std.proofs.Common.{◌≡◌, ◌++◌, ◌∙◌, ℤ, ◌∷◌, [], ap, Some}
+use Rattle.std.proofs.Common.{◌++◌, ◌∙◌, ℤ, ◌∷◌, [], ap, Some}
 use Rattle.mama_words.proofs.Numbers.{int_in_kept}
 use Rattle.mama_words.specs.Parting.{pieces}
 use Rattle.mama_words.specs.NumberList.{ints_in}

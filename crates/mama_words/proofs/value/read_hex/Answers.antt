@@ -1,4 +1,4 @@
-use Rattle.std.proofs.Common.{length, get_or, take, drop, ◌-◌, arith, sym, ◌∙◌}
+use Rattle.std.proofs.Common.{length, get_or, take, drop, ◌-◌, sym, ◌∙◌}
 use Rattle.std.proofs.lemmas.Bool.{eqb-true, eqb-false}
 use Rattle.mama_words.specs.Value as values
 use Rattle.mama_words.proofs.Hex.{onto-nil, hex_more, hex_fails, two_heads, shorter, hex_odd, hex_all}

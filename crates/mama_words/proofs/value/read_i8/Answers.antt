@@ -1,4 +1,4 @@
-use Rattle.std.proofs.Common.{◌^◌, refl, sym, ◌∙◌, arith}
+use Rattle.std.proofs.Common.{◌^◌, refl, ◌∙◌, arith}
 use Rattle.std.specs.Int.{w8}
 use Rattle.mama_words.proofs.Numbers.{int_in_cast, int_in_narrow_none}
 use Rattle.mama_words.proofs.value.read_i8.Goals as goal

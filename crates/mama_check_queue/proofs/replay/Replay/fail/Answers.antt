@@ -1,6 +1,6 @@
 use Rattle.std.specs.Prelude.{not}
 use Rattle.std.specs.Result.{OnOk}
-use Rattle.std.proofs.Common.{ℕ, Bool, false, ◌&&◌, [], ◌∷◌, refl, ap, sym, ◌∙◌, subst}
+use Rattle.std.proofs.Common.{ℕ, Bool, false, ◌&&◌, [], ◌∷◌, ap, sym, ◌∙◌, subst}
 use Rattle.mama_event.specs.Wire.{code_of}
 use Rattle.mama_event.specs.declared.callback.Callback.TheVariants as on
 use Rattle.mama_plans.specs.Orders.{orders_in}

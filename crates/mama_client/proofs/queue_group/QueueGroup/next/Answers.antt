@@ -1,4 +1,4 @@
-use Rattle.std.proofs.Common.{◌≡◌, ℕ, ◌+◌, ◌<◌, ap, sym, ◌∙◌, arith}
+use Rattle.std.proofs.Common.{ℕ, ◌+◌, ap, ◌∙◌, arith}
 use Rattle.mama_client.specs.Group.{Turning}
 use Rattle.mama_client.proofs.Turns.{turned_over, turned}
 use Rattle.mama_client.proofs.queue_group.QueueGroup.next.Goals as goal

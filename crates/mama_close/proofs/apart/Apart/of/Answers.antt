@@ -23,10 +23,13 @@ returns-clause-parts g c = record {
 }
 
 pub of-requires : goal.of-requires
-of-requires g c = record { numbers = c.requires.numbers; keeps = c.requires.keeps }
+of-requires g c = record { numbers = c.requires.numbers; keeps = c.requires.keeps; few = c.requires.few }
 
 pub returns-clause-calls : goal.returns-clause-calls
 returns-clause-calls g c = c.in_ok-queues.ensures.calls
 
 pub returns-clause-listeners : goal.returns-clause-listeners
 returns-clause-listeners g c = c.in_ok-queues.ensures.listeners
+
+pub returns-clause-noted : goal.returns-clause-noted
+returns-clause-noted g c = c.in_ok-queues.ensures.noted

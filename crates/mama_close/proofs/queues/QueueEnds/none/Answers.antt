@@ -8,3 +8,6 @@ returns-clause-calls g c = λ calls. no_calls calls c.args.plans.now c.in_ok-no_
 pub returns-clause-listeners : goal.returns-clause-listeners
 returns-clause-listeners g c = λ calls.
     no_listeners (told g.L.Tagged.tagged g.L.Listener.calls g.L.Listener.heard g.L.Listener.given g.L.Listener.plan) calls c.args.plans.now c.in_ok-no_values-2.field-0.items c.in_ok-no_values-2.ensures
+
+pub returns-clause-noted : goal.returns-clause-noted
+returns-clause-noted g c = c.in_ok-numbered_lists.ensures

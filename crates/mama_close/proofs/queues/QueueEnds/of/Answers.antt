@@ -1,12 +1,16 @@
 use Rattle.std.specs.Prelude.{slice_index_or}
 use Rattle.std.proofs.Common.{◌≡◌, ℕ, List, [], ◌∷◌, map, rules, arith, ap, ◌∙◌}
 use Rattle.std.proofs.lemmas.Grind.{common_steps}
+use Rattle.std.specs.List.{flat_map}
+use Rattle.mama_journal.specs.Journal.{numbers_below}
 use Rattle.mama_event.specs.declared.to_queue.QueueNote.{QueueNote}
 use Rattle.mama_record.specs.RunView.{events_of}
 use Rattle.mama_posts.specs.Queue.{QueuePostValue, IsQueueOf, calls_by}
-use Rattle.mama_close.specs.Kinds.{events_by}
+use Rattle.mama_plans.specs.Numbered.{numbered, lists_put}
+use Rattle.mama_close.specs.Kinds.{events_by, noted_by, none_noted}
 use Rattle.mama_close.specs.Places.{calls_on}
 use Rattle.mama_close.proofs.Lists.{mapped_more, whole_more}
+use Rattle.mama_close.proofs.Noted.{queue_more}
 use Rattle.mama_close.proofs.Parting.{seat_here, journal_here}
 use Rattle.mama_close.proofs.queues.QueueEnds.of.Goals as goal
 
@@ -19,6 +23,7 @@ loop-seat-init g c =
       to_bridge = e.to_bridge;
       to_timers = e.to_timers;
       journals = ap events_of e.journals;
+      noted = e.noted;
       calls = e.calls (calls_on c.args.plans.now (map events_by c.args.seats.items));
       listeners = e.listeners (calls_on c.args.plans.now (map events_by c.args.seats.items));
     }
@@ -44,6 +49,7 @@ loop-seat-preserved g c =
       to_bridge = mapped_more (λ (s : ℕ × QueuePostValue). s.1.ports.to_bridge) c.loop-seat.yielded c.in-Some.seat c.loop-seat.ends.to_bridge.items c.add.new.self.to_bridge.items e.to_bridge i.to_bridge;
       to_timers = mapped_more (λ (s : ℕ × QueuePostValue). s.1.ports.to_timers) c.loop-seat.yielded c.in-Some.seat c.loop-seat.ends.to_timers.items c.add.new.self.to_timers.items e.to_timers i.to_timers;
       journals = mapped_more events_by c.loop-seat.yielded c.in-Some.seat (events_of c.loop-seat.ends.journals.items) (events_of c.add.new.self.journals.items) e.journals i.journals;
+      noted = queue_more c.loop-seat.yielded c.in-Some.seat (map none_noted (numbers_below c.args.watches)) (numbered c.loop-seat.ends.noted.items) (numbered c.add.new.self.noted.items) e.noted i.noted;
       calls = e.calls (calls_on c.args.plans.now journals) (λ o. ap (λ (j : List (ℕ × QueueNote)). calls_by c.args.plans.now j o) here) i.calls;
       listeners = e.listeners (calls_on c.args.plans.now journals) (λ o. ap (λ (j : List (ℕ × QueueNote)). calls_by c.args.plans.now j o) here) i.listeners;
     }
@@ -52,3 +58,8 @@ pub returns-clause-journals : goal.returns-clause-journals
 returns-clause-journals g c =
     let same : c.loop-seat.yielded ≡ c.args.seats.items = first_of (search rules, grind (arith, common_steps)) in
     c.loop-seat.invariant.journals ∙ ap (map events_by) same
+
+pub returns-clause-noted : goal.returns-clause-noted
+returns-clause-noted g c =
+    let same : c.loop-seat.yielded ≡ c.args.seats.items = first_of (search rules, grind (arith, common_steps)) in
+    c.loop-seat.invariant.noted ∙ ap (λ (ss : List (ℕ × QueuePostValue)). lists_put (flat_map noted_by ss) (map none_noted (numbers_below c.args.watches))) same

@@ -1,8 +1,6 @@
-use Rattle.std.proofs.Common.{◌≡◌, ◌↔◌, true, ◌∙◌, ap, sym, subst}
+use Rattle.std.proofs.Common.{◌≡◌, ◌↔◌, true, ◌∙◌, sym, subst}
 use Rattle.mama_event.specs.declared.shape.Shape.{Shape}
-use Rattle.mama_event.specs.declared.to_timers.TimersNote.{TimersNote}
 use Rattle.mama_event.specs.Ports.{bridge_ports, timers_port_of_bridge, queue_port_of_bridge}
-use Rattle.mama_lane.specs.Values.{PortValue}
 use Rattle.mama_posts.specs.Bridge.{BridgePostValue, IsBridgeOf, is_over}
 use Rattle.mama_posts.specs.Service.{HasEnded}
 use Rattle.mama_crew.specs.Hall.{AreLanesOf}

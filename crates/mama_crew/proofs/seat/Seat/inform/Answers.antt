@@ -1,4 +1,4 @@
-use Rattle.std.proofs.Common.{◌≡◌, Option, ◌∙◌, ap, sym, subst}
+use Rattle.std.proofs.Common.{Option, ◌∙◌, ap, sym, subst}
 use Rattle.mama_event.specs.declared.to_bridge.BridgeNote.{BridgeNote}
 use Rattle.mama_event.specs.declared.to_publisher.PublisherNote.{PublisherNote}
 use Rattle.mama_event.specs.declared.to_queue.QueueNote.{QueueNote}

@@ -1,5 +1,5 @@
-use Rattle.std.proofs.Common.{sym, subst}
-use Rattle.mama_crew.specs.Seat.{MadeStep}
+use Rattle.std.proofs.Common.{◌≤◌, ◌+◌, length, sym, subst}
+use Rattle.mama_crew.specs.Seat.{MadeStep, journal_in}
 use Rattle.mama_crew.specs.declared.seat.Seat.{Seat}
 use Rattle.mama_crew.specs.declared.seat.Seat.TheVariants.{Client, Bridge, Timers, Queue}
 use Rattle.mama_crew.proofs.seat.Seat.turn.Goals as goal
@@ -19,3 +19,7 @@ returns-in-Timers-clause-moved g c = λ is.
 pub returns-in-Queue-clause-moved : goal.returns-in-Queue-clause-moved
 returns-in-Queue-clause-moved g c = λ is.
     subst (λ (s : Seat g.row.L.Denot). MadeStep c.args.script.now c.args.moment s (Queue c.in-Queue.number c.turn_queue.new.post)) (sym c.in-Queue.is) (c.turn_queue.ensures.moved is)
+
+pub returns-in-Queue-clause-few : goal.returns-in-Queue-clause-few
+returns-in-Queue-clause-few g c =
+    subst (λ (s : Seat g.row.L.Denot). length c.turn_queue.new.post.served.journal ≤ length (journal_in s) + 1) (sym c.in-Queue.is) c.turn_queue.ensures.few

@@ -1,4 +1,4 @@
-use Rattle.std.proofs.Common.{◌≡◌, ◌↔◌, true, ◌∙◌, ap, sym, subst}
+use Rattle.std.proofs.Common.{◌≡◌, ◌↔◌, true, ◌∙◌, sym, subst}
 use Rattle.mama_event.specs.declared.shape.Shape.{Shape}
 use Rattle.mama_event.specs.Ports.{queue_port_of_timers}
 use Rattle.mama_posts.specs.Timers.{TimersPostValue, IsTimersOf, timers_ports, is_over}

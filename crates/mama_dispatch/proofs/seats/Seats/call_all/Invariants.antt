@@ -1,4 +1,4 @@
-use Rattle.std.proofs.Common.{◌≡◌, ℕ, ◌≤◌, map, take, drop}
+use Rattle.std.proofs.Common.{◌≡◌, ◌≤◌, map, take, drop}
 use Rattle.mama_dispatch.specs.Making.{MayCall, WereCalled}
 use Rattle.mama_dispatch.specs.Turns.{put_note, IsAppended}
 use Rattle.mama_dispatch.proofs.seats.Seats.call_all.Given as goal

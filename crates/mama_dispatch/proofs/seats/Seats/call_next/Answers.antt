@@ -1,6 +1,6 @@
 use Rattle.std.specs.Prelude.{map, length, take}
 use Rattle.std.specs.List.{list_all}
-use Rattle.std.proofs.Common.{◌≡◌, List, [], ◌∷◌, refl, ap, sym, ◌∙◌, subst, arith}
+use Rattle.std.proofs.Common.{◌≡◌, List, [], refl, ap, sym, ◌∙◌, subst, arith}
 use Rattle.std.proofs.lemmas.Bool.{and_parts}
 use Rattle.mama_event.specs.declared.callback.Callback.{Callback}
 use Rattle.mama_dispatch.specs.Seating.{is_plain}

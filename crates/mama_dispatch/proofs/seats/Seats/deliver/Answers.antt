@@ -6,9 +6,9 @@ use Rattle.mama_event.specs.declared.ids.ObjectId.TheVariants.{Sub}
 use Rattle.mama_event.specs.declared.callback.Callback.{Callback}
 use Rattle.mama_dq.specs.Context.{ContextData}
 use Rattle.mama_dq.specs.Strategy.{callbacks_of}
-use Rattle.mama_rules_queue.specs.Queue.{handled}
+use Rattle.mama_rules_queue.specs.Queue.{handled, is_live}
 use Rattle.mama_dispatch.specs.Seats.{listener_in, room_in, context_in, stepped, with_room, Fits}
-use Rattle.mama_dispatch.specs.Seating.{is_live, is_plain, Seated}
+use Rattle.mama_dispatch.specs.Seating.{is_plain, Seated}
 use Rattle.mama_dispatch.proofs.CallBound.{calls_plain}
 use Rattle.mama_dispatch.proofs.CallLemmas.{calls_same, calls_after}
 use Rattle.mama_dispatch.specs.Turns.{put_note}

@@ -2,7 +2,8 @@ use Rattle.std.specs.Prelude.{map, is_some}
 use Rattle.std.proofs.Common.{[], ◌∷◌, refl, ap, sym, ◌∙◌, subst}
 use Rattle.mama_event.specs.declared.ids.ObjectId.{ObjectId}
 use Rattle.mama_dispatch.specs.Seats.{listener_in, is_muted_in, with_room, Fits}
-use Rattle.mama_dispatch.specs.Seating.{is_live, Seated}
+use Rattle.mama_rules_queue.specs.Queue.{is_live}
+use Rattle.mama_dispatch.specs.Seating.{Seated}
 use Rattle.mama_dispatch.proofs.CallLemmas.{once_fits, once_made, calls_after}
 use Rattle.mama_dispatch.specs.Turns.{put_note}
 use Rattle.mama_dispatch.proofs.ServeLemmas.{fits_change, seated_room, listener_room, muted_room, same_room}

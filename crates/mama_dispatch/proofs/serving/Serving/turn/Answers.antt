@@ -13,7 +13,7 @@ use Rattle.mama_dispatch.specs.Journals.{may_come}
 use Rattle.mama_dispatch.specs.Seats.{SeatData, Fits}
 use Rattle.mama_dispatch.specs.Answering.{AnswersTo}
 use Rattle.mama_dispatch.specs.Hearing.{brought, HeardAt, PlannedAt}
-use Rattle.mama_dispatch.specs.Served.{Served, told_seats, IsServed}
+use Rattle.mama_dispatch.specs.Served.{Served, told_seats}
 use Rattle.mama_dispatch.specs.Turns.{put_note}
 use Rattle.mama_dispatch.proofs.ServingLemmas.{answers_told, calls_served, heard_told, heard_untold, fits_told, fits_untold, planned_told, planned_untold, puts_next, may_serve, not_fin}
 use Rattle.mama_dispatch.proofs.NoteLemmas.{serving_as, serving_roomy}

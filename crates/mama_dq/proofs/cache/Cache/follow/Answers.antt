@@ -1,4 +1,4 @@
-use Rattle.std.proofs.Common.{◌≡◌, ◌≢◌, suc, ◌-◌, ◌<◌, ◌≤◌, ℕ, arith, ap, ◌∙◌, subst}
+use Rattle.std.proofs.Common.{◌≢◌, suc, ◌-◌, arith, ap, ◌∙◌, subst}
 use Rattle.mama_dq.specs.Cache.{CacheData}
 use Rattle.mama_dq.proofs.CacheLemmas.{Follows, follows_above, follows_hole, follows_up, between_above}
 use Rattle.mama_dq.proofs.cache.Cache.follow.Goals as goal

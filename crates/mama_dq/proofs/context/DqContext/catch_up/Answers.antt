@@ -1,4 +1,4 @@
-use Rattle.std.proofs.Common.{◌≡◌, ◌∙◌, ap}
+use Rattle.std.proofs.Common.{◌∙◌, ap}
 use Rattle.mama_dq.specs.Cache.{CacheData}
 use Rattle.mama_dq.specs.Context.{ContextData}
 use Rattle.mama_dq.proofs.CacheLemmas.{cache_taken_back}

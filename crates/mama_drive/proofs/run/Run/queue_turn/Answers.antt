@@ -16,6 +16,9 @@ queue_turn-requires-clause-comes c =
     (lawful_settled c.settle.new.held c.settle.new.system _ c.settle.ensures.same c.in_ok-settle.ensures.clear c.self.invariant)
     (subst (λ (s : Scene). c.args.number < length s.servers) (sym (settled c.settle.new.held c.settle.new.system _ c.args.self.now c.self.view_is c.settle.ensures.same c.in_ok-settle.ensures.clear)) c.requires)
 
+pub queue_turn-requires-clause-heard : goal.queue_turn-requires-clause-heard
+queue_turn-requires-clause-heard c = (lawful_settled c.settle.new.held c.settle.new.system _ c.settle.ensures.same c.in_ok-settle.ensures.clear c.self.invariant).heard
+
 pub returns-clause-turn : goal.returns-clause-turn
 returns-clause-turn c = turn_then (λ setting w. queue_turn setting c.args.number w) c.settle.new.held c.settle.new.system _ c.args.self.now _ c.self.view_is c.settle.ensures.same c.in_ok-settle.ensures.clear c.in_ok-held.ensures.turn
 

@@ -4,8 +4,11 @@ use Rattle.mama_drive.specs.Course.{Course}
 use Rattle.mama_drive.proofs.PlaceLemmas.{end_of, end_is_round, end_is_heard}
 use Rattle.mama_drive.proofs.serial_run.SerialRun.into_record.Goals as goal
 
-pub record_with-requires : goal.record_with-requires
-record_with-requires c = (end_of c.self.inside.parts c.in-Some.parts c.self.inside.run c.self.inside.place c.in-Some.is c.self.invariant).parts_are
+pub record_with-requires-clause-parts : goal.record_with-requires-clause-parts
+record_with-requires-clause-parts c = (end_of c.self.inside.parts c.in-Some.parts c.self.inside.run c.self.inside.place c.in-Some.is c.self.invariant).parts_are
+
+pub record_with-requires-clause-ready : goal.record_with-requires-clause-ready
+record_with-requires-clause-ready c = (end_of c.self.inside.parts c.in-Some.parts c.self.inside.run c.self.inside.place c.in-Some.is c.self.invariant).ready
 
 pub returns-in-Some-clause-rounds : goal.returns-in-Some-clause-rounds
 returns-in-Some-clause-rounds c =

@@ -8,10 +8,10 @@ use Rattle.mama_drive.proofs.SystemLemmas.{with_client, same_client}
 use Rattle.mama_drive.proofs.system.System.client_turn.Goals as goal
 
 pub invariant_of-self : goal.invariant_of-self
-invariant_of-self g c = with_client _ _ _ _ _ _ _ _ _ c.self.invariant c.args.number c.step.new.self
+invariant_of-self g c = with_client _ _ _ _ _ _ _ _ _ _ _ _ c.self.invariant c.args.number c.step.new.self
 
 pub invariant_of-self-2 : goal.invariant_of-self-2
-invariant_of-self-2 g c = with_client _ _ _ _ _ _ _ _ _ c.self.invariant c.args.number c.step.new.self
+invariant_of-self-2 g c = with_client _ _ _ _ _ _ _ _ _ _ _ _ c.self.invariant c.args.number c.step.new.self
 
 pub returns-clause-step : goal.returns-clause-step
 returns-clause-step g c =

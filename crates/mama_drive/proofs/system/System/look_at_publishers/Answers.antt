@@ -6,5 +6,5 @@ use Rattle.mama_drive.proofs.SystemLemmas.{publishers_looked}
 use Rattle.mama_drive.proofs.system.System.look_at_publishers.Goals as goal
 
 pub invariant_of-self : goal.invariant_of-self
-invariant_of-self c = publishers_looked _ _ _ _ _ _ _ _ _ c.self.invariant c.are_publishers_quiet.result
+invariant_of-self c = publishers_looked _ _ _ _ _ _ _ _ _ _ _ _ c.self.invariant c.are_publishers_quiet.result
     (c.are_publishers_quiet.ensures ∙ ap (list_all (λ (s : Sender). is_empty s.lane)) c.as_slice.ensures.value)

@@ -6,5 +6,5 @@ use Rattle.mama_drive.proofs.SystemLemmas.{queues_looked}
 use Rattle.mama_drive.proofs.system.System.look_at_queues.Goals as goal
 
 pub invariant_of-self : goal.invariant_of-self
-invariant_of-self c = queues_looked _ _ _ _ _ _ _ _ _ c.self.invariant c.are_queues_quiet.result
+invariant_of-self c = queues_looked _ _ _ _ _ _ _ _ _ _ _ _ c.self.invariant c.are_queues_quiet.result
     (c.are_queues_quiet.ensures ∙ ap (list_all (λ (s : Server). is_empty s.lane)) c.as_slice.ensures.value)

@@ -12,7 +12,7 @@ overflow_add-port c =
     omega (arith, within, c.self.invariant.ports, c.self.invariant.sender_count)
 
 pub invariant_of-self : goal.invariant_of-self
-invariant_of-self c = with_sender _ _ _ _ _ _ _ _ _ c.self.invariant c.args.number c.turn.new.self
+invariant_of-self c = with_sender _ _ _ _ _ _ _ _ _ _ _ _ c.self.invariant c.args.number c.turn.new.self
 
 pub returns-clause-turn : goal.returns-clause-turn
 returns-clause-turn c =

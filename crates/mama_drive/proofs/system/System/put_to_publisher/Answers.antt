@@ -5,7 +5,7 @@ use Rattle.mama_drive.proofs.SystemLemmas.{with_sender}
 use Rattle.mama_drive.proofs.system.System.put_to_publisher.Goals as goal
 
 pub invariant_of-self : goal.invariant_of-self
-invariant_of-self c = with_sender _ _ _ _ _ _ _ _ _ c.self.invariant c.args.number c.put.new.self
+invariant_of-self c = with_sender _ _ _ _ _ _ _ _ _ _ _ _ c.self.invariant c.args.number c.put.new.self
 
 pub returns-clause-lane : goal.returns-clause-lane
 returns-clause-lane c = on_ok c.put.result

@@ -6,7 +6,7 @@ use Rattle.mama_drive.proofs.SystemLemmas.{with_seats}
 use Rattle.mama_drive.proofs.system.System.rest.Goals as goal
 
 pub invariant_of-self : goal.invariant_of-self
-invariant_of-self c = with_seats _ _ _ _ _ _ _ _ _ c.self.invariant c.rest_clients.new.seats.items c.rest_publishers.new.seats.items
+invariant_of-self c = with_seats _ _ _ _ _ _ _ _ _ _ _ _ c.self.invariant c.rest_clients.new.seats.items c.rest_publishers.new.seats.items
     (ap length c.rest_clients.ensures ∙ length-map c.self.inside.clients.items (rested_stand c.args.rounds))
     (ap length c.rest_publishers.ensures ∙ length-map c.self.inside.publishers.items (rested_sender c.args.rounds))
     (ap (map lane_in) c.rest_publishers.ensures ∙ lanes_rest c.args.rounds c.self.inside.publishers.items)

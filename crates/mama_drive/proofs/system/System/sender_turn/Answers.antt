@@ -17,12 +17,12 @@ overflow_add-port c =
     omega (arith, within, c.self.invariant.ports, c.self.invariant.sender_count)
 
 pub invariant_of-self : goal.invariant_of-self
-invariant_of-self c = with_same_lane _ _ _ _ _ _ _ _ _ c.self.invariant c.args.number c.index_mut-seat.result.now c.step.new.self c.index_mut-seat.ensures.value
+invariant_of-self c = with_same_lane _ _ _ _ _ _ _ _ _ _ _ _ c.self.invariant c.args.number c.index_mut-seat.result.now c.step.new.self c.index_mut-seat.ensures.value
     (lane_same c.step.result c.index_mut-seat.result.now c.step.new.self (λ out. map (note_of own_tag) out.items) (λ (puts : List BridgeNote). IsSenderStep c.index_mut-seat.result.now c.step.new.self puts)
     (λ puts step. step.lane) c.step.ensures.step c.step.ensures.err)
 
 pub invariant_of-self-2 : goal.invariant_of-self-2
-invariant_of-self-2 c = with_same_lane _ _ _ _ _ _ _ _ _ c.self.invariant c.args.number c.index_mut-seat.result.now c.step.new.self c.index_mut-seat.ensures.value
+invariant_of-self-2 c = with_same_lane _ _ _ _ _ _ _ _ _ _ _ _ c.self.invariant c.args.number c.index_mut-seat.result.now c.step.new.self c.index_mut-seat.ensures.value
     (lane_same c.step.result c.index_mut-seat.result.now c.step.new.self (λ out. map (note_of own_tag) out.items) (λ (puts : List BridgeNote). IsSenderStep c.index_mut-seat.result.now c.step.new.self puts)
     (λ puts step. step.lane) c.step.ensures.step c.step.ensures.err)
 

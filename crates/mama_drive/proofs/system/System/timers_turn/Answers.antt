@@ -6,10 +6,10 @@ use Rattle.mama_drive.proofs.SystemLemmas.{with_timers}
 use Rattle.mama_drive.proofs.system.System.timers_turn.Goals as goal
 
 pub invariant_of-self : goal.invariant_of-self
-invariant_of-self c = with_timers _ _ _ _ _ _ _ _ _ c.self.invariant _ c.turn.ensures.shape
+invariant_of-self c = with_timers _ _ _ _ _ _ _ _ _ _ _ _ c.self.invariant _ c.turn.ensures.shape
 
 pub invariant_of-self-2 : goal.invariant_of-self-2
-invariant_of-self-2 c = with_timers _ _ _ _ _ _ _ _ _ c.self.invariant _ c.turn.ensures.shape
+invariant_of-self-2 c = with_timers _ _ _ _ _ _ _ _ _ _ _ _ c.self.invariant _ c.turn.ensures.shape
 
 pub returns-clause-turn : goal.returns-clause-turn
 returns-clause-turn c =

@@ -1,4 +1,4 @@
-use Rattle.std.proofs.Common.{rules, ◌≡◌, length, length-set, arith, ◌∙◌, sym, ap, true, subst, List, ℕ}
+use Rattle.std.proofs.Common.{◌≡◌, length, length-set, arith, ◌∙◌, sym, ap, true, List, ℕ}
 use Rattle.mama_event.specs.FidList.{is_fid_list}
 use Rattle.mama_event.specs.Fids.{before_zero, filled}
 use Rattle.mama_event.proofs.FidLemmas.{fid_kept, blank_left, ascending_rest, all_kept, can_be_asked, filled_again}

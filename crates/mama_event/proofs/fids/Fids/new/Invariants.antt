@@ -1,4 +1,4 @@
-use Rattle.std.proofs.Common.{◌≡◌, ℕ, ◌-◌, length, take, drop, replicate}
+use Rattle.std.proofs.Common.{◌≡◌, ◌-◌, length, take, drop, replicate}
 use Rattle.mama_event.specs.FidList.{is_ascending_above}
 use Rattle.mama_event.proofs.fids.Fids.new.Given as goal
 

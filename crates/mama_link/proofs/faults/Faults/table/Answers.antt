@@ -1,4 +1,4 @@
-use Rattle.std.proofs.Common.{rules, ◌≡◌, [], refl, sym, subst, List}
+use Rattle.std.proofs.Common.{rules, ◌≡◌, [], sym, subst, List}
 use Rattle.mama_link.specs.declared.faults.FaultRow.{FaultRow}
 use Rattle.mama_link.specs.Table.{table_of, IsTable}
 use Rattle.mama_link.proofs.FaultLemmas.{no_rows}

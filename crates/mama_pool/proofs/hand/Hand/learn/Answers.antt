@@ -1,4 +1,4 @@
-use Rattle.std.proofs.Common.{◌≡◌, ◌≢◌, ℕ, ◌+◌, ◌-◌, ◌<◌, ◌≤◌, List, [], ◌∷◌, length, replicate, set, IfSome, IfNone, OnOk, OnErr, refl, sym, ap, ◌∙◌, subst, rules, arith}
+use Rattle.std.proofs.Common.{◌≡◌, ◌≢◌, ◌-◌, ◌<◌, length, refl, sym, ap, ◌∙◌, subst}
 use Rattle.crossbeam_deque.specs.Handles.{worker_view}
 use Rattle.crossbeam_utils.specs.Seq.{cell_view}
 use Rattle.mama_pool.specs.Values.{HandValue, NoteValue, ShareValue, share_in, share_of, learnt_more, after_learn, SamePlaces}

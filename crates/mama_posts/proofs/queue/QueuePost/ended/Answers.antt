@@ -7,5 +7,5 @@ use Rattle.mama_posts.proofs.queue.QueuePost.ended.Goals as goal
 pub returns-then-not-self : goal.returns-then-not-self
 returns-then-not-self g c = (
   (λ is. absurd (false≢true is)),
-  (λ end. absurd (some_left _ _ c.args.self.now.left c.self.inside.clear (ap (λ (v : QueuePostValue). v.left) c.self.view_is) c.self.invariant c.if-not-self.true end.left)),
+  (λ end. absurd (some_left _ c.args.self.now.left c.self.inside.clear (ap (λ (v : QueuePostValue). v.left) c.self.view_is) c.self.invariant c.if-not-self.true end.left)),
 )

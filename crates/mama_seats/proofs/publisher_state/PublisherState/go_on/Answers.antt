@@ -1,4 +1,5 @@
-use Rattle.std.proofs.Common.{◌≡◌, arith, drop, refl, sym, subst, ◌∙◌, ap, ◌++◌, ◌∷◌, []}
+use Rattle.std.proofs.Common.{◌≡◌, List, arith, drop, refl, sym, subst, ◌∙◌, ap, ◌++◌, ◌∷◌, []}
+use Rattle.mama_msg.specs.Field.{FieldData}
 use Rattle.mama_event.specs.Wire.{market_of}
 use Rattle.mama_event.specs.declared.market.MarketMsg.{MarketMsg}
 use Rattle.mama_event.specs.declared.publisher_entry.PublisherEntry.TheVariants as entry
@@ -31,7 +32,7 @@ returns-in-Ok-clause-step c =
     sender_step_past (sender_in c.args.base.now c.args.lines.now c.args.self.now) _ _
     (update_steps c.sending_an_update.ensures _ _ c.args.base.now c.args.lines.now c.self.inside.publisher _ c.next_at-line.result c.index-lines-line.result c.in-Update.body (market_of c.with_body-msg.result) _ _
     (senders_past c.args.base.now c.args.lines.now _ c.args.self.now c.next_at-line.result c.self.view_is c.next_at-line.ensures) refl (ap (λ (w : Progress). w.over) c.self.view_is ∙ c.requires.going) (omega (arith, awake)) refl c.if-line-lines.false c.index-lines-line.is c.in-Update.is
-    seated c.in-Ok.ensures.ok (c.with_body-msg.ensures (c.in_ok-packet-in-Update.ensures ∙ sym (ap (λ (m : MarketMsg). m.body) c.in-Ok.ensures.sent)) ∙ c.in-Ok.ensures.sent)
+    seated c.in-Ok.ensures.ok (c.with_body-msg.ensures ∙ ap (λ (b : List FieldData). record c.in-Ok.msg { body = b }) (c.in_ok-packet-in-Update.ensures ∙ sym (ap (λ (m : MarketMsg). m.body) c.in-Ok.ensures.sent)) ∙ c.in-Ok.ensures.sent)
     (c.note_send.ensures ∙ ap (λ j. j ++ entry.Send ∷ []) c.reserve.ensures.items) refl)
 
 pub returns-in-Ok-clause-seated : goal.returns-in-Ok-clause-seated

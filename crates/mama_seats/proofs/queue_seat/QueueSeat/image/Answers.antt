@@ -21,7 +21,7 @@ returns c =
     let sub = c.args.sub in
     IfOk-weaker c.image_of.result _ (λ found. found_image sub found ≡ image_of c.args.self.now.objects c.args.self.now.journal sub)
     (λ found is.
-    ap (found_image sub) (is orders (c.planned_orders_fit.ensures orders c.self.invariant))
+    ap (found_image sub) (is orders (c.planned_orders_fit.ensures orders c.self.invariant.0))
     ∙ found_as sub (context_after orders journal sub) (context_waits (first_said (λ (e : ℕ × QueueNote). make_in (Sub sub) e.1) journal) (messages_of sub (deeds orders journal)))
     ∙ ap (λ (s : Server). image_of s.objects s.journal sub) c.self.view_is)
     c.image_of.ensures

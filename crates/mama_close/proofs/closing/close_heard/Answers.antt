@@ -1,0 +1,35 @@
+use Rattle.std.proofs.Common.{◌≡◌, ℕ, List, map, ap, ◌∙◌, sym, subst}
+use Rattle.std.proofs.lemmas.Result.{IfOk-weaker}
+use Rattle.mama_event.specs.declared.to_queue.QueueNote.{QueueNote}
+use Rattle.mama_record.specs.RunData.{RunData}
+use Rattle.mama_record.specs.RunView.{groups_of}
+use Rattle.mama_rules_rounds.specs.Round.{setting_of, group_told}
+use Rattle.mama_close.specs.Journals.{AreJournalsOf}
+use Rattle.mama_close.specs.Kinds.{record_of}
+use Rattle.mama_close.specs.InKinds.{kinds_in}
+use Rattle.mama_close.proofs.closing.close_heard.Goals as goal
+
+pub by_kind-requires : goal.by_kind-requires
+by_kind-requires g c = record { crew = c.requires.crew; ended = c.requires.ended }
+
+pub close_kinds-requires : goal.close_kinds-requires
+close_kinds-requires g c = record {
+  kinds = c.in_ok-seats.ensures.kinds;
+  groups = c.requires.groups
+      ∙ ap (λ (qs : List (List (ℕ × QueueNote))). map (group_told (setting_of c.args.script.now) qs) (setting_of c.args.script.now).groups) (sym c.in_ok-seats.ensures.journals.queues);
+}
+
+pub returns : goal.returns
+returns g c =
+    let run = record_of c.args.script.now (kinds_in c.in_ok-seats.seats) in
+    let heard : groups_of c.args.groups.items ≡ run.groups =
+    c.requires.groups
+    ∙ ap (λ (qs : List (List (ℕ × QueueNote))). map (group_told (setting_of c.args.script.now) qs) (setting_of c.args.script.now).groups) (sym c.in_ok-seats.ensures.journals.queues) in
+    record {
+      journals = IfOk-weaker c.close_kinds.result (λ r. r.0 ≡ run) (λ r. AreJournalsOf c.args.seats.items r.0)
+          (λ r is. subst (AreJournalsOf c.args.seats.items) (sym is) c.in_ok-seats.ensures.journals) c.close_kinds.ensures.record_is;
+      legal = c.close_kinds.ensures.legal;
+      groups = IfOk-weaker c.close_kinds.result (λ r. r.0 ≡ run) (λ r. r.0.groups ≡ groups_of c.args.groups.items)
+          (λ r is. ap (λ (d : RunData). d.groups) is ∙ sym heard) c.close_kinds.ensures.record_is;
+      listeners = c.close_kinds.ensures.listeners;
+    }

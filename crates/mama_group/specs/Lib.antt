@@ -1,0 +1,3 @@
+pub mod Listener
+pub mod Table
+pub mod Kept

@@ -1,0 +1,5 @@
+pub mod Seat
+pub mod Crew
+pub mod Back
+pub mod Opening
+pub mod Closing

@@ -1,0 +1,11 @@
+use Rattle.std.proofs.Common.{length}
+use Rattle.mama_log_line.specs.Entering.{MayHearGroup}
+use Rattle.mama_record.specs.LogText.{group_note_text}
+use Rattle.mama_log_read.proofs.Taking.{SoFar}
+use Rattle.mama_log_read.proofs.entries.read_group_notes.Given as goal
+
+abbrev pub invariant-loop-entries : goal.invariant-loop-entries
+invariant-loop-entries l = SoFar (MayHearGroup l.names) group_note_text l.fn.text l.entries.items l.rest
+
+abbrev pub decreases-loop-entries : goal.decreases-loop-entries
+decreases-loop-entries l = length l.rest
