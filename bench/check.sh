@@ -1,7 +1,7 @@
 #!/bin/bash
-# Time and memory of 'mama_run check' at n and 2n: the log of many publishers with 50 updates each and two subscriptions for
-# five of them, and the log of one publisher's updates. Wants the proved program (./mama --version builds it). Prints
-# seconds, their ratio, and peak bytes of memory for each byte of input.
+# Time and memory of 'mama_run check' and 'mama_run replay' at n and 2n: the log of many publishers with 50 updates each and
+# two subscriptions for five of them, and the log of one publisher's updates. Wants the proved program (./mama --version builds
+# it). Prints seconds, their ratio, and peak bytes of memory for each byte of input.
 . "$(dirname "$0")/scratch.sh"
 proved_program
 
@@ -34,13 +34,22 @@ judged() {
   cat "$scratch/cost"
 }
 
+# followed: seconds and peak memory in KiB of the replay of that input, whose log has to come out as it was.
+followed() {
+  /usr/bin/env time -f '%e %M' -o "$scratch/cost" "$program" replay < "$scratch/input" > "$scratch/steps" || echo "status $?" >&2
+  grep -v '^step ' "$scratch/steps" | cmp -s - "$scratch/its_log" || echo 'another log' >&2
+  cat "$scratch/cost"
+}
+
 compare() {
-  name=$1 make=$2 n=$3
-  with_log "$make" "$n"; read -r first _ < <(judged)
-  with_log "$make" $((2 * n)); bytes=$(wc -c < "$scratch/input"); read -r second peak < <(judged)
+  name=$1 make=$2 n=$3 judged=$4
+  with_log "$make" "$n"; read -r first _ < <("$judged")
+  with_log "$make" $((2 * n)); bytes=$(wc -c < "$scratch/input"); read -r second peak < <("$judged")
   awk -v name="$name" -v n="$n" -v a="$first" -v b="$second" -v kb="$peak" -v bytes="$bytes" 'BEGIN {
     printf "%s: n=%d %.2f s, 2n %.2f s, ratio %.2f, input %d bytes, peak %.1f bytes for each byte of input\n", name, n, a, b, (a > 0 ? b / a : 0), bytes, kb * 1024 / bytes }'
 }
 
-compare 'publishers with 50 updates each' many_publishers 500
-compare 'updates of one publisher' one_publisher 100000
+for command in judged followed; do
+  compare "$command: publishers with 50 updates each" many_publishers 500 "$command"
+  compare "$command: updates of one publisher" one_publisher 100000 "$command"
+done

@@ -2,7 +2,9 @@
 # Plays scripts on threads, and has each log judged: the scripts that `gen` writes of the seeds 1, 2, 3 and so on, each by 1, 2, 4,
 # 8 and 64 workers in turn, a tenth as many plays of scripts whose queues have unlike loads, and each script in the folders that
 # follow the number. Each log has to be legal; causal it need not be.
-# Wants the proved program (./mama --version builds it). Ends with 1 where a log is not legal, or a play ends with another status.
+# One that is causal is followed again on one thread, and has to come out as it was; any other has to be told as not causal.
+# Wants the proved program (./mama --version builds it). Ends with 1 where a log is not legal, a play ends with another status, or
+# a log is followed again otherwise.
 #
 #   bench/play-soak.sh RUNS [FOLDER..]     RUNS plays of generated scripts; of a FOLDER every file that `serial` accepts
 . "$(dirname "$0")/scratch.sh"
@@ -22,15 +24,30 @@ judge() {
         failed=$((failed + 1))
         return
     fi
-    verdict=$({ cat "$2"; echo log; cat "$scratch/log"; } | timeout 120 "$program" check 2>&1 | tr '\n' ' ')
+    { cat "$2"; echo log; cat "$scratch/log"; } > "$scratch/both"
+    verdict=$(timeout 120 "$program" check < "$scratch/both" 2>&1 | tr '\n' ' ')
     case $verdict in
-    'legal causal yes ') causal=$((causal + 1)) ;;
-    'legal causal no ') ;;
+    'legal causal yes ')
+        causal=$((causal + 1))
+        again "$1" "$3" 0 "$scratch/log"
+        ;;
+    'legal causal no ') again "$1" "$3" 10 /dev/null ;;
     *)
         echo "$1 by $3 workers: $verdict"
         failed=$((failed + 1))
         ;;
     esac
+}
+
+# again NAME W STATUS LOG: follows the log that was judged again, which has to end with this status and to come to this log.
+again() {
+    timeout 120 "$program" replay < "$scratch/both" > "$scratch/steps" 2> "$scratch/said"
+    status=$?
+    if [ $status != "$3" ] || { [ "$3" != 0 ] && [ -s "$scratch/steps" ]; } ||
+        ! grep -v '^step ' "$scratch/steps" | cmp -s - "$4"; then
+        echo "$1 by $2 workers: status $status or another log when it was followed again"
+        failed=$((failed + 1))
+    fi
 }
 
 # uneven RUN: sixteen queues, of which one or each second, fourth or eighth has all the subscriptions.
@@ -59,5 +76,5 @@ for folder; do
         for w in "${workers[@]}"; do judge "$file" "$file" "$w"; done
     done
 done
-echo "$played plays in $((SECONDS - began)) s: $((played - failed)) legal, of which $causal causal; $failed failed"
+echo "$played plays in $((SECONDS - began)) s: $((played - failed)) as they should be, $causal of them causal; $failed failed"
 [ $failed = 0 ]

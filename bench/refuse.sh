@@ -1,6 +1,7 @@
 #!/bin/bash
-# Refuses each request for memory in turn: while the proved program plays a small script, on one thread or on many, judges its log
-# or writes both in version 2, a script for every kind of line; and while tests make single calls, each of which they make again where no memory was found.
+# Refuses each request for memory in turn: while the proved program plays a small script, on one thread or on many, judges its
+# log, follows it again or writes both in version 2, a script for every kind of line; and while tests make single calls, each of
+# which they make again where no memory was found.
 #
 # It wants the proved program (./mama --version builds it), the tests of mama_tests_calls and mama_tests_queues (rt test in their
 # folders builds them), and a C compiler, for a library that is loaded before the C library and answers one
@@ -189,8 +190,9 @@ for title, row in SCRIPTS.items():
     both = script + b"log\n" + log.replace(b"M", b"1000000000000")
     verdict, count, bad = tried(title, "check", both)
     asked, wrong = asked + count, wrong + bad
-    _, count, bad = tried(title, "rewrite", both)
-    asked, wrong = asked + count, wrong + bad
+    for word in ("rewrite", "replay"):
+        _, count, bad = tried(title, word, both)
+        asked, wrong = asked + count, wrong + bad
     count, bad = played(title, script)
     asked, wrong = asked + count, wrong + bad
     if verdict != b"legal\ncausal yes\n":

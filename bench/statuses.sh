@@ -33,6 +33,7 @@ serial() { "$program" serial < "$1"; }
 played_by() { "$program" play "$1" < "$2"; }
 with_log() { cat "$1"; echo log; cat "$2"; }
 check() { with_log "$1" "$2" | "$program" check; }
+replay() { with_log "$1" "$2" | "$program" replay; }
 rewritten() { with_log "$1" "$2" | "$program" rewrite; }
 alone_rewritten() { "$program" rewrite < "$1"; }
 checked() { "$program" check < "$1"; }
@@ -47,6 +48,50 @@ fields_65() {
 too_long() { head -c 67108866 /dev/zero | "$program" serial; }
 little_memory() { (ulimit -v 60000; head -c 60000000 /dev/zero | "$program" serial); }
 
+# a legal log without a causal order: the queue leaves for the stop of a callback that follows from that leave
+cat > "$scratch/early.script" <<'END'
+mama script 1
+queues 1
+topic "EQ.ABC"
+publisher 0 22:bid:u32:100
+client
+sub 0 market 0 10 1000
+at 2 stop s0.0
+END
+cat > "$scratch/early.log" <<'END'
+mama log 1
+client 0
+publisher 0
+want s0.0 initial
+done
+settle
+fin
+bridge
+c0 join s0.0
+q0 leave s0.0
+p0 image s0.0 initial 1 0 22:bid:u32:100
+c0 done
+p0 done
+p0 settled
+q0 bye
+timers
+c0 done
+b fin
+q0 bye
+queue 0
+b create 0 s0.0
+b gone 0 s0.0
+b fin
+t fin
+on s0.0
+create
+destroy
+order stop s0.0
+images
+end
+END
+printf 'legal\ncausal no\n' > "$scratch/early.verdict"
+
 printf 'legal\ncausal yes\n' > "$scratch/legal"
 printf 'not legal L5 s0.0\n' > "$scratch/late"
 for script in "$examples"/*.script; do
@@ -54,6 +99,9 @@ for script in "$examples"/*.script; do
   wrote "${script%.script}.log"
   told 0 '' check "$script" "${script%.script}.log"
   wrote "$scratch/legal"
+  told 0 '' replay "$script" "${script%.script}.log"
+  grep -v '^step ' "$scratch/out" > "$scratch/again"
+  cmp -s "$scratch/again" "${script%.script}.log" || differs "the replayed log of $script is another"
   told 0 '' rewritten "$script" "${script%.script}.log"
   cp "$scratch/out" "$scratch/two"
   told 0 '' checked "$scratch/two"
@@ -64,6 +112,9 @@ for script in "$examples"/*.script; do
   cp "$scratch/out" "$scratch/two.log"
   told 0 '' with_log "$scratch/two.script" "$scratch/two.log"
   wrote "$scratch/two"
+  told 0 '' replay "$scratch/two.script" "$scratch/two.log"
+  grep -v '^step ' "$scratch/out" > "$scratch/again"
+  cmp -s "$scratch/again" "$scratch/two.log" || differs "the replayed log of $script in version 2 is another"
   for workers in 1 3 64; do
     told 0 '' played_by "$workers" "$script"
     cp "$scratch/out" "$scratch/played.log"
@@ -73,6 +124,8 @@ for script in "$examples"/*.script; do
 done
 told 1 'mama_run: not legal' check "$examples/gap.script" "$examples/damaged.log"
 wrote "$scratch/late"
+told 1 'mama_run: not legal' replay "$examples/gap.script" "$examples/damaged.log"
+wrote /dev/null
 told 2 'mama_run: bad words' play_0
 told 2 'mama_run: bad words' "$program" play 65
 told 2 'mama_run: bad words' "$program" play 04
@@ -97,6 +150,10 @@ told 7 'mama_run: bad log, line 11' without_log
 told 7 'mama_run: bad log, line 5' of_text rewrite 'mama script 1\nqueues 1\nclient\nlog\nmama log 2\n'
 told 3 'mama_run: bad script, line 3, fault 3' of_text rewrite 'mama script 1\nqueues 1\n'
 told 8 'mama_run: out of memory' little_memory
+told 0 '' check "$scratch/early.script" "$scratch/early.log"
+wrote "$scratch/early.verdict"
+told 10 'mama_run: not causal' replay "$scratch/early.script" "$scratch/early.log"
+wrote /dev/null
 
 # ./mama where nothing is built and no toolchain is there, so that it could begin no proof
 mkdir -p "$scratch/new/crates/mama_run/src"
@@ -112,6 +169,7 @@ wrote "$scratch/usage"
 grep -q '^  8  no memory was found$' "$scratch/usage" || differs 'the usage has no exit statuses'
 told 2 'mama: no-such-file is no command and no file that can be read; ./mama --help says what it does' alone no-such-file
 told 2 'mama: check is of a script and a log; ./mama --help says what it does' alone check "$examples/gap.script"
+told 2 'mama: replay is of a script and a log; ./mama --help says what it does' alone replay "$examples/gap.script"
 
 # and where the program is built, the two files of a check are joined
 told 1 'mama_run: not legal' "$top/mama" check "$examples/gap.script" "$examples/damaged.log"
@@ -120,6 +178,10 @@ told 0 '' "$top/mama" rewrite "$examples/gap.script" "$examples/gap.log"
 cp "$scratch/out" "$scratch/two"
 told 0 '' rewritten "$examples/gap.script" "$examples/gap.log"
 wrote "$scratch/two"
+told 0 '' "$top/mama" replay "$examples/gap.script" "$examples/gap.log"
+cp "$scratch/out" "$scratch/again"
+told 0 '' replay "$examples/gap.script" "$examples/gap.log"
+wrote "$scratch/again"
 told 0 '' "$top/mama" "$examples/gap.script"
 wrote "$examples/gap.log"
 

@@ -4,6 +4,7 @@ use Rattle.std.proofs.lemmas.List.{drop_all}
 use Rattle.mama_edge.specs.Told.{LostAtMost}
 use Rattle.mama_script.specs.Reading.{script_in}
 use Rattle.mama_script.specs.declared.fault.ScriptFault.TheVariants as f
+use Rattle.mama_check.specs.declared.verdict.Actor.{Actor}
 use Rattle.mama_plain.specs.Answers.{GaveAll, IsAccepted}
 use Rattle.mama_plain.specs.declared.status.Status.{Status}
 use Rattle.mama_plain.specs.declared.status.Status.TheVariants as s
@@ -29,6 +30,12 @@ module _ (old new before after : Option (List ℕ)) (status : Status) (end : IsE
   -- play reads no log
   pub no_log : (line : ℕ) → status ≡ s.BadLog line → ⊥
   no_log line is = end_is (s.BadLog line) is
+
+  pub no_verdict : (rule : ℕ) (actor : Actor) → status ≡ s.NotLegal rule actor → ⊥
+  no_verdict rule actor is = end_is (s.NotLegal rule actor) is
+
+  pub no_wait : (actor : Actor) (entry : ℕ) → status ≡ s.NotCausal actor entry → ⊥
+  no_wait actor entry is = end_is (s.NotCausal actor entry) is
 
   -- an accepted script has no fault, and passes no limit at a line
   no_fault : (text given : List ℕ) → old ≡ Some text → IsAccepted text → GaveAll old new given → (line fault : ℕ) → script_in given ≡ Err (f.Bad line fault) → ⊥

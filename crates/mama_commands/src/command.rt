@@ -7,11 +7,12 @@ ghost use Rattle.mama_check.specs.declared.verdict.Actor.{Actor};
 ghost use Rattle.mama_check.specs.declared.verdict.Verdict.{Verdict};
 ghost use Rattle.mama_check.specs.declared.verdict.Verdict.TheVariants as verdicts;
 ghost use Rattle.mama_gen.specs.Generated.{generated};
-ghost use Rattle.mama_plain.specs.Command.{is_serial, is_check, is_rewrite, seed_in};
+ghost use Rattle.mama_plain.specs.Command.{is_serial, is_check, is_rewrite, is_replay, seed_in};
 ghost use Rattle.mama_plain.specs.Parts.{script_part, log_part};
-ghost use Rattle.mama_plain.specs.Verdict.{IsChecked, IsVerdictOf, IsBadLog};
-ghost use Rattle.mama_plain.specs.Answers.{GaveAll, IsAccepted, IsLogOf, IsEndOfGen, OnUnplayed, OnSilent};
+ghost use Rattle.mama_plain.specs.Verdict.{IsChecked, IsVerdictOf, IsRefusalBy, IsBadLog};
+ghost use Rattle.mama_plain.specs.Answers.{GaveAll, IsAccepted, IsLogOf, IsEndOfGen, OnUnplayed, OnSilent, OnUnwritten};
 ghost use Rattle.mama_plain.specs.Rewritten.{IsInTwo, IsTaken};
+ghost use Rattle.mama_plain.specs.Replayed.{IsReplayed, IsUnfollowed};
 ghost use Rattle.mama_plain.specs.Promises.{KeepsPromises, IsLawfulRun};
 ghost use Rattle.mama_soak.specs.Soak.{IsSoak};
 ghost use Rattle.mama_commands.specs.Words.{is_play, soak_in, is_form};
@@ -124,23 +125,23 @@ pub fn run<S: Source, K: Sink, C: Clock + Send, G: Gate + Sync, Rt: Threads + Wa
     ensures over_limit_part { is_check (map string_bytes words.now) ≡ true → (line limit : ℕ) → result ≡ Status.OverLimit line limit → line ≢ 0
         → (text : List ℕ) × GaveAll (S.left source.old) (S.left source.new) text × (script_in (script_part text) ≡ Err (script.OverLimit line limit)) }
 
-    // A log is bad only for check and rewrite. For check it is where the script is accepted, and the line is the first behind it
+    // A log is bad only for check, rewrite and replay. For check it is where the script is accepted, and the line is the first behind it
     // that does not fit. It never is where the source tells an accepted script, the line `log`, and a log that the script can
     // have; nor is that script refused by check then.
-    ensures bad_log_only { (line : ℕ) → result ≡ Status.BadLog line → (is_check (map string_bytes words.now) ≡ true) ⊎ (is_rewrite (map string_bytes words.now) ≡ true) }
+    ensures bad_log_only { (line : ℕ) → result ≡ Status.BadLog line → (is_check (map string_bytes words.now) ≡ true) ⊎ ((is_rewrite (map string_bytes words.now) ≡ true) ⊎ (is_replay (map string_bytes words.now) ≡ true)) }
     ensures bad_log { is_check (map string_bytes words.now) ≡ true → (line : ℕ) → result ≡ Status.BadLog line
         → (text : List ℕ) × GaveAll (S.left source.old) (S.left source.new) text × IsBadLog (script_part text) (log_part text) line }
     ensures fitting { (text : List ℕ) → S.left source.old ≡ Some text → IsChecked text → (line : ℕ) → result ≢ Status.BadLog line }
     ensures fitting_script { is_check (map string_bytes words.now) ≡ true → (text : List ℕ) → S.left source.old ≡ Some text → IsChecked text
         → ((line fault : ℕ) → result ≢ Status.BadScript line fault) × ((line limit : ℕ) → result ≡ Status.OverLimit line limit → line ≡ 0) }
 
-    // The verdict on what the source gave was written whole: that the log is legal at Ok, and which rule is broken and by
-    // whom where it is not. At a write fault a part of a verdict was written, which is not the whole. A log that is found
-    // legal keeps all promises.
+    // A log that is found legal by check keeps all promises, and its verdict was written whole. One that is not legal is told by
+    // check, which wrote its verdict whole, and by replay, which wrote nothing: the first rule that is broken, and by whom. At a write
+    // fault of check a part of a verdict was written, which is not the whole.
     ensures legal { is_check (map string_bytes words.now) ≡ true → result ≡ Status.Ok → (causal : Bool) × (text : List ℕ) × (out : List ℕ)
         × GaveAll (S.left source.old) (S.left source.new) text × IsVerdictOf text (verdicts.Legal causal) out × Appended (K.written sink.old) (K.written sink.new) out }
-    ensures not_legal { (rule : ℕ) (actor : Actor) → result ≡ Status.NotLegal rule actor → (is_check (map string_bytes words.now) ≡ true) × (text : List ℕ) × (out : List ℕ)
-        × GaveAll (S.left source.old) (S.left source.new) text × IsVerdictOf text (verdicts.NotLegal rule actor) out × Appended (K.written sink.old) (K.written sink.new) out }
+    ensures not_legal { (rule : ℕ) (actor : Actor) → result ≡ Status.NotLegal rule actor → (text : List ℕ) × (out : List ℕ)
+        × GaveAll (S.left source.old) (S.left source.new) text × IsVerdictOf text (verdicts.NotLegal rule actor) out × IsRefusalBy (map string_bytes words.now) (K.written sink.old) (K.written sink.new) out }
     ensures verdict_part { is_check (map string_bytes words.now) ≡ true → (written : ℕ) → result ≡ Status.WriteFault written → (verdict : Verdict) × (text : List ℕ) × (out : List ℕ)
         × GaveAll (S.left source.old) (S.left source.new) text × IsVerdictOf text verdict out × (written < length out) × Appended (K.written sink.old) (K.written sink.new) (take written out) }
     ensures legal_promises { (causal : Bool) (text out : List ℕ) (v : IsVerdictOf text (verdicts.Legal causal) out) → KeepsPromises v.script v.run }
@@ -165,6 +166,32 @@ pub fn run<S: Source, K: Sink, C: Clock + Send, G: Gate + Sync, Rt: Threads + Wa
         × GaveAll (S.left source.old) (S.left source.new) text × IsInTwo text out × Appended (K.written sink.old) (K.written sink.new) out }
     ensures rewritten_part { is_rewrite (map string_bytes words.now) ≡ true → (written : ℕ) → result ≡ Status.WriteFault written → (text out : List ℕ)
         × GaveAll (S.left source.old) (S.left source.new) text × IsInTwo text out × (written < length out) × Appended (K.written sink.old) (K.written sink.new) (take written out) }
+
+    // REPLAY
+
+    // A fault or a limit is that of the script, and a log is bad, as for check. None of these comes where the source tells an
+    // accepted script, the line `log`, and a log that the script can have.
+    ensures replay_bad_script { is_replay (map string_bytes words.now) ≡ true → (line fault : ℕ) → result ≡ Status.BadScript line fault
+        → (text : List ℕ) × GaveAll (S.left source.old) (S.left source.new) text × (script_in (script_part text) ≡ Err (script.Bad line fault)) }
+    ensures replay_over_limit { is_replay (map string_bytes words.now) ≡ true → (line limit : ℕ) → result ≡ Status.OverLimit line limit → line ≢ 0
+        → (text : List ℕ) × GaveAll (S.left source.old) (S.left source.new) text × (script_in (script_part text) ≡ Err (script.OverLimit line limit)) }
+    ensures replay_bad_log { is_replay (map string_bytes words.now) ≡ true → (line : ℕ) → result ≡ Status.BadLog line
+        → (text : List ℕ) × GaveAll (S.left source.old) (S.left source.new) text × IsBadLog (script_part text) (log_part text) line }
+    ensures replay_fitting { is_replay (map string_bytes words.now) ≡ true → (text : List ℕ) → S.left source.old ≡ Some text → IsChecked text
+        → ((line fault : ℕ) → result ≢ Status.BadScript line fault) × ((line limit : ℕ) → result ≡ Status.OverLimit line limit → line ≡ 0) }
+
+    // At every answer but Ok and a write fault nothing was written. A log is not causal where it is legal and its entries have no
+    // causal order; then the actor is the first that cannot go on, and the entry its next.
+    ensures replay_silent { is_replay (map string_bytes words.now) ≡ true → OnUnwritten result (sink.new ≡ sink.old) }
+    ensures not_causal { (actor : Actor) (entry : ℕ) → result ≡ Status.NotCausal actor entry → (is_replay (map string_bytes words.now) ≡ true) × (text : List ℕ)
+        × GaveAll (S.left source.old) (S.left source.new) text × IsUnfollowed text actor entry }
+
+    // What was written are the steps that lead to the record that was read, and the log of the record that they lead to, in the
+    // version that was read: it is the log that was read, byte for byte. At a write fault a part was written, which is not the whole.
+    ensures replayed { is_replay (map string_bytes words.now) ≡ true → result ≡ Status.Ok → (text out : List ℕ)
+        × GaveAll (S.left source.old) (S.left source.new) text × IsReplayed text out × Appended (K.written sink.old) (K.written sink.new) out }
+    ensures replayed_part { is_replay (map string_bytes words.now) ≡ true → (written : ℕ) → result ≡ Status.WriteFault written → (text out : List ℕ)
+        × GaveAll (S.left source.old) (S.left source.new) text × IsReplayed text out × (written < length out) × Appended (K.written sink.old) (K.written sink.new) (take written out) }
 
     // GEN
 

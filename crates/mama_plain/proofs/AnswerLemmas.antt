@@ -1,7 +1,7 @@
 -- What an answer says of the text that was given.
 use Rattle.std.proofs.Common.{◌≡◌, ◌⊎◌, ℕ, List, [], Option, Some, None, Ok, Err, refl, inl, inr, ◌∙◌, sym, ap, subst, arith}
 use Rattle.std.specs.Prelude.{IfSome}
-use Rattle.mama_edge.specs.Told.{LostAtMost}
+use Rattle.mama_edge.specs.Told.{LostAtMost, Kept}
 use Rattle.mama_script.specs.Reading.{script_in, at_line}
 use Rattle.mama_script.specs.First.{IsFirst}
 use Rattle.mama_script.specs.declared.fault.Flaw.{Flaw}
@@ -11,9 +11,11 @@ use Rattle.mama_script.specs.declared.fault.ScriptFault.TheVariants as f
 use Rattle.mama_script.proofs.Whole.{script_again}
 use Rattle.mama_plain.specs.Parts.{script_part}
 use Rattle.mama_plain.specs.Verdict.{IsChecked}
-use Rattle.mama_plain.specs.Answers.{GaveAll, IsAccepted}
+use Rattle.mama_plain.specs.Answers.{GaveAll, IsAccepted, OnSilent, OnUnwritten}
 use Rattle.mama_plain.specs.Causes.{IsCause}
 use Rattle.mama_plain.specs.Judging.{IsNoVerdict}
+use Rattle.mama_plain.specs.declared.status.Status.{Status}
+use Rattle.mama_plain.specs.declared.status.Status.TheVariants as a
 use Rattle.mama_plain.specs.declared.run.NoLog.{NoLog}
 use Rattle.mama_plain.specs.declared.run.NoLog.TheVariants as n
 use Rattle.mama_plain.specs.declared.check.NoVerdict.{NoVerdict}
@@ -80,3 +82,22 @@ checked_no_fault text checked line fault e = let same = sym (checked_script text
 
 pub checked_no_limit : (text : List ℕ) → IsChecked text → (line limit : ℕ) → script_in (script_part text) ≡ Err (f.OverLimit line limit) → ⊥
 checked_no_limit text checked line limit e = let same = sym (checked_script text checked) ∙ e in cc
+
+-- ---- where nothing was written
+
+-- what stays at each answer but two stays at each but three
+pub unwritten_silent : (status : Status) (P : Type 0) → OnUnwritten status P → OnSilent status P
+unwritten_silent a.Ok P h = tt
+unwritten_silent a.BadWords P h = h
+unwritten_silent (a.BadScript line fault) P h = h
+unwritten_silent (a.OverLimit line limit) P h = h
+unwritten_silent a.ReadFault P h = h
+unwritten_silent (a.WriteFault written) P h = tt
+unwritten_silent (a.BadLog line) P h = h
+unwritten_silent (a.NotLegal rule actor) P h = tt
+unwritten_silent (a.NotCausal actor entry) P h = h
+unwritten_silent a.OutOfMemory P h = h
+
+pub kept_same : (told : Option (List ℕ)) → Kept told told
+kept_same None = tt
+kept_same (Some told) = refl

@@ -6,3 +6,4 @@ pub mod AnswerLemmas
 pub mod OwnLemmas
 pub mod RewriteLemmas
 pub mod KeptLemmas
+pub mod ReplayLemmas

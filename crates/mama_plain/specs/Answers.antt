@@ -52,6 +52,12 @@ OnSilent (s.WriteFault written) P = ⊤
 OnSilent (s.NotLegal rule actor) P = ⊤
 OnSilent _ P = P
 
+-- a fact of every answer but Ok and a write fault
+abbrev pub OnUnwritten : Status → Type 0 → Type 0
+OnUnwritten s.Ok P = ⊤
+OnUnwritten (s.WriteFault written) P = ⊤
+OnUnwritten _ P = P
+
 -- how gen ends: all was written, a part was, or no memory was found
 abbrev pub IsEndOfGen : Status → Type 0
 IsEndOfGen s.Ok = ⊤

@@ -21,6 +21,12 @@ is_rewrite [] = false
 is_rewrite (word ∷ []) = bytes_eq word (codes "rewrite")
 is_rewrite (word ∷ next ∷ more) = false
 
+-- the words are the one word replay
+abbrev pub is_replay : List (List ℕ) → Bool
+is_replay [] = false
+is_replay (word ∷ []) = bytes_eq word (codes "replay")
+is_replay (word ∷ next ∷ more) = false
+
 -- the seed where the words are gen and a seed: a number below 2 ^ 64 in its one decimal spelling
 abbrev pub seed_in : List (List ℕ) → Option ℕ
 seed_in [] = None
@@ -39,4 +45,4 @@ is_gen words = is_there (seed_in words)
 
 -- the words are a command
 abbrev pub is_command : List (List ℕ) → Bool
-is_command words = is_serial words || (is_check words || (is_rewrite words || is_gen words))
+is_command words = is_serial words || (is_check words || (is_rewrite words || (is_replay words || is_gen words)))

@@ -10,3 +10,6 @@ pub mod Status
 pub mod Own
 pub mod Rewritten
 pub mod Kept
+pub mod Replayed
+pub mod Stepped
+pub mod Unreplayed

@@ -12,4 +12,5 @@ exit_number status.ReadFault = 5
 exit_number (status.WriteFault written) = 6
 exit_number (status.BadLog line) = 7
 exit_number (status.NotLegal rule actor) = 1
+exit_number (status.NotCausal actor entry) = 10
 exit_number status.OutOfMemory = 8

@@ -1,6 +1,7 @@
 -- believed: What check writes and answers: the verdict on a text, or the first line that does not fit.
-use Rattle.std.specs.Prelude.{◌≡◌, ◌+◌, ℕ, Bool, true, false, List, ◌∷◌, ◌++◌, codes, Option, Some, None}
+use Rattle.std.specs.Prelude.{◌≡◌, ◌⊎◌, ◌+◌, ℕ, Bool, true, false, List, ◌∷◌, ◌++◌, codes, Option, Some, None}
 use Rattle.mama_edge.specs.Decimal.{decimal}
+use Rattle.mama_edge.specs.Told.{Appended, Kept}
 use Rattle.mama_words.specs.Id.{object_text}
 use Rattle.mama_script.specs.Script.{ScriptData}
 use Rattle.mama_script.specs.Tree.{IsScript, script_text}
@@ -14,6 +15,7 @@ use Rattle.mama_check.specs.declared.verdict.Actor.TheVariants as actor
 use Rattle.mama_check.specs.declared.verdict.Verdict.{Verdict}
 use Rattle.mama_check.specs.declared.verdict.Verdict.TheVariants as verdict
 use Rattle.mama_check.specs.Verdict.{Judges}
+use Rattle.mama_plain.specs.Command.{is_check, is_replay}
 use Rattle.mama_plain.specs.Parts.{line_count}
 
 -- THE TEXT OF A VERDICT
@@ -68,6 +70,11 @@ pub record IsVerdictOf (text : List ℕ) (verdict : Verdict) (out : List ℕ) : 
   pub only : TellsOnly text script run
   pub judged : Judges script run verdict
   pub told : out ≡ verdict_text verdict
+
+-- Who says that a log is not legal, and what was written then: check its verdict, and replay nothing. The first list are the
+-- words of the command, and the last the lines of the verdict.
+abbrev pub IsRefusalBy : List (List ℕ) → Option (List ℕ) → Option (List ℕ) → List ℕ → Type 0
+IsRefusalBy words old new out = ((is_check words ≡ true) × Appended old new out) ⊎ ((is_replay words ≡ true) × Kept old new)
 
 -- THE FIRST LINE THAT DOES NOT FIT
 

@@ -52,6 +52,7 @@ pub(crate) fn judge_input<S: Source, K: Sink>(alloc: Global, source: &mut S, sin
     ensures memory_part { result ≡ Status.OutOfMemory → LostAtMost (S.left source.old) (S.left source.new) 67108864 }
     ensures too_long { (limit : ℕ) → result ≡ Status.OverLimit 0 limit → (limit ≡ 1) × Lost (S.left source.old) (S.left source.new) 67108865 }
     ensures silent { OnSilent result (sink.new ≡ sink.old) }
+    ensures causal { (actor : Actor) (entry : ℕ) → result ≢ Status.NotCausal actor entry }
     ensures bad_script { (line fault : ℕ) → result ≡ Status.BadScript line fault
         → (text : List ℕ) × GaveAll (S.left source.old) (S.left source.new) text × (script_in (parts.script_part text) ≡ Err (script_fault.Bad line fault)) }
     ensures over_limit { (line limit : ℕ) → result ≡ Status.OverLimit line limit → line ≢ 0
@@ -92,6 +93,7 @@ fn write_verdict<K: Sink>(alloc: Global, text: &[u8], sink: &mut K) -> Status
     ensures part { (written : ℕ) → result ≡ Status.WriteFault written → (verdict : Verdict) × (out : List ℕ) × IsVerdictOf text.now verdict out
         × (written < length out) × Appended (K.written sink.old) (K.written sink.new) (take written out) }
     ensures silent { OnSilent result (sink.new ≡ sink.old) }
+    ensures causal { (actor : Actor) (entry : ℕ) → result ≢ Status.NotCausal actor entry }
 {
     let verdict = match verdict_of(alloc, text) {
         Ok(verdict) => verdict,
@@ -120,6 +122,7 @@ pub(crate) fn status_of(cause: NoVerdict) -> Status
     ensures ok { result ≢ Status.Ok }
     ensures written { (written : ℕ) → result ≢ Status.WriteFault written }
     ensures legal { (rule : ℕ) (actor : Actor) → result ≢ Status.NotLegal rule actor }
+    ensures causal { (actor : Actor) (entry : ℕ) → result ≢ Status.NotCausal actor entry }
     ensures bad { (line fault : ℕ) → result ≡ Status.BadScript line fault → cause ≡ NoVerdict.Script (script_fault.Bad line fault) }
     ensures over { (line limit : ℕ) → result ≡ Status.OverLimit line limit → (line ≢ 0) × (cause ≡ NoVerdict.Script (script_fault.OverLimit line limit)) }
     ensures log { (line : ℕ) → result ≡ Status.BadLog line → cause ≡ NoVerdict.Log line }
@@ -154,7 +157,7 @@ fn verdict_of(alloc: Global, text: &[u8]) -> Result<Verdict, NoVerdict>
 }
 
 /// Why there is no verdict on a text that has no line `log`.
-fn without_log(alloc: Global, text: &[u8]) -> NoVerdict
+pub(crate) fn without_log(alloc: Global, text: &[u8]) -> NoVerdict
     ensures { IsNoVerdict text.now None result }
 {
     match parse(alloc, text) {
@@ -226,7 +229,7 @@ fn line_of_breach(alloc: Global, rule: u8, actor: Actor) -> Result<Vec<u8>, OutO
 }
 
 /// Appends the name of an actor.
-fn put_actor(actor: Actor, out: &mut Vec<u8>) -> Result<(), OutOfMemory>
+pub(crate) fn put_actor(actor: Actor, out: &mut Vec<u8>) -> Result<(), OutOfMemory>
     ensures { OnOk result (out.new.items ≡ out.old.items ++ said.actor_text actor) }
 {
     match actor {

@@ -12,6 +12,8 @@ pub enum Command {
     Check,
     /// Writes a script, or a script and its log, in version 2.
     Rewrite,
+    /// Follows a legal log again on one thread, and writes the steps and the log.
+    Replay,
     /// Writes the script of a seed.
     Gen { seed: u64 },
 }
@@ -37,6 +39,8 @@ fn command_named(name: &str) -> Option<Command>
         Some(Command::Check)
     } else if name == "rewrite" {
         Some(Command::Rewrite)
+    } else if name == "replay" {
+        Some(Command::Replay)
     } else {
         None
     }

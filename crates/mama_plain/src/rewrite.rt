@@ -44,6 +44,7 @@ pub(crate) fn rewrite_input<S: Source, K: Sink>(
     ensures too_long { (limit : ℕ) → result ≡ Status.OverLimit 0 limit → (limit ≡ 1) × Lost (S.left source.old) (S.left source.new) 67108865 }
     ensures silent { OnSilent result (sink.new ≡ sink.old) }
     ensures not_legal { (rule : ℕ) (actor : Actor) → result ≢ Status.NotLegal rule actor }
+    ensures causal { (actor : Actor) (entry : ℕ) → result ≢ Status.NotCausal actor entry }
     ensures bad_script { (line fault : ℕ) → result ≡ Status.BadScript line fault
         → (text : List ℕ) × GaveAll (S.left source.old) (S.left source.new) text × (script_in (parts.script_part text) ≡ Err (script_fault.Bad line fault)) }
     ensures over_limit { (line limit : ℕ) → result ≡ Status.OverLimit line limit → line ≢ 0
@@ -74,6 +75,7 @@ fn write_in_two<K: Sink>(alloc: Global, text: &[u8], sink: &mut K) -> Status
     ensures write_fault { (written : ℕ) → result ≡ Status.WriteFault written → Rose (K.faults sink.old) (K.faults sink.new) }
     ensures silent { OnSilent result (sink.new ≡ sink.old) }
     ensures not_legal { (rule : ℕ) (actor : Actor) → result ≢ Status.NotLegal rule actor }
+    ensures causal { (actor : Actor) (entry : ℕ) → result ≢ Status.NotCausal actor entry }
     ensures bad_script { (line fault : ℕ) → result ≡ Status.BadScript line fault → script_in (parts.script_part text.now) ≡ Err (script_fault.Bad line fault) }
     ensures over_limit { (line limit : ℕ) → result ≡ Status.OverLimit line limit → (line ≢ 0) × (script_in (parts.script_part text.now) ≡ Err (script_fault.OverLimit line limit)) }
     ensures bad_log { (line : ℕ) → result ≡ Status.BadLog line → (log : List ℕ) × (parts.log_part text.now ≡ Some log) × IsBadLog (parts.script_part text.now) (Some log) line }

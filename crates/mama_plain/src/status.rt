@@ -27,9 +27,12 @@ pub enum Status {
     /// The script is accepted, and this is the first line behind it that does not fit. Lines are counted from the script's
     /// first.
     BadLog { line: u64 },
-    /// The log is not that of a legal run, as the verdict says that was written: the first rule that is broken, and the
-    /// first actor that breaks it.
+    /// The log is not that of a legal run: the first rule that is broken, and the first actor that breaks it. `check` wrote
+    /// its verdict, and `replay` nothing.
     NotLegal { rule: u8, actor: Actor },
+    /// The log is that of a legal run, and cannot be followed again on one thread: the first actor, in the order of the passes,
+    /// that has an entry left where no step can be made, and the number of that entry in its journal, from 1.
+    NotCausal { actor: Actor, entry: u32 },
     /// No memory was found.
     OutOfMemory,
 }
@@ -48,6 +51,7 @@ impl Status {
             Status::WriteFault { written: _ } => ExitCode::from(6),
             Status::BadLog { line: _ } => ExitCode::from(7),
             Status::NotLegal { rule: _, actor: _ } => ExitCode::from(1),
+            Status::NotCausal { actor: _, entry: _ } => ExitCode::from(10),
             Status::OutOfMemory => ExitCode::from(8),
         }
     }
@@ -67,6 +71,7 @@ impl fmt::Display for Status {
             Status::WriteFault { written: _ } => write!(f, "write fault"),
             Status::BadLog { line } => write!(f, "bad log, line {line}"),
             Status::NotLegal { rule: _, actor: _ } => write!(f, "not legal"),
+            Status::NotCausal { actor: _, entry: _ } => write!(f, "not causal"),
             Status::OutOfMemory => write!(f, "out of memory"),
         }
     }
@@ -81,6 +86,7 @@ pub(crate) fn script_status(fault: ScriptFault) -> Status
     ensures written { (written : ℕ) → result ≢ Status.WriteFault written }
     ensures log { (line : ℕ) → result ≢ Status.BadLog line }
     ensures legal { (rule : ℕ) (actor : Actor) → result ≢ Status.NotLegal rule actor }
+    ensures causal { (actor : Actor) (entry : ℕ) → result ≢ Status.NotCausal actor entry }
     ensures bad { (line number : ℕ) → result ≡ Status.BadScript line number → fault ≡ script.Bad line number }
     ensures over { (line limit : ℕ) → result ≡ Status.OverLimit line limit → (line ≢ 0) × (fault ≡ script.OverLimit line limit) }
 {

@@ -1,6 +1,6 @@
 //! Plays scripts of publishers, subscribers and link faults, on one thread or on many, and writes what every actor took and
-//! called back; judges whether such a log is that of a legal run; writes scripts and logs in version 2; writes the scripts of
-//! seeds, and plays and judges them at once.
+//! called back; judges whether such a log is that of a legal run, and follows it again on one thread; writes scripts and logs in
+//! version 2; writes the scripts of seeds, and plays and judges them at once.
 //!
 //! The program is [`run`] over standard input and output, the clock and an open gate; it tells on standard error how it ended,
 //! and by its exit status.
@@ -20,6 +20,7 @@ const HELP: &str = "usage: mama_run serial
        mama_run play W
        mama_run check
        mama_run rewrite
+       mama_run replay
        mama_run gen SEED
        mama_run soak SEED W
 
@@ -31,6 +32,8 @@ check      reads a script, a line that is just log, and a log from standard inpu
            'not legal L', the number of the first rule that is broken, and the first actor that breaks it
 rewrite    reads a script, or a script, a line that is just log, and a log, each of either version, and writes the same in
            version 2 to standard output
+replay     reads what check reads; where the log is that of a legal run and causal, follows it again on one thread, and writes
+           to standard output a line for each step, 'step', who makes it, and who put what it takes, and then the log
 gen        reads nothing, and writes to standard output the script of a seed, a decimal number from 0 to 2^64 - 1
 soak       plays the script of a seed on threads, as play does, judges its record, and writes what that counts: 'sends N',
            'subscriptions N', 'notices N', and 'legal'
@@ -47,6 +50,7 @@ exit status:
   6  a write failed
   7  the log does not fit its script's form of a log
   8  no memory was found
+ 10  the log cannot be followed again on one thread
 Each but 0 comes with one line on standard error.
 ";
 

@@ -1,6 +1,6 @@
 //! A morning of twenty instruments, made here: it is played on one thread and on many, and its logs are judged.
 
-use crate::words::{log_of, verdict_of};
+use crate::words::{log_of, replayed, verdict_of};
 use mama_edge::{OpenGate, print_u64};
 use mama_memory::OutOfMemory;
 use std::alloc::Global;
@@ -109,5 +109,15 @@ fn a_morning_is_played_and_its_logs_are_legal(rt: HostRuntime) -> Result<(), Fai
     assert!(rt; gaps_by(&rt, rt.alloc(), "serial")? == 5);
     gaps_by(&rt, rt.alloc(), "play 4")?;
     gaps_by(&rt, rt.alloc(), "play 8")?;
+    Ok(())
+}
+
+#[test]
+fn a_morning_on_one_thread_is_followed_again(rt: HostRuntime) -> Result<(), Fail> {
+    let script = morning(rt.alloc())?;
+    let log = log_of(&rt, rt.alloc(), "serial", &script, &OpenGate)?;
+    let again = replayed(&rt, rt.alloc(), &script, &log)?;
+    assert!(rt; again.as_slice().starts_with(b"step c0\n"));
+    assert!(rt; again.as_slice().ends_with(&log));
     Ok(())
 }

@@ -90,6 +90,20 @@ pub fn verdict_of<R: Threads + Wait + Copy + Sync>(
     }
 }
 
+/// What replay writes of a log that is followed again.
+pub fn replayed<R: Threads + Wait + Copy + Sync>(
+    rt: &R,
+    alloc: Global,
+    script: &[u8],
+    log: &[u8],
+) -> Result<Vec<u8>, Fail> {
+    let input = joined(alloc, script, log)?;
+    match answered(rt, alloc, "replay", input, &OpenGate)? {
+        (Status::Ok, out) => Ok(out),
+        _ => Err(Fail::new("not followed")),
+    }
+}
+
 // Whether a log is that of a legal and causal run.
 fn is_causal<R: Threads + Wait + Copy + Sync>(
     rt: &R,

@@ -8,6 +8,8 @@ mod damaged;
 #[cfg(test)]
 mod failing;
 #[cfg(test)]
+mod followed;
+#[cfg(test)]
 mod limits;
 #[cfg(test)]
 mod played;

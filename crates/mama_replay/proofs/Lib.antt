@@ -1,0 +1,17 @@
+pub mod Actors
+pub mod Ranking
+pub mod Counts
+pub mod Splits
+pub mod Stands
+pub mod Steps
+pub mod Dealing
+pub mod Totals
+pub mod Following
+pub mod FollowingOwn
+pub mod Passing
+pub mod Halting
+pub mod Ending
+pub mod Reordered
+pub mod Stopping
+pub mod Replays
+pub mod Needing

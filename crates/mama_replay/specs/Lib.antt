@@ -1,0 +1,5 @@
+pub mod Followed
+pub mod Passes
+pub mod Needs
+pub mod Ranks
+pub mod Dealt
