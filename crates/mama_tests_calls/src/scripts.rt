@@ -1,4 +1,4 @@
-//! Scripts, and a log.
+//! Scripts.
 
 /// A subscription of one publisher's updates.
 pub const FIRST: &str = r#"mama script 1
@@ -10,52 +10,6 @@ update 25:ask:u32:103
 update 22:bid:u32:102
 client
 sub 0 market 0 10 1000
-"#;
-
-/// Its log.
-pub const FIRST_LOG: &str = r#"mama log 1
-client 0
-publisher 0
-want s0.0 initial
-send
-send
-send
-done
-settle
-fin
-bridge
-c0 join s0.0
-p0 image s0.0 initial 1 0 22:bid:u32:100
-p0 publish update 1 1 22:bid:u32:101
-c0 done
-p0 publish update 1 2 25:ask:u32:103
-p0 publish update 1 3 22:bid:u32:102
-p0 done
-p0 settled
-q0 bye
-timers
-c0 done
-b fin
-q0 bye
-queue 0
-b create 0 s0.0
-b data 0 s0.0 initial 1 0 22:bid:u32:100
-b data 0 s0.0 update 1 1 22:bid:u32:101
-b data 0 s0.0 update 1 2 25:ask:u32:103
-b data 0 s0.0 update 1 3 22:bid:u32:102
-b gone 0 s0.0
-b fin
-t fin
-on s0.0
-create
-msg initial 1 0 ok 22:bid:u32:100
-msg update 1 1 ok 22:bid:u32:101
-msg update 1 2 ok 25:ask:u32:103
-msg update 1 3 ok 22:bid:u32:102
-destroy
-images
-s0.0 ok 1 3 22:bid:u32:102 25:ask:u32:103
-end
 "#;
 
 /// Two clients read the clock in turn, one of them with an object of each kind; a message is lost, and a reply repeated.
