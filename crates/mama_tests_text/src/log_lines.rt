@@ -13,7 +13,8 @@ use mama_words::Nums;
 use std::alloc::Global;
 use std::test::Fail;
 
-const SCRIPT: &str =
+/// A script with objects of each kind.
+pub const SCRIPT: &str =
     r#"mama script 1|queues 2|topic "A"|publisher 0 1:p:u32:5|update 1:p:u32:6|client|sub 0 market any 10 1000|timer any 50|client|inbox any|sub 0 basic 1 7 0|"#;
 
 fn names_of(alloc: Global) -> Result<Names, Fail> {

@@ -1,3 +1,4 @@
+use crate::log_lines::SCRIPT;
 use crate::rows::{numbered, text_of};
 use mama_log_read::{LogFault, parse_log};
 use mama_record::print_log;
@@ -5,54 +6,86 @@ use mama_script::{Script, parse};
 use std::alloc::Global;
 use std::test::Fail;
 
-const SCRIPT: &str =
-    r#"mama script 1|queues 1|topic "EQ.ABC"|publisher 0 22:bid:u32:100|update 22:bid:u32:101|update 25:ask:u32:103|update 22:bid:u32:102|client|sub 0 market 0 10 1000|"#;
-
-// The log of the worked script.
-const LOG: &str = "mama log 1
+// A log of the script, of no run, in which each kind of line stands once at least.
+const LOG: &str = r#"mama log 1
 client 0
+clock 10
+clock 18446744073709551615
+client 1
 publisher 0
 want s0.0 initial
 send
-send
-send
+want s1.0 recap
+ask i1.0 1 65535
 done
 settle
 fin
 bridge
-c0 join s0.0
-p0 image s0.0 initial 1 0 22:bid:u32:100
-p0 publish update 1 1 22:bid:u32:101
-c0 done
-p0 publish update 1 2 25:ask:u32:103
-p0 publish update 1 3 22:bid:u32:102
+c0 join s1.0
+c1 leave s0.0
+c1 open i1.0
+c0 ask i1.0 0 1
+c0 close i1.0
+c1 done
+p0 image s0.0 initial 1 0
+p0 publish update 1 1 1:p:u32:6
+p0 reply i1.0 1:p:u32:6 2:q:text:"a b"
 p0 done
 p0 settled
-q0 bye
+q0 recap s1.0 4294967295
+q0 ask i1.0 0 7 8
+q1 leave s1.0
+q1 close i1.0
+q1 bye
 timers
+c1 arm t0.0
+c1 disarm t0.0
+c0 now 7
 c0 done
 b fin
-q0 bye
+q0 disarm t0.0
+q1 bye
 queue 0
 b create 0 s0.0
-b data 0 s0.0 initial 1 0 22:bid:u32:100
-b data 0 s0.0 update 1 1 22:bid:u32:101
-b data 0 s0.0 update 1 2 25:ask:u32:103
-b data 0 s0.0 update 1 3 22:bid:u32:102
+b data 0 s0.0 update 1 1 1:p:u32:6
+b bad 0 s0.0 update 1 2 x0101090019
 b gone 0 s0.0
 b fin
+queue 1
+b create 4294967295 i1.0
+b reply 1 i1.0 1:p:u32:6
+b badreply 1 i1.0 x0141
+t create 0 t0.0
+t tick 0 t0.0 5
+t gone 0 t0.0
 t fin
 on s0.0
 create
-msg initial 1 0 ok 22:bid:u32:100
-msg update 1 1 ok 22:bid:u32:101
-msg update 1 2 ok 25:ask:u32:103
-msg update 1 3 ok 22:bid:u32:102
+msg initial 1 0 ok 1:p:u32:5
+gap 2 3
+quality stale 3
+request 1
+order stop s1.0
+order ask i1.0 0 1
+error 255
+destroy
+on s1.0
+on t0.0
+create
+tick 5
+order disarm t0.0
+destroy
+on i1.0
+create
+reply 1:p:u32:6
+order close i1.0
+error 1
 destroy
 images
-s0.0 ok 1 3 22:bid:u32:102 25:ask:u32:103
+s0.0 ok 1 4 22:bid:u32:102 25:ask:u32:104
+s1.0 stale 1 0
 end
-";
+"#;
 
 fn script_of(alloc: Global, row: &str) -> Result<Script, Fail> {
     Ok(parse(alloc, &text_of(alloc, row)?)?)
