@@ -1,6 +1,7 @@
 #!/bin/sh
 # Events per second over a lane, beside the same program over the plain queue that a lane is built on: one putter and
-# one taker, and two putters and one taker, each in a thread of its own. Both are run three times, in one process.
+# one taker, and two putters and one taker, each in a thread of its own; and takes alone, of events that all wait. All are
+# run three times, in one process.
 #
 # Usage: bench/lane.sh [EVENTS]   (how many events each putter puts; 1000000 if left out)
 #
@@ -9,7 +10,7 @@ set -eu
 events=${1:-1000000}
 . "$(dirname "$0")/scratch.sh"
 cp "$top/HANDLES" "$scratch/"
-new_program lane_bench 'lane_bench may_wait=7: mama_event mama_lane crossbeam_queue anyhow' \
+new_program lane_bench 'lane_bench may_wait=14: mama_event mama_lane crossbeam_queue anyhow' \
     mama_memory mama_journal mama_msg mama_payload mama_link mama_packet mama_event mama_lane
 mkdir "$bench/proofs/put_on_lane" "$bench/proofs/take_from_lane"
 cat > "$bench/proofs/put_on_lane/Invariants.antt" <<'PROOF'
@@ -39,10 +40,10 @@ ghost use Rattle.mama_lane.specs.Values.{new_port};
 use crossbeam_queue::SegQueue;
 use mama_event::{Bounds, OutOfMemory, Stream};
 use mama_lane::{Lane, Port, Taker, open_lane};
+use std::alloc::Global;
 use std::sync::Wait;
 use std::thread;
 use std::thread::Threads;
-use std::alloc::Global;
 use std::time::{Clock, Duration, Instant};
 
 const EVENTS: u64 = EVENTS_OF_EACH_PUTTER;
@@ -241,6 +242,31 @@ fn two_lane<R: Threads + Wait + Clock + Copy + Sync + Send>(
     Ok(Run { sum, took })
 }
 
+// All events are put before the first is taken. Only the takes are timed.
+fn waiting_lane<R: Threads + Wait + Clock + Copy + Sync + Send>(
+    rt: R,
+    alloc: Global,
+) -> anyhow::Result<Run> {
+    let (lane, mut ports, taker) = open_lane::<Tick, R>(rt, alloc, 1, BOUNDS)?;
+    put_on_lane(rt, &lane, ports.remove(0));
+    let start = Instant::now(&rt)?;
+    let sum = take_from_lane(rt, &lane, taker, EVENTS);
+    let took = start.elapsed(&rt)?;
+    Ok(Run { sum, took })
+}
+
+fn waiting_queue<R: Threads + Wait + Clock + Copy + Sync + Send>(
+    rt: R,
+    alloc: Global,
+) -> anyhow::Result<Run> {
+    let queue = SegQueue::new(alloc)?;
+    push_on_queue(rt, &queue);
+    let start = Instant::now(&rt)?;
+    let sum = pop_from_queue(rt, &queue, EVENTS);
+    let took = start.elapsed(&rt)?;
+    Ok(Run { sum, took })
+}
+
 fn plain_queue<R: Threads + Wait + Clock + Copy + Sync + Send>(
     rt: R,
     alloc: Global,
@@ -263,18 +289,18 @@ fn rate(count: u64, took: Duration) -> u128 {
 }
 
 // Both rates, and the lane's time in hundredths of the queue's.
-fn compare(
-    rt: &HostRuntime,
-    name: &str,
-    count: u64,
-    lane: Run,
-    queue: Run,
-) -> anyhow::Result<()> {
+fn compare(rt: &HostRuntime, name: &str, count: u64, lane: Run, queue: Run) -> anyhow::Result<()> {
     if lane.sum != queue.sum {
         return Err(anyhow::Error::msg("the sums differ"));
     }
     let ratio = lane.took.as_micros().saturating_mul(100) / queue.took.as_micros().max(1);
-    println!(rt; "{name}: {} events; lane {} a second, plain queue {} a second, time {} hundredths", count, rate(count, lane.took), rate(count, queue.took), ratio)?;
+    println!(rt;
+        "{name}: {} events; lane {} a second, plain queue {} a second, time {} hundredths",
+        count,
+        rate(count, lane.took),
+        rate(count, queue.took),
+        ratio
+    )?;
     Ok(())
 }
 
@@ -293,6 +319,13 @@ fn main(rt: HostRuntime) -> anyhow::Result<()> {
             2 * EVENTS,
             two_lane(rt, rt.alloc())?,
             plain_queue(rt, rt.alloc(), true)?,
+        )?;
+        compare(
+            &rt,
+            "all waiting",
+            EVENTS,
+            waiting_lane(rt, rt.alloc())?,
+            waiting_queue(rt, rt.alloc())?,
         )?;
     }
     Ok(())
