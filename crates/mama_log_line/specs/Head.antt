@@ -43,12 +43,14 @@ head_text heads.State = codes "state"
 head_text heads.Retry = codes "retry"
 head_text heads.Timeout = codes "timeout"
 
+-- all of them, and first those that most lines of a log begin with
 abbrev pub all_heads : List Head
 all_heads =
-    heads.Send ∷ heads.Done ∷ heads.Want ∷ heads.Ask ∷ heads.Settle ∷ heads.Fin ∷ heads.Join ∷ heads.Leave ∷
-    heads.Open ∷ heads.Close ∷ heads.Publish ∷ heads.Image ∷ heads.Reply ∷ heads.Recap ∷ heads.Settled ∷ heads.Bye ∷
-    heads.Arm ∷ heads.Disarm ∷ heads.Now ∷ heads.Create ∷ heads.Data ∷ heads.Bad ∷ heads.BadReply ∷ heads.Tick ∷ heads.Gone ∷ heads.Msg ∷
-    heads.Gap ∷ heads.Quality ∷ heads.Request ∷ heads.Late ∷ heads.Error ∷ heads.Destroy ∷ heads.Order ∷ heads.Clock ∷ heads.State ∷ heads.Retry ∷ heads.Timeout ∷ []
+    heads.Data ∷ heads.Msg ∷ heads.Publish ∷ heads.Send ∷ heads.Tick ∷ heads.Order ∷ heads.Done ∷ heads.Want ∷
+    heads.Ask ∷ heads.Settle ∷ heads.Fin ∷ heads.Join ∷ heads.Leave ∷ heads.Open ∷ heads.Close ∷ heads.Image ∷
+    heads.Reply ∷ heads.Recap ∷ heads.Settled ∷ heads.Bye ∷ heads.Arm ∷ heads.Disarm ∷ heads.Now ∷ heads.Create ∷
+    heads.Bad ∷ heads.BadReply ∷ heads.Gone ∷ heads.Gap ∷ heads.Quality ∷ heads.Request ∷ heads.Late ∷ heads.Error ∷
+    heads.Destroy ∷ heads.Clock ∷ heads.State ∷ heads.Retry ∷ heads.Timeout ∷ []
 
 -- what a word begins: the first head that has the word
 unfoldable pub head_in : List ℕ → Option Head

@@ -13,7 +13,7 @@ use crate::word::{
 };
 use mama_event::{BridgeNote, ObjectId};
 use mama_memory::{Duplicate, OutOfMemory};
-use mama_words::{ReadError, parted};
+use mama_words::{ReadError, parted_into};
 use std::alloc::Global;
 
 #[tactic(auto, unfolding(crate::specs::Journal::join_in))]
@@ -300,23 +300,29 @@ fn read_words(alloc: Global, names: &Names, words: &[&[u8]]) -> Result<(u32, Bri
 }
 
 #[tactic(auto, unfolding(crate::specs::Journal::bridge_line_in))]
-fn read_line(alloc: Global, names: &Names, line: &[u8]) -> Result<(u32, BridgeNote), ReadError>
+fn read_line<'a>(
+    alloc: Global,
+    names: &Names,
+    words: &mut Vec<&'a [u8]>,
+    line: &'a [u8],
+) -> Result<(u32, BridgeNote), ReadError>
     ensures { Gives (λ x. x) result (journals.bridge_line_in names.now line.now) }
 {
-    let words = parted(alloc, line)?;
-    read_words(alloc, names, &words)
+    parted_into(words, line)?;
+    read_words(alloc, names, words)
 }
 
 /// The entry of the bridge's journal that a line without its line feed spells, with its port. None where it spells none
 /// that the journal may have: the port is none of the lane, its actor puts no such note, or what the note names is not
 /// the script's.
-pub fn bridge_entry_in(
+pub fn bridge_entry_in<'a>(
     alloc: Global,
     names: &Names,
-    line: &[u8],
+    words: &mut Vec<&'a [u8]>,
+    line: &'a [u8],
 ) -> Result<Option<(u32, BridgeNote)>, OutOfMemory>
     ensures found { IfOk result (λ o. IfSome o (λ e. MayEnterBridge names.now e × (line.now ++ 10 ∷ [] ≡ bridge_entry_line names.now.shape e))) }
     ensures again { IfOk result (λ o. (e : ℕ × BridgeNote) → MayEnterBridge names.now e → line.now ++ 10 ∷ [] ≡ bridge_entry_line names.now.shape e → o ≡ Some e) }
 {
-    without_fault(read_line(alloc, names, line))
+    without_fault(read_line(alloc, names, words, line))
 }

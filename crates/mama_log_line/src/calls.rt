@@ -17,7 +17,7 @@ use crate::word::{
 use mama_event::{Callback, MarketMsg, ObjectId, Order};
 use mama_memory::OutOfMemory;
 use mama_words::{
-    Nums, OrderWord, ReadError, parted, read_below, read_msg_kind, read_order, read_quality,
+    Nums, OrderWord, ReadError, parted_into, read_below, read_msg_kind, read_order, read_quality,
 };
 use std::alloc::Global;
 
@@ -218,30 +218,32 @@ pub(crate) fn call_words(
 }
 
 #[tactic(auto, unfolding(crate::specs::Calls::call_line_in))]
-fn call_line(
+fn call_line<'a>(
     alloc: Global,
     nums: Nums,
     object: ObjectId,
-    line: &[u8],
+    words: &mut Vec<&'a [u8]>,
+    line: &'a [u8],
 ) -> Result<Callback, ReadError>
     ensures { Gives (λ x. x) result (calls.call_line_in nums object line.now) }
 {
-    let words = parted(alloc, line)?;
-    call_words(alloc, nums, object, &words)
+    parted_into(words, line)?;
+    call_words(alloc, nums, object, words)
 }
 
 /// The callback of an object that a line without its line feed spells. None where it spells none that an object of this
 /// kind hears.
-pub fn call_in(
+pub fn call_in<'a>(
     alloc: Global,
     nums: Nums,
     object: ObjectId,
-    line: &[u8],
+    words: &mut Vec<&'a [u8]>,
+    line: &'a [u8],
 ) -> Result<Option<Callback>, OutOfMemory>
     ensures found { IfOk result (λ o. IfSome o (λ c. MayHear nums object c × (line.now ++ 10 ∷ [] ≡ text.line (text.callback_text c)))) }
     ensures again { IfOk result (λ o. (c : Callback) → MayHear nums object c → line.now ++ 10 ∷ [] ≡ text.line (text.callback_text c) → o ≡ Some c) }
 {
-    without_fault(call_line(alloc, nums, object, line))
+    without_fault(call_line(alloc, nums, object, words, line))
 }
 
 // The order, if the script declares what it names.
@@ -296,18 +298,22 @@ fn order_words(names: &Names, words: &[&[u8]]) -> Result<Order, ReadError>
 }
 
 #[tactic(auto, unfolding(crate::specs::Calls::order_line_in))]
-fn order_line(alloc: Global, names: &Names, line: &[u8]) -> Result<Order, ReadError>
+fn order_line<'a>(
+    names: &Names,
+    words: &mut Vec<&'a [u8]>,
+    line: &'a [u8],
+) -> Result<Order, ReadError>
     ensures { Gives (λ x. x) result (calls.order_line_in names.now line.now) }
 {
-    let words = parted(alloc, line)?;
-    order_words(names, &words)
+    parted_into(words, line)?;
+    order_words(names, words)
 }
 
-// Whether a line can be that of an order. Lines of callbacks are told from those of orders by this byte.
-fn may_be_order(line: &[u8]) -> bool
-    ensures { result ≡ calls.begins_as_order line.now }
+/// Whether a text can begin as the line of an order does. By its first byte such a line is told from that of a callback.
+pub fn may_be_order(text: &[u8]) -> bool
+    ensures { result ≡ calls.begins_as_order text.now }
 {
-    match line {
+    match text {
         [] => false,
         [first, ..] => *first == b'o',
     }
@@ -315,10 +321,10 @@ fn may_be_order(line: &[u8]) -> bool
 
 /// The order that a line without its line feed spells. None where it spells none, or one that names what the script does
 /// not declare.
-pub fn order_line_in(
-    alloc: Global,
+pub fn order_line_in<'a>(
     names: &Names,
-    line: &[u8],
+    words: &mut Vec<&'a [u8]>,
+    line: &'a [u8],
 ) -> Result<Option<Order>, OutOfMemory>
     ensures found { IfOk result (λ o. IfSome o (λ order. MayOrder names.now order × (line.now ++ 10 ∷ [] ≡ text.order_line order))) }
     ensures again { IfOk result (λ o. (order : Order) → MayOrder names.now order → line.now ++ 10 ∷ [] ≡ text.order_line order → o ≡ Some order) }
@@ -326,7 +332,7 @@ pub fn order_line_in(
     if !may_be_order(line) {
         return Ok(None);
     }
-    without_fault(order_line(alloc, names, line))
+    without_fault(order_line(names, words, line))
 }
 
 fn clock_body(head: Head, words: &[&[u8]]) -> Result<u64, ReadError>
@@ -362,17 +368,17 @@ fn clock_words(words: &[&[u8]]) -> Result<u64, ReadError>
 }
 
 #[tactic(auto, unfolding(crate::specs::Calls::clock_line_in))]
-fn clock_line(alloc: Global, line: &[u8]) -> Result<u64, ReadError>
+fn clock_line<'a>(words: &mut Vec<&'a [u8]>, line: &'a [u8]) -> Result<u64, ReadError>
     ensures { Gives (λ x. x) result (calls.clock_line_in line.now) }
 {
-    let words = parted(alloc, line)?;
-    clock_words(&words)
+    parted_into(words, line)?;
+    clock_words(words)
 }
 
 /// The moment that a line without its line feed says a client read. None where it is no such line.
-pub fn clock_in(alloc: Global, line: &[u8]) -> Result<Option<u64>, OutOfMemory>
+pub fn clock_in<'a>(words: &mut Vec<&'a [u8]>, line: &'a [u8]) -> Result<Option<u64>, OutOfMemory>
     ensures found { IfOk result (λ o. IfSome o (λ moment. (moment < 2 ^ 64) × (line.now ++ 10 ∷ [] ≡ text.clock_line moment))) }
     ensures again { IfOk result (λ o. (moment : ℕ) → moment < 2 ^ 64 → line.now ++ 10 ∷ [] ≡ text.clock_line moment → o ≡ Some moment) }
 {
-    without_fault(clock_line(alloc, line))
+    without_fault(clock_line(words, line))
 }

@@ -45,8 +45,14 @@ pub enum Head {
 }
 
 impl Head {
+    // Those come first that most lines of a log begin with.
     const ALL: [Head; 37] = [
+        Head::Data,
+        Head::Msg,
+        Head::Publish,
         Head::Send,
+        Head::Tick,
+        Head::Order,
         Head::Done,
         Head::Want,
         Head::Ask,
@@ -56,7 +62,6 @@ impl Head {
         Head::Leave,
         Head::Open,
         Head::Close,
-        Head::Publish,
         Head::Image,
         Head::Reply,
         Head::Recap,
@@ -66,19 +71,15 @@ impl Head {
         Head::Disarm,
         Head::Now,
         Head::Create,
-        Head::Data,
         Head::Bad,
         Head::BadReply,
-        Head::Tick,
         Head::Gone,
-        Head::Msg,
         Head::Gap,
         Head::Quality,
         Head::Request,
         Head::Late,
         Head::Error,
         Head::Destroy,
-        Head::Order,
         Head::Clock,
         Head::State,
         Head::Retry,

@@ -13,7 +13,7 @@ use crate::word::{read_small, read_sub};
 use mama_event::{ImageHead, SubId};
 use mama_memory::OutOfMemory;
 use mama_msg::Msg;
-use mama_words::{ReadError, parted, read_message, read_quality};
+use mama_words::{ReadError, parted_into, read_message, read_quality};
 use std::alloc::Global;
 
 #[tactic(auto, unfolding(crate::specs::Calls::image_words_in))]
@@ -43,25 +43,27 @@ fn read_words(
 }
 
 #[tactic(auto, unfolding(crate::specs::Calls::image_line_in))]
-fn read_line(
+fn read_line<'a>(
     alloc: Global,
     names: &Names,
-    line: &[u8],
+    words: &mut Vec<&'a [u8]>,
+    line: &'a [u8],
 ) -> Result<(SubId, ImageHead, Msg), ReadError>
     ensures { Gives view.image_in result (calls.image_line_in names.now line.now) }
 {
-    let words = parted(alloc, line)?;
-    read_words(alloc, names, &words)
+    parted_into(words, line)?;
+    read_words(alloc, names, words)
 }
 
-fn image_of(
+fn image_of<'a>(
     alloc: Global,
     names: &Names,
-    line: &[u8],
+    words: &mut Vec<&'a [u8]>,
+    line: &'a [u8],
 ) -> Result<Option<(SubId, ImageHead, Msg)>, OutOfMemory>
     ensures { IfOk result (λ o. option_map view.image_in o ≡ told (calls.image_line_in names.now line.now)) }
 {
-    match read_line(alloc, names, line) {
+    match read_line(alloc, names, words, line) {
         Ok(image) => Ok(Some(image)),
         Err(ReadError::Fault(_)) => Ok(None),
         Err(ReadError::Memory) => Err(OutOfMemory),
@@ -70,13 +72,14 @@ fn image_of(
 
 /// The last image of a subscription that a line without its line feed spells. None where it spells none that a log may
 /// have.
-pub fn image_in(
+pub fn image_in<'a>(
     alloc: Global,
     names: &Names,
-    line: &[u8],
+    words: &mut Vec<&'a [u8]>,
+    line: &'a [u8],
 ) -> Result<Option<(SubId, ImageHead, Msg)>, OutOfMemory>
     ensures found { IfOk result (λ o. IfSome o (λ i. IsLastImage names.now (view.image_in i) × (line.now ++ 10 ∷ [] ≡ image_line (view.image_in i)))) }
     ensures again { IfOk result (λ o. (i : LastImage) → IsLastImage names.now i → line.now ++ 10 ∷ [] ≡ image_line i → option_map view.image_in o ≡ Some i) }
 {
-    image_of(alloc, names, line)
+    image_of(alloc, names, words, line)
 }

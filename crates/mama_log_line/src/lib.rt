@@ -6,7 +6,8 @@
 //! of a subscription, a timer or an inbox are not printed: they are those of the script's line with that id.
 //!
 //! Each reader of a line gives the entry that is spelled so, and none only where no entry that the log may have is:
-//! the clauses `found` and `again`. `specs/Journal.antt` and `specs/Calls.antt` have the reading word by word.
+//! the clauses `found` and `again`. `specs/Journal.antt` and `specs/Calls.antt` have the reading word by word. The words of a
+//! line are parted into a list that the caller keeps for many lines, whatever stands in it.
 #![tactic(auto)]
 
 mod bridge;
@@ -21,7 +22,7 @@ mod timers;
 mod word;
 
 pub use bridge::bridge_entry_in;
-pub use calls::{call_in, clock_in, order_line_in};
+pub use calls::{call_in, clock_in, may_be_order, order_line_in};
 pub use image::image_in;
 pub use lists::{group_note_in, watch_note_in};
 pub use mama_memory::OutOfMemory;

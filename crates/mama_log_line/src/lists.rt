@@ -12,7 +12,7 @@ use crate::names::Names;
 use crate::word::{read_moment, read_small, read_sub, without_fault};
 use mama_event::{GroupNote, ObjectId, WatchNote};
 use mama_memory::OutOfMemory;
-use mama_words::{ReadError, parted, read_group_state};
+use mama_words::{ReadError, parted_into, read_group_state};
 use std::alloc::Global;
 
 #[tactic(auto, unfolding(crate::specs::Lists::state_in))]
@@ -59,23 +59,29 @@ fn group_words(alloc: Global, names: &Names, words: &[&[u8]]) -> Result<GroupNot
 }
 
 #[tactic(auto, unfolding(crate::specs::Lists::group_line_in))]
-fn group_line(alloc: Global, names: &Names, line: &[u8]) -> Result<GroupNote, ReadError>
+fn group_line<'a>(
+    alloc: Global,
+    names: &Names,
+    words: &mut Vec<&'a [u8]>,
+    line: &'a [u8],
+) -> Result<GroupNote, ReadError>
     ensures { Gives (λ x. x) result (lists.group_line_in names.now line.now) }
 {
-    let words = parted(alloc, line)?;
-    group_words(alloc, names, &words)
+    parted_into(words, line)?;
+    group_words(alloc, names, words)
 }
 
 /// What a group heard, as a line without its line feed spells it. None where it spells nothing that a group may hear.
-pub fn group_note_in(
+pub fn group_note_in<'a>(
     alloc: Global,
     names: &Names,
-    line: &[u8],
+    words: &mut Vec<&'a [u8]>,
+    line: &'a [u8],
 ) -> Result<Option<GroupNote>, OutOfMemory>
     ensures found { IfOk result (λ o. IfSome o (λ n. MayHearGroup names.now n × (line.now ++ 10 ∷ [] ≡ text.group_note_line n))) }
     ensures again { IfOk result (λ o. (n : GroupNote) → MayHearGroup names.now n → line.now ++ 10 ∷ [] ≡ text.group_note_line n → o ≡ Some n) }
 {
-    without_fault(group_line(alloc, names, line))
+    without_fault(group_line(alloc, names, words, line))
 }
 
 #[tactic(auto, unfolding(crate::specs::Lists::retry_in))]
@@ -129,17 +135,20 @@ fn watch_words(words: &[&[u8]]) -> Result<WatchNote, ReadError>
 }
 
 #[tactic(auto, unfolding(crate::specs::Lists::watch_line_in))]
-fn watch_line(alloc: Global, line: &[u8]) -> Result<WatchNote, ReadError>
+fn watch_line<'a>(words: &mut Vec<&'a [u8]>, line: &'a [u8]) -> Result<WatchNote, ReadError>
     ensures { Gives (λ x. x) result (lists.watch_line_in line.now) }
 {
-    let words = parted(alloc, line)?;
-    watch_words(&words)
+    parted_into(words, line)?;
+    watch_words(words)
 }
 
 /// What a watch noted, as a line without its line feed spells it. None where it spells no such note.
-pub fn watch_note_in(alloc: Global, line: &[u8]) -> Result<Option<WatchNote>, OutOfMemory>
+pub fn watch_note_in<'a>(
+    words: &mut Vec<&'a [u8]>,
+    line: &'a [u8],
+) -> Result<Option<WatchNote>, OutOfMemory>
     ensures found { IfOk result (λ o. IfSome o (λ n. MayNote n × (line.now ++ 10 ∷ [] ≡ text.watch_note_line n))) }
     ensures again { IfOk result (λ o. (n : WatchNote) → MayNote n → line.now ++ 10 ∷ [] ≡ text.watch_note_line n → o ≡ Some n) }
 {
-    without_fault(watch_line(alloc, line))
+    without_fault(watch_line(words, line))
 }

@@ -10,8 +10,7 @@ use crate::names::Names;
 use crate::word::{alone, read_fids, read_inbox, read_sub, read_wanted};
 use mama_event::{PublisherEntry, PublisherNote};
 use mama_memory::OutOfMemory;
-use mama_words::{ReadError, parted};
-use std::alloc::Global;
+use mama_words::{ReadError, parted_into};
 
 #[tactic(auto, unfolding(crate::specs::Journal::want_in))]
 fn read_want(names: &Names, words: &[&[u8]]) -> Result<PublisherEntry, ReadError>
@@ -70,22 +69,26 @@ fn read_words(names: &Names, words: &[&[u8]]) -> Result<PublisherEntry, ReadErro
 }
 
 #[tactic(auto, unfolding(crate::specs::Journal::publisher_line_in))]
-fn read_line(alloc: Global, names: &Names, line: &[u8]) -> Result<PublisherEntry, ReadError>
+fn read_line<'a>(
+    names: &Names,
+    words: &mut Vec<&'a [u8]>,
+    line: &'a [u8],
+) -> Result<PublisherEntry, ReadError>
     ensures { Gives (λ x. x) result (journals.publisher_line_in names.now line.now) }
 {
-    let words = parted(alloc, line)?;
-    read_words(names, &words)
+    parted_into(words, line)?;
+    read_words(names, words)
 }
 
 // What was read, without the number of a fault. The checker does not carry `without_fault` over to this type.
-fn entry_of(
-    alloc: Global,
+fn entry_of<'a>(
     names: &Names,
-    line: &[u8],
+    words: &mut Vec<&'a [u8]>,
+    line: &'a [u8],
 ) -> Result<Option<PublisherEntry>, OutOfMemory>
     ensures { IfOk result (λ o. o ≡ journals.told (journals.publisher_line_in names.now line.now)) }
 {
-    match read_line(alloc, names, line) {
+    match read_line(names, words, line) {
         Ok(entry) => Ok(Some(entry)),
         Err(ReadError::Fault(_)) => Ok(None),
         Err(ReadError::Memory) => Err(OutOfMemory),
@@ -94,13 +97,13 @@ fn entry_of(
 
 /// The entry of a publisher's journal that a line without its line feed spells. None where it spells none that such a
 /// journal may have.
-pub fn publisher_entry_in(
-    alloc: Global,
+pub fn publisher_entry_in<'a>(
     names: &Names,
-    line: &[u8],
+    words: &mut Vec<&'a [u8]>,
+    line: &'a [u8],
 ) -> Result<Option<PublisherEntry>, OutOfMemory>
     ensures found { IfOk result (λ o. IfSome o (λ e. MayEnterPublisher names.now e × (line.now ++ 10 ∷ [] ≡ publisher_entry_line e))) }
     ensures again { IfOk result (λ o. (e : PublisherEntry) → MayEnterPublisher names.now e → line.now ++ 10 ∷ [] ≡ publisher_entry_line e → o ≡ Some e) }
 {
-    entry_of(alloc, names, line)
+    entry_of(names, words, line)
 }

@@ -14,7 +14,7 @@ use crate::word::{
 use mama_event::{ObjectId, Piece, PieceMsg, QueueNote};
 use mama_memory::OutOfMemory;
 use mama_payload::DecodeFault;
-use mama_words::{ReadError, parted, read_block, read_msg_kind};
+use mama_words::{ReadError, parted_into, read_block, read_msg_kind};
 use std::alloc::Global;
 
 #[tactic(auto, unfolding(crate::specs::Journal::created_in))]
@@ -287,22 +287,28 @@ fn read_words(alloc: Global, names: &Names, words: &[&[u8]]) -> Result<(u32, Que
 }
 
 #[tactic(auto, unfolding(crate::specs::Journal::queue_line_in))]
-fn read_line(alloc: Global, names: &Names, line: &[u8]) -> Result<(u32, QueueNote), ReadError>
+fn read_line<'a>(
+    alloc: Global,
+    names: &Names,
+    words: &mut Vec<&'a [u8]>,
+    line: &'a [u8],
+) -> Result<(u32, QueueNote), ReadError>
     ensures { Gives (λ x. x) result (journals.queue_line_in names.now line.now) }
 {
-    let words = parted(alloc, line)?;
-    read_words(alloc, names, &words)
+    parted_into(words, line)?;
+    read_words(alloc, names, words)
 }
 
 /// The entry of a queue's journal that a line without its line feed spells, with its port. None where it spells none
 /// that such a journal may have.
-pub fn queue_entry_in(
+pub fn queue_entry_in<'a>(
     alloc: Global,
     names: &Names,
-    line: &[u8],
+    words: &mut Vec<&'a [u8]>,
+    line: &'a [u8],
 ) -> Result<Option<(u32, QueueNote)>, OutOfMemory>
     ensures found { IfOk result (λ o. IfSome o (λ e. MayEnterQueue names.now e × (line.now ++ 10 ∷ [] ≡ queue_entry_line e))) }
     ensures again { IfOk result (λ o. (e : ℕ × QueueNote) → MayEnterQueue names.now e → line.now ++ 10 ∷ [] ≡ queue_entry_line e → o ≡ Some e) }
 {
-    without_fault(read_line(alloc, names, line))
+    without_fault(read_line(alloc, names, words, line))
 }

@@ -10,8 +10,7 @@ use crate::names::Names;
 use crate::word::{alone, port_of, read_moment, read_port, read_timer, without_fault};
 use mama_event::{ObjectId, TimersNote};
 use mama_memory::OutOfMemory;
-use mama_words::{ReadError, parted};
-use std::alloc::Global;
+use mama_words::{ReadError, parted_into};
 
 #[tactic(auto, unfolding(crate::specs::Journal::arm_in))]
 fn read_arm(names: &Names, words: &[&[u8]]) -> Result<TimersNote, ReadError>
@@ -201,22 +200,26 @@ fn read_words(names: &Names, words: &[&[u8]]) -> Result<(u32, TimersNote), ReadE
 }
 
 #[tactic(auto, unfolding(crate::specs::Journal::timers_line_in))]
-fn read_line(alloc: Global, names: &Names, line: &[u8]) -> Result<(u32, TimersNote), ReadError>
+fn read_line<'a>(
+    names: &Names,
+    words: &mut Vec<&'a [u8]>,
+    line: &'a [u8],
+) -> Result<(u32, TimersNote), ReadError>
     ensures { Gives (λ x. x) result (journals.timers_line_in names.now line.now) }
 {
-    let words = parted(alloc, line)?;
-    read_words(names, &words)
+    parted_into(words, line)?;
+    read_words(names, words)
 }
 
 /// The entry of the timer service's journal that a line without its line feed spells, with its port. None where it
 /// spells none that the journal may have.
-pub fn timers_entry_in(
-    alloc: Global,
+pub fn timers_entry_in<'a>(
     names: &Names,
-    line: &[u8],
+    words: &mut Vec<&'a [u8]>,
+    line: &'a [u8],
 ) -> Result<Option<(u32, TimersNote)>, OutOfMemory>
     ensures found { IfOk result (λ o. IfSome o (λ e. MayEnterTimers names.now e × (line.now ++ 10 ∷ [] ≡ timers_entry_line names.now.shape e))) }
     ensures again { IfOk result (λ o. (e : ℕ × TimersNote) → MayEnterTimers names.now e → line.now ++ 10 ∷ [] ≡ timers_entry_line names.now.shape e → o ≡ Some e) }
 {
-    without_fault(read_line(alloc, names, line))
+    without_fault(read_line(names, words, line))
 }

@@ -1,6 +1,7 @@
 pub mod Lines
 pub mod Spelled
 pub mod Taking
+pub mod Orders
 pub mod Whole
 pub mod Record
 pub mod NoHead

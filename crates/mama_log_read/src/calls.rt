@@ -7,20 +7,23 @@ ghost use Rattle.mama_log_read.specs.Part as part;
 ghost use Rattle.mama_log_read.specs.Reading as reading;
 
 use mama_event::{CallNote, Callback, ObjectId, Order, Orders};
-use mama_log_line::{Names, call_in, order_line_in};
+use mama_log_line::{Names, call_in, may_be_order, order_line_in};
 use mama_memory::OutOfMemory;
 use mama_words::cut_at;
 use std::alloc::Global;
 
 fn next_order<'a>(
-    alloc: Global,
     names: &Names,
+    words: &mut Vec<&'a [u8]>,
     text: &'a [u8],
 ) -> Result<Option<(Order, &'a [u8])>, OutOfMemory>
     ensures { IfOk result (λ o. reading.IsNext (MayOrder names.now) given_text text.now (option_map (λ next. (next.0, next.1.now)) o)) }
 {
+    if !may_be_order(text) {
+        return Ok(None);
+    }
     match cut_at(b'\n', text) {
-        Some((line, after)) => match order_line_in(alloc, names, line)? {
+        Some((line, after)) => match order_line_in(names, words, line)? {
             Some(order) => Ok(Some((order, after))),
             None => Ok(None),
         },
@@ -30,8 +33,8 @@ fn next_order<'a>(
 
 // The orders at the head of a text, of which one callback has at most 8.
 fn read_orders<'a>(
-    alloc: Global,
     names: &Names,
+    words: &mut Vec<&'a [u8]>,
     text: &'a [u8],
 ) -> Result<(Orders, &'a [u8]), OutOfMemory>
     ensures { IfOk result (λ read. reading.AreOrdersTaken names.now text.now read.0 read.1.now) }
@@ -39,7 +42,7 @@ fn read_orders<'a>(
     let mut orders = Orders::new();
     let mut rest = text;
     'orders: loop {
-        match next_order(alloc, names, rest) {
+        match next_order(names, words, rest) {
             Ok(Some((order, after))) => match orders.push(order) {
                 Ok(()) => rest = after,
                 Err(_) => return Ok((orders, rest)),
@@ -54,12 +57,13 @@ fn next_callback<'a>(
     alloc: Global,
     names: &Names,
     object: ObjectId,
+    words: &mut Vec<&'a [u8]>,
     text: &'a [u8],
 ) -> Result<Option<(Callback, &'a [u8])>, OutOfMemory>
     ensures { IfOk result (λ o. reading.IsNext (MayHear names.now.nums object) callback_text text.now (option_map (λ next. (next.0, next.1.now)) o)) }
 {
     match cut_at(b'\n', text) {
-        Some((line, after)) => match call_in(alloc, names.nums(), object, line)? {
+        Some((line, after)) => match call_in(alloc, names.nums(), object, words, line)? {
             Some(call) => Ok(Some((call, after))),
             None => Ok(None),
         },
@@ -71,13 +75,14 @@ fn next_call<'a>(
     alloc: Global,
     names: &Names,
     object: ObjectId,
+    words: &mut Vec<&'a [u8]>,
     text: &'a [u8],
 ) -> Result<Option<(CallNote, &'a [u8])>, OutOfMemory>
     ensures { IfOk result (λ o. reading.IsNextCall names.now object text.now (option_map (λ next. (next.0, next.1.now)) o)) }
 {
-    match next_callback(alloc, names, object, text)? {
+    match next_callback(alloc, names, object, words, text)? {
         Some((call, after)) => {
-            let (orders, rest) = read_orders(alloc, names, after)?;
+            let (orders, rest) = read_orders(names, words, after)?;
             Ok(Some((CallNote { call, orders }, rest)))
         }
         None => Ok(None),
@@ -94,8 +99,9 @@ pub fn read_calls<'a>(
     ensures { IfOk result (λ read. reading.AreCallsTaken names.now object text.now read.0.items read.1.now) }
 {
     let mut calls = Vec::new(alloc);
+    let mut words = Vec::new(alloc);
     let mut rest = text;
-    while let Some((call, after)) = next_call(alloc, names, object, rest)? {
+    while let Some((call, after)) = next_call(alloc, names, object, &mut words, rest)? {
         calls.push(call)?;
         rest = after;
     }

@@ -15,11 +15,14 @@ use mama_memory::OutOfMemory;
 use mama_words::cut_at;
 use std::alloc::Global;
 
-fn next_moment<'a>(alloc: Global, text: &'a [u8]) -> Result<Option<(u64, &'a [u8])>, OutOfMemory>
+fn next_moment<'a>(
+    words: &mut Vec<&'a [u8]>,
+    text: &'a [u8],
+) -> Result<Option<(u64, &'a [u8])>, OutOfMemory>
     ensures { IfOk result (λ o. reading.IsNext IsMoment clock_text text.now (option_map (λ next. (next.0, next.1.now)) o)) }
 {
     match cut_at(b'\n', text) {
-        Some((line, after)) => match clock_in(alloc, line)? {
+        Some((line, after)) => match clock_in(words, line)? {
             Some(entry) => Ok(Some((entry, after))),
             None => Ok(None),
         },
@@ -32,8 +35,9 @@ pub fn read_moments<'a>(alloc: Global, text: &'a [u8]) -> Result<(Vec<u64>, &'a 
     ensures { IfOk result (λ read. reading.AreTaken IsMoment clock_text text.now read.0.items read.1.now) }
 {
     let mut entries = Vec::new(alloc);
+    let mut words = Vec::new(alloc);
     let mut rest = text;
-    while let Some((entry, after)) = next_moment(alloc, rest)? {
+    while let Some((entry, after)) = next_moment(&mut words, rest)? {
         entries.push(entry)?;
         rest = after;
     }
@@ -41,14 +45,14 @@ pub fn read_moments<'a>(alloc: Global, text: &'a [u8]) -> Result<(Vec<u64>, &'a 
 }
 
 fn next_publisher_entry<'a>(
-    alloc: Global,
     names: &Names,
+    words: &mut Vec<&'a [u8]>,
     text: &'a [u8],
 ) -> Result<Option<(PublisherEntry, &'a [u8])>, OutOfMemory>
     ensures { IfOk result (λ o. reading.IsNext (MayEnterPublisher names.now) publisher_entry_text text.now (option_map (λ next. (next.0, next.1.now)) o)) }
 {
     match cut_at(b'\n', text) {
-        Some((line, after)) => match publisher_entry_in(alloc, names, line)? {
+        Some((line, after)) => match publisher_entry_in(names, words, line)? {
             Some(entry) => Ok(Some((entry, after))),
             None => Ok(None),
         },
@@ -65,9 +69,10 @@ pub fn read_publisher_entries<'a>(
     ensures { IfOk result (λ read. reading.AreTaken (MayEnterPublisher names.now) publisher_entry_text text.now read.0.items read.1.now) }
 {
     let mut entries = Vec::new(alloc);
+    let mut words = Vec::new(alloc);
     let mut rest = text;
     'entries: loop {
-        match next_publisher_entry(alloc, names, rest) {
+        match next_publisher_entry(names, &mut words, rest) {
             Ok(Some((entry, after))) => {
                 entries.push(entry)?;
                 rest = after;
@@ -81,12 +86,13 @@ pub fn read_publisher_entries<'a>(
 fn next_bridge_entry<'a>(
     alloc: Global,
     names: &Names,
+    words: &mut Vec<&'a [u8]>,
     text: &'a [u8],
 ) -> Result<Option<((u32, BridgeNote), &'a [u8])>, OutOfMemory>
     ensures { IfOk result (λ o. reading.IsNext (MayEnterBridge names.now) (bridge_entry_text names.now.shape) text.now (option_map (λ next. (next.0, next.1.now)) o)) }
 {
     match cut_at(b'\n', text) {
-        Some((line, after)) => match bridge_entry_in(alloc, names, line)? {
+        Some((line, after)) => match bridge_entry_in(alloc, names, words, line)? {
             Some(entry) => Ok(Some((entry, after))),
             None => Ok(None),
         },
@@ -103,8 +109,9 @@ pub fn read_bridge_entries<'a>(
     ensures { IfOk result (λ read. reading.AreTaken (MayEnterBridge names.now) (bridge_entry_text names.now.shape) text.now read.0.items read.1.now) }
 {
     let mut entries = Vec::new(alloc);
+    let mut words = Vec::new(alloc);
     let mut rest = text;
-    while let Some((entry, after)) = next_bridge_entry(alloc, names, rest)? {
+    while let Some((entry, after)) = next_bridge_entry(alloc, names, &mut words, rest)? {
         entries.push(entry)?;
         rest = after;
     }
@@ -112,14 +119,14 @@ pub fn read_bridge_entries<'a>(
 }
 
 fn next_timers_entry<'a>(
-    alloc: Global,
     names: &Names,
+    words: &mut Vec<&'a [u8]>,
     text: &'a [u8],
 ) -> Result<Option<((u32, TimersNote), &'a [u8])>, OutOfMemory>
     ensures { IfOk result (λ o. reading.IsNext (MayEnterTimers names.now) (timers_entry_text names.now.shape) text.now (option_map (λ next. (next.0, next.1.now)) o)) }
 {
     match cut_at(b'\n', text) {
-        Some((line, after)) => match timers_entry_in(alloc, names, line)? {
+        Some((line, after)) => match timers_entry_in(names, words, line)? {
             Some(entry) => Ok(Some((entry, after))),
             None => Ok(None),
         },
@@ -136,8 +143,9 @@ pub fn read_timers_entries<'a>(
     ensures { IfOk result (λ read. reading.AreTaken (MayEnterTimers names.now) (timers_entry_text names.now.shape) text.now read.0.items read.1.now) }
 {
     let mut entries = Vec::new(alloc);
+    let mut words = Vec::new(alloc);
     let mut rest = text;
-    while let Some((entry, after)) = next_timers_entry(alloc, names, rest)? {
+    while let Some((entry, after)) = next_timers_entry(names, &mut words, rest)? {
         entries.push(entry)?;
         rest = after;
     }
@@ -147,12 +155,13 @@ pub fn read_timers_entries<'a>(
 fn next_queue_entry<'a>(
     alloc: Global,
     names: &Names,
+    words: &mut Vec<&'a [u8]>,
     text: &'a [u8],
 ) -> Result<Option<((u32, QueueNote), &'a [u8])>, OutOfMemory>
     ensures { IfOk result (λ o. reading.IsNext (MayEnterQueue names.now) queue_entry_text text.now (option_map (λ next. (next.0, next.1.now)) o)) }
 {
     match cut_at(b'\n', text) {
-        Some((line, after)) => match queue_entry_in(alloc, names, line)? {
+        Some((line, after)) => match queue_entry_in(alloc, names, words, line)? {
             Some(entry) => Ok(Some((entry, after))),
             None => Ok(None),
         },
@@ -169,8 +178,9 @@ pub fn read_queue_entries<'a>(
     ensures { IfOk result (λ read. reading.AreTaken (MayEnterQueue names.now) queue_entry_text text.now read.0.items read.1.now) }
 {
     let mut entries = Vec::new(alloc);
+    let mut words = Vec::new(alloc);
     let mut rest = text;
-    while let Some((entry, after)) = next_queue_entry(alloc, names, rest)? {
+    while let Some((entry, after)) = next_queue_entry(alloc, names, &mut words, rest)? {
         entries.push(entry)?;
         rest = after;
     }
@@ -180,12 +190,13 @@ pub fn read_queue_entries<'a>(
 fn next_group_note<'a>(
     alloc: Global,
     names: &Names,
+    words: &mut Vec<&'a [u8]>,
     text: &'a [u8],
 ) -> Result<Option<(GroupNote, &'a [u8])>, OutOfMemory>
     ensures { IfOk result (λ o. reading.IsNext (MayHearGroup names.now) group_note_text text.now (option_map (λ next. (next.0, next.1.now)) o)) }
 {
     match cut_at(b'\n', text) {
-        Some((line, after)) => match group_note_in(alloc, names, line)? {
+        Some((line, after)) => match group_note_in(alloc, names, words, line)? {
             Some(entry) => Ok(Some((entry, after))),
             None => Ok(None),
         },
@@ -202,8 +213,9 @@ pub fn read_group_notes<'a>(
     ensures { IfOk result (λ read. reading.AreTaken (MayHearGroup names.now) group_note_text text.now read.0.items read.1.now) }
 {
     let mut entries = Vec::new(alloc);
+    let mut words = Vec::new(alloc);
     let mut rest = text;
-    while let Some((entry, after)) = next_group_note(alloc, names, rest)? {
+    while let Some((entry, after)) = next_group_note(alloc, names, &mut words, rest)? {
         entries.push(entry)?;
         rest = after;
     }
@@ -211,13 +223,13 @@ pub fn read_group_notes<'a>(
 }
 
 fn next_watch_note<'a>(
-    alloc: Global,
+    words: &mut Vec<&'a [u8]>,
     text: &'a [u8],
 ) -> Result<Option<(WatchNote, &'a [u8])>, OutOfMemory>
     ensures { IfOk result (λ o. reading.IsNext MayNote watch_note_text text.now (option_map (λ next. (next.0, next.1.now)) o)) }
 {
     match cut_at(b'\n', text) {
-        Some((line, after)) => match watch_note_in(alloc, line)? {
+        Some((line, after)) => match watch_note_in(words, line)? {
             Some(entry) => Ok(Some((entry, after))),
             None => Ok(None),
         },
@@ -233,8 +245,9 @@ pub fn read_watch_notes<'a>(
     ensures { IfOk result (λ read. reading.AreTaken MayNote watch_note_text text.now read.0.items read.1.now) }
 {
     let mut entries = Vec::new(alloc);
+    let mut words = Vec::new(alloc);
     let mut rest = text;
-    while let Some((entry, after)) = next_watch_note(alloc, rest)? {
+    while let Some((entry, after)) = next_watch_note(&mut words, rest)? {
         entries.push(entry)?;
         rest = after;
     }

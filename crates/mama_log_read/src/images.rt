@@ -40,12 +40,13 @@ fn next_image<'a, 'b>(
     alloc: Global,
     names: &Names,
     objects: &'b [ObjectId],
+    words: &mut Vec<&'a [u8]>,
     text: &'a [u8],
 ) -> Result<Option<((SubId, ImageHead, Msg), &'b [ObjectId], &'a [u8])>, OutOfMemory>
     ensures { IfOk result (λ o. reading.IsNextImage names.now objects.now text.now (option_map (λ next. (view.image_in next.0, next.1.now, next.2.now)) o)) }
 {
     match cut_at(b'\n', text) {
-        Some((line, after)) => match image_in(alloc, names, line)? {
+        Some((line, after)) => match image_in(alloc, names, words, line)? {
             Some(image) => match behind(objects, image.0) {
                 Some(left) => Ok(Some((image, left, after))),
                 None => Ok(None),
@@ -66,9 +67,10 @@ pub fn read_images<'a>(
     ensures { IfOk result (λ read. reading.AreImagesTaken names.now objects.now text.now (view.images_of read.0.items) read.1.now) }
 {
     let mut images = Vec::new(alloc);
+    let mut words = Vec::new(alloc);
     let mut left = objects;
     let mut rest = text;
-    while let Some((image, later, after)) = next_image(alloc, names, left, rest)? {
+    while let Some((image, later, after)) = next_image(alloc, names, left, &mut words, rest)? {
         images.push(image)?;
         left = later;
         rest = after;

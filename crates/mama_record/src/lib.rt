@@ -12,3 +12,4 @@ mod words;
 pub use log::print_log;
 pub use mama_memory::OutOfMemory;
 pub use record::RunRecord;
+pub use words::{put_bridge_putter, put_queue_putter, put_timers_putter};

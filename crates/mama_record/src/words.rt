@@ -43,7 +43,7 @@ pub fn put_msg(msg: &MarketMsg, out: &mut Vec<u8>) -> Result<(), OutOfMemory>
     print_fields(&msg.body, out)
 }
 
-/// Who puts by a port of the bridge's lane.
+/// Appends who puts by a port of the bridge's lane: a client, a publisher or a queue, and nothing where no one has the port.
 pub fn put_bridge_putter(shape: &Shape, port: u32, out: &mut Vec<u8>) -> Result<(), OutOfMemory>
     ensures { OnOk result (out.new.items ≡ out.old.items ++ text.putter_text (ports.bridge_putter shape.now port)) }
 {
@@ -68,7 +68,7 @@ pub fn put_bridge_putter(shape: &Shape, port: u32, out: &mut Vec<u8>) -> Result<
     Ok(())
 }
 
-/// Who puts by a port of the timers' lane.
+/// Appends who puts by a port of the timer service's lane: a client, a queue or the bridge, and nothing where no one has the port.
 pub fn put_timers_putter(shape: &Shape, port: u32, out: &mut Vec<u8>) -> Result<(), OutOfMemory>
     ensures { OnOk result (out.new.items ≡ out.old.items ++ text.putter_text (ports.timers_putter shape.now port)) }
 {
@@ -90,7 +90,7 @@ pub fn put_timers_putter(shape: &Shape, port: u32, out: &mut Vec<u8>) -> Result<
     Ok(())
 }
 
-/// Who puts by a port of a queue's lane.
+/// Appends who puts by a port of a queue's lane: the bridge or the timer service, and nothing where no one has the port.
 pub fn put_queue_putter(port: u32, out: &mut Vec<u8>) -> Result<(), OutOfMemory>
     ensures { OnOk result (out.new.items ≡ out.old.items ++ text.putter_text (ports.queue_putter port)) }
 {

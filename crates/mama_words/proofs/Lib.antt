@@ -1,5 +1,6 @@
 pub mod Choices
 pub mod Cuts
+pub mod OnePass
 pub mod Numbers
 pub mod Quotes
 pub mod Hex
@@ -9,6 +10,7 @@ pub mod Asked
 pub mod Distinct
 pub mod Spaced
 pub mod Cutting
+pub mod Fronts
 pub mod IdLaws
 pub mod Named
 pub mod KindLaws

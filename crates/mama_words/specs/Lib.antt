@@ -1,7 +1,7 @@
 pub mod Reading
 pub mod Answer
 pub mod Parting
-pub mod CutWord
+pub mod WithWord
 pub mod Sentence
 pub mod WordForm
 pub mod Number

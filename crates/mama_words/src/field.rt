@@ -1,9 +1,10 @@
-ghost use Rattle.std.specs.Prelude.{◌≡◌, ◌++◌, map, OnOk, OnErr};
+ghost use Rattle.std.specs.Prelude.{◌≡◌, ◌++◌, length, take, map, OnOk, OnErr};
 ghost use Rattle.mama_words.specs.Reading.{or_fault};
 ghost use Rattle.mama_words.specs.Answer.{Gives};
 ghost use Rattle.mama_words.specs.Field as fields;
 ghost use Rattle.mama_words.specs.Lower.{lower};
 
+use crate::appending::all_or_nothing;
 use crate::error::ReadError;
 use crate::number::read_below;
 use crate::nums::Nums;
@@ -88,7 +89,8 @@ pub fn read_message(alloc: Global, nums: Nums, words: &[&[u8]]) -> Result<Msg, R
 
 // Appends the spelling of a field.
 fn put_field(field: &Field, out: &mut Vec<u8>) -> Result<(), OutOfMemory>
-    ensures { OnOk result (out.new.items ≡ out.old.items ++ fields.field_text field.now) }
+    ensures ok { OnOk result (out.new.items ≡ out.old.items ++ fields.field_text field.now) }
+    ensures err { OnErr result (take (length out.old.items) out.new.items ≡ out.old.items) }
 {
     print_u64(u64::from(field.fid()), out)?;
     out.push(b':')?;
@@ -105,15 +107,15 @@ pub fn print_field(field: &Field, out: &mut Vec<u8>) -> Result<(), OutOfMemory>
     ensures ok { OnOk result (out.new.items ≡ out.old.items ++ fields.field_text field.now) }
     ensures err { OnErr result (out.new.items ≡ out.old.items) }
 {
-    let mut piece = Vec::new(*out.allocator());
-    put_field(field, &mut piece)?;
-    out.extend_from_slice(&piece)?;
-    Ok(())
+    let start = out.len();
+    let printed = put_field(field, out);
+    all_or_nothing(printed, start, out)
 }
 
 // Appends a space and the spelling of each field.
 fn put_fields(msg: &Msg, out: &mut Vec<u8>) -> Result<(), OutOfMemory>
-    ensures { OnOk result (out.new.items ≡ out.old.items ++ fields.fields_text msg.now) }
+    ensures ok { OnOk result (out.new.items ≡ out.old.items ++ fields.fields_text msg.now) }
+    ensures err { OnErr result (take (length out.old.items) out.new.items ≡ out.old.items) }
 {
     for i in 0..msg.len() {
         out.push(b' ')?;
@@ -127,8 +129,7 @@ pub fn print_fields(msg: &Msg, out: &mut Vec<u8>) -> Result<(), OutOfMemory>
     ensures ok { OnOk result (out.new.items ≡ out.old.items ++ fields.fields_text msg.now) }
     ensures err { OnErr result (out.new.items ≡ out.old.items) }
 {
-    let mut piece = Vec::new(*out.allocator());
-    put_fields(msg, &mut piece)?;
-    out.extend_from_slice(&piece)?;
-    Ok(())
+    let start = out.len();
+    let printed = put_fields(msg, out);
+    all_or_nothing(printed, start, out)
 }

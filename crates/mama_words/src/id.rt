@@ -1,6 +1,7 @@
-ghost use Rattle.std.specs.Prelude.{◌≡◌, ◌++◌, OnOk, OnErr};
+ghost use Rattle.std.specs.Prelude.{◌≡◌, ◌++◌, length, take, OnOk, OnErr};
 ghost use Rattle.std.specs.Option.{option_map, option_and_then};
 
+use crate::appending::all_or_nothing;
 use crate::number::read_number;
 use crate::parting::cut_at;
 use mama_edge::print_u64;
@@ -97,7 +98,8 @@ pub(crate) fn inbox_word(id: InboxId) -> IdWord
 
 // Appends the spelling of an id.
 pub(crate) fn put_id(letter: u8, id: IdWord, out: &mut Vec<u8>) -> Result<(), OutOfMemory>
-    ensures { OnOk result (out.new.items ≡ out.old.items ++ ids.id_text letter id) }
+    ensures ok { OnOk result (out.new.items ≡ out.old.items ++ ids.id_text letter id) }
+    ensures err { OnErr result (take (length out.old.items) out.new.items ≡ out.old.items) }
 {
     out.push(letter)?;
     print_u64(id.client, out)?;
@@ -110,10 +112,9 @@ fn print_id(letter: u8, id: IdWord, out: &mut Vec<u8>) -> Result<(), OutOfMemory
     ensures ok { OnOk result (out.new.items ≡ out.old.items ++ ids.id_text letter id) }
     ensures err { OnErr result (out.new.items ≡ out.old.items) }
 {
-    let mut piece = Vec::new(*out.allocator());
-    put_id(letter, id, &mut piece)?;
-    out.extend_from_slice(&piece)?;
-    Ok(())
+    let start = out.len();
+    let printed = put_id(letter, id, out);
+    all_or_nothing(printed, start, out)
 }
 
 /// Appends the id of a subscription. Where no memory is found, nothing is appended.

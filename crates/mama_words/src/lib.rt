@@ -15,6 +15,7 @@
 //! neither fid nor name, or fids that do not ascend.
 #![tactic(auto)]
 
+mod appending;
 mod error;
 mod field;
 mod id;
@@ -48,7 +49,7 @@ pub use mama_memory::OutOfMemory;
 pub use number::{read_below, read_between, read_int, read_number};
 pub use nums::Nums;
 pub use order::{OrderKind, OrderWord, print_order, read_order};
-pub use parting::{Place, cut_at, parted, words};
+pub use parting::{Place, cut_at, parted, parted_into};
 pub use quote::read_quoted_word;
 pub use value::{print_block, read_block, read_text, read_value, type_of};
 pub use value_type::ValueType;

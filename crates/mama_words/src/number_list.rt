@@ -1,5 +1,5 @@
 //! Lists of numbers: between brackets, with one comma between two.
-ghost use Rattle.std.specs.Prelude.{◌≡◌, ◌++◌, map, IfOk, OnOk};
+ghost use Rattle.std.specs.Prelude.{◌≡◌, ◌++◌, length, take, map, IfOk, OnOk, OnErr};
 ghost use Rattle.std.specs.Option.{option_map};
 ghost use Rattle.std.specs.List.{flat_map};
 ghost use Rattle.mama_words.specs.Reading.{or_fault};
@@ -83,7 +83,8 @@ pub(crate) fn read_numbers(alloc: Global, word: &[u8]) -> Result<NumbersValue, R
 }
 
 fn put_after_commas(numbers: &[i64], out: &mut Vec<u8>) -> Result<(), OutOfMemory>
-    ensures { OnOk result (out.new.items ≡ out.old.items ++ flat_map lists.after_comma numbers.now) }
+    ensures ok { OnOk result (out.new.items ≡ out.old.items ++ flat_map lists.after_comma numbers.now) }
+    ensures err { OnErr result (take (length out.old.items) out.new.items ≡ out.old.items) }
 {
     for number in numbers {
         out.push(b',')?;
@@ -93,7 +94,8 @@ fn put_after_commas(numbers: &[i64], out: &mut Vec<u8>) -> Result<(), OutOfMemor
 }
 
 fn put_list(numbers: &[i64], out: &mut Vec<u8>) -> Result<(), OutOfMemory>
-    ensures { OnOk result (out.new.items ≡ out.old.items ++ lists.with_commas numbers.now) }
+    ensures ok { OnOk result (out.new.items ≡ out.old.items ++ lists.with_commas numbers.now) }
+    ensures err { OnErr result (take (length out.old.items) out.new.items ≡ out.old.items) }
 {
     match numbers {
         [] => Ok(()),
@@ -105,7 +107,8 @@ fn put_list(numbers: &[i64], out: &mut Vec<u8>) -> Result<(), OutOfMemory>
 }
 
 pub(crate) fn put_numbers(value: &NumbersValue, out: &mut Vec<u8>) -> Result<(), OutOfMemory>
-    ensures { OnOk result (out.new.items ≡ out.old.items ++ lists.numbers_text value.now) }
+    ensures ok { OnOk result (out.new.items ≡ out.old.items ++ lists.numbers_text value.now) }
+    ensures err { OnErr result (take (length out.old.items) out.new.items ≡ out.old.items) }
 {
     out.push(b'[')?;
     put_list(value.numbers(), out)?;

@@ -3,6 +3,7 @@ ghost use Rattle.std.specs.Option.{option_map};
 ghost use Rattle.mama_words.specs.Reading.{or_fault};
 ghost use Rattle.mama_words.specs.Answer.{Gives};
 
+use crate::appending::all_or_nothing;
 use crate::error::ReadError;
 use crate::id::{
     IdWord, inbox_word, put_id, read_inbox_id, read_sub_id, read_timer_id, sub_word, timer_word,
@@ -127,7 +128,8 @@ pub fn read_order(words: &[&[u8]]) -> Result<OrderWord, ReadError>
 
 // Appends a space and the spelling of each fid.
 fn put_fids(fids: &Fids, out: &mut Vec<u8>) -> Result<(), OutOfMemory>
-    ensures { OnOk result (out.new.items ≡ out.old.items ++ flat_map orders.spaced_number fids.now) }
+    ensures ok { OnOk result (out.new.items ≡ out.old.items ++ flat_map orders.spaced_number fids.now) }
+    ensures err { OnErr result (take (length out.old.items) out.new.items ≡ out.old.items) }
 {
     for i in 0..fids.len() {
         out.push(b' ')?;
@@ -139,7 +141,8 @@ fn put_fids(fids: &Fids, out: &mut Vec<u8>) -> Result<(), OutOfMemory>
 ghost use Rattle.std.specs.List.{flat_map};
 
 fn put_ask(inbox: InboxId, topic: u32, fids: &Fids, out: &mut Vec<u8>) -> Result<(), OutOfMemory>
-    ensures { OnOk result (out.new.items ≡ out.old.items ++ orders.order_text (orders.ask_word inbox topic fids.now)) }
+    ensures ok { OnOk result (out.new.items ≡ out.old.items ++ orders.order_text (orders.ask_word inbox topic fids.now)) }
+    ensures err { OnErr result (take (length out.old.items) out.new.items ≡ out.old.items) }
 {
     out.extend_from_slice(b"ask ")?;
     put_id(b'i', inbox_word(inbox), out)?;
@@ -150,7 +153,8 @@ fn put_ask(inbox: InboxId, topic: u32, fids: &Fids, out: &mut Vec<u8>) -> Result
 }
 
 fn put_named(head: &[u8], letter: u8, id: IdWord, out: &mut Vec<u8>) -> Result<(), OutOfMemory>
-    ensures { OnOk result (out.new.items ≡ out.old.items ++ (head.now ++ id_text letter id)) }
+    ensures ok { OnOk result (out.new.items ≡ out.old.items ++ (head.now ++ id_text letter id)) }
+    ensures err { OnErr result (take (length out.old.items) out.new.items ≡ out.old.items) }
 {
     out.extend_from_slice(head)?;
     put_id(letter, id, out)?;
@@ -161,7 +165,8 @@ ghost use Rattle.mama_words.specs.Id.{id_text};
 
 // Appends the spelling of an order.
 fn put_order(order: &Order, out: &mut Vec<u8>) -> Result<(), OutOfMemory>
-    ensures { OnOk result (out.new.items ≡ out.old.items ++ orders.order_text (orders.word_of order.now)) }
+    ensures ok { OnOk result (out.new.items ≡ out.old.items ++ orders.order_text (orders.word_of order.now)) }
+    ensures err { OnErr result (take (length out.old.items) out.new.items ≡ out.old.items) }
 {
     match order {
         Order::Stop(id) => put_named(b"stop ", b's', sub_word(*id), out),
@@ -176,8 +181,7 @@ pub fn print_order(order: &Order, out: &mut Vec<u8>) -> Result<(), OutOfMemory>
     ensures ok { OnOk result (out.new.items ≡ out.old.items ++ orders.order_text (orders.word_of order.now)) }
     ensures err { OnErr result (out.new.items ≡ out.old.items) }
 {
-    let mut piece = Vec::new(*out.allocator());
-    put_order(order, &mut piece)?;
-    out.extend_from_slice(&piece)?;
-    Ok(())
+    let start = out.len();
+    let printed = put_order(order, out);
+    all_or_nothing(printed, start, out)
 }

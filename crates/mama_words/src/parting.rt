@@ -1,13 +1,11 @@
-ghost use Rattle.std.specs.Prelude.{◌≡◌, ◌&&◌, map, not, IfOk};
+ghost use Rattle.std.specs.Prelude.{◌≡◌, map};
 ghost use Rattle.std.specs.Option.{option_map};
-ghost use Rattle.std.specs.List.{list_all, list_any};
 ghost use Rattle.mama_words.specs.Reading.{or_fault};
 ghost use Rattle.mama_words.specs.Answer.{Gives};
 ghost use Rattle.mama_words.specs.Parting as parts;
-ghost use Rattle.mama_words.specs.CutWord.{cut_word};
+ghost use Rattle.mama_words.specs.WithWord.{with_word};
 
 use crate::error::ReadError;
-use mama_memory::OutOfMemory;
 use std::alloc::Global;
 
 /// Where a byte of a line stands.
@@ -77,79 +75,55 @@ pub fn cut_at(byte: u8, text: &[u8]) -> Option<(&[u8], &[u8])>
     None
 }
 
-// The first word of a line, and what stands after the space behind it. `None` where all of it is one word.
-fn cut_word(line: &[u8]) -> Option<(&[u8], &[u8])>
-    ensures { option_map (λ x. (x.0.now, x.1.now)) result ≡ cut_word Place.Outside line.now }
-{
-    let mut place = Place::Outside;
-    for (i, b) in line.iter().enumerate() {
-        if place.is_gap(*b) {
-            return Some((&line[..i], &line[i + 1..]));
-        }
-        place = place.next(*b);
-    }
-    None
-}
-
-/// The words of a line: what stands between its spaces, where a space inside quotes does not count.
-pub fn words(alloc: Global, line: &[u8]) -> Result<Vec<&[u8]>, OutOfMemory>
-    ensures { IfOk result (λ v. map (λ w. w.now) v.items ≡ parts.words line.now) }
-{
-    let mut found = Vec::new(alloc);
-    let mut rest = line;
-    while let Some((word, after)) = cut_word(rest) {
-        found.push(word)?;
-        rest = after;
-    }
-    found.push(rest)?;
-    Ok(found)
-}
-
 fn is_plain(byte: u8) -> bool
     ensures { result ≡ parts.is_plain byte }
 {
     32 <= byte && byte <= 126
 }
 
-fn is_all_plain(line: &[u8]) -> bool
-    ensures { result ≡ list_all parts.is_plain line.now }
+// One word more. Fault 2 where it is empty.
+fn push_word<'a>(found: &mut Vec<&'a [u8]>, word: &'a [u8]) -> Result<(), ReadError>
+    ensures { Gives (λ _. map (λ w. w.now) found.new.items) result (or_fault 2 (with_word (map (λ w. w.now) found.old.items) word.now)) }
 {
-    line.iter().all(|b| is_plain(*b))
+    if word.is_empty() {
+        return Err(ReadError::Fault(2));
+    }
+    found.push(word)?;
+    Ok(())
 }
 
-// The place behind the line.
-fn place_after(line: &[u8]) -> Place
-    ensures { result ≡ parts.place_after Place.Outside line.now }
+/// The words of a line, as [`parted`] gives them, in place of what the list held. A reader of many lines keeps one list
+/// for all of them. After an error the list has some of the words.
+pub fn parted_into<'a>(found: &mut Vec<&'a [u8]>, line: &'a [u8]) -> Result<(), ReadError>
+    ensures { Gives (λ _. map (λ w. w.now) found.new.items) result (or_fault 2 (parts.parted_in line.now)) }
 {
+    found.clear();
     let mut place = Place::Outside;
-    for b in line {
-        place = place.next(*b);
-    }
-    place
-}
-
-fn has_empty(found: &[&[u8]]) -> bool
-    ensures { result ≡ list_any parts.is_empty_word (map (λ w. w.now) found.now) }
-{
-    for w in found {
-        if w.is_empty() {
-            return true;
+    let mut start = 0;
+    for (i, byte) in line.iter().enumerate() {
+        if !is_plain(*byte) {
+            return Err(ReadError::Fault(2));
         }
+        if place.is_gap(*byte) {
+            push_word(found, &line[start..i])?;
+            start = i + 1;
+            continue;
+        }
+        place = place.next(*byte);
     }
-    false
+    if !place.is_outside() {
+        return Err(ReadError::Fault(2));
+    }
+    push_word(found, &line[start..])
 }
 
-/// The words of a line without its line feed. Fault 2 where it has a byte outside 0x20 to 0x7e, a quote that is not
-/// closed, or a word that is empty, as before a space at its front, after one at its end, and between two.
+/// The words of a line without its line feed: what stands between its spaces, where a space inside quotes does not
+/// count. Fault 2 where it has a byte outside 0x20 to 0x7e, a quote that is not closed, or a word that is empty, as
+/// before a space at its front, after one at its end, and between two.
 pub fn parted(alloc: Global, line: &[u8]) -> Result<Vec<&[u8]>, ReadError>
     ensures { Gives (λ v. map (λ w. w.now) v.items) result (or_fault 2 (parts.parted_in line.now)) }
 {
-    if !is_all_plain(line) || !place_after(line).is_outside() {
-        return Err(ReadError::Fault(2));
-    }
-    let found = words(alloc, line)?;
-    if has_empty(&found) {
-        return Err(ReadError::Fault(2));
-    }
+    let mut found = Vec::new(alloc);
+    parted_into(&mut found, line)?;
     Ok(found)
 }

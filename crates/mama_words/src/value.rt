@@ -1,4 +1,4 @@
-ghost use Rattle.std.specs.Prelude.{◌≡◌, ◌^◌, ◌++◌, length, Some, IfOk, OnOk, OnErr};
+ghost use Rattle.std.specs.Prelude.{◌≡◌, ◌^◌, ◌++◌, length, take, Some, IfOk, OnOk, OnErr};
 ghost use Rattle.std.specs.Option.{option_map, option_and_then};
 ghost use Rattle.mama_words.specs.Reading.{or_fault};
 ghost use Rattle.mama_words.specs.Answer.{Gives};
@@ -6,6 +6,7 @@ ghost use Rattle.mama_words.specs.Parting as parts;
 ghost use Rattle.mama_words.specs.Number as numbers;
 ghost use Rattle.mama_words.specs.Value as values;
 
+use crate::appending::all_or_nothing;
 use crate::error::ReadError;
 use crate::number::{read_below, read_int, read_number};
 use crate::number_list::{put_numbers, read_numbers};
@@ -238,7 +239,8 @@ ghost use Rattle.std.specs.Prelude.{◌<◌, false};
 ghost use Rattle.std.specs.Fmt.{digit_glyph};
 
 fn put_hex(bytes: &[u8], out: &mut Vec<u8>) -> Result<(), OutOfMemory>
-    ensures { OnOk result (out.new.items ≡ out.old.items ++ flat_map values.hex_pair bytes.now) }
+    ensures ok { OnOk result (out.new.items ≡ out.old.items ++ flat_map values.hex_pair bytes.now) }
+    ensures err { OnErr result (take (length out.old.items) out.new.items ≡ out.old.items) }
 {
     for byte in bytes {
         out.push(hex_digit(*byte / 16))?;
@@ -250,7 +252,8 @@ fn put_hex(bytes: &[u8], out: &mut Vec<u8>) -> Result<(), OutOfMemory>
 ghost use Rattle.std.specs.List.{flat_map};
 
 fn put_bool(value: bool, out: &mut Vec<u8>) -> Result<(), OutOfMemory>
-    ensures { OnOk result (out.new.items ≡ out.old.items ++ values.bool_text value) }
+    ensures ok { OnOk result (out.new.items ≡ out.old.items ++ values.bool_text value) }
+    ensures err { OnErr result (take (length out.old.items) out.new.items ≡ out.old.items) }
 {
     if value {
         out.extend_from_slice(b"true")?;
@@ -261,7 +264,8 @@ fn put_bool(value: bool, out: &mut Vec<u8>) -> Result<(), OutOfMemory>
 }
 
 fn put_block(bytes: &[u8], out: &mut Vec<u8>) -> Result<(), OutOfMemory>
-    ensures { OnOk result (out.new.items ≡ out.old.items ++ values.bytes_text bytes.now) }
+    ensures ok { OnOk result (out.new.items ≡ out.old.items ++ values.bytes_text bytes.now) }
+    ensures err { OnErr result (take (length out.old.items) out.new.items ≡ out.old.items) }
 {
     out.push(b'x')?;
     put_hex(bytes, out)
@@ -272,20 +276,21 @@ pub fn print_block(bytes: &[u8], out: &mut Vec<u8>) -> Result<(), OutOfMemory>
     ensures ok { OnOk result (out.new.items ≡ out.old.items ++ values.bytes_text bytes.now) }
     ensures err { OnErr result (out.new.items ≡ out.old.items) }
 {
-    let mut piece = Vec::new(*out.allocator());
-    put_block(bytes, &mut piece)?;
-    out.extend_from_slice(&piece)?;
-    Ok(())
+    let start = out.len();
+    let printed = put_block(bytes, out);
+    all_or_nothing(printed, start, out)
 }
 
 fn put_bytes(value: &BytesValue, out: &mut Vec<u8>) -> Result<(), OutOfMemory>
-    ensures { OnOk result (out.new.items ≡ out.old.items ++ values.bytes_text value.now) }
+    ensures ok { OnOk result (out.new.items ≡ out.old.items ++ values.bytes_text value.now) }
+    ensures err { OnErr result (take (length out.old.items) out.new.items ≡ out.old.items) }
 {
     put_block(value.bytes(), out)
 }
 
 fn put_price(value: &Price, out: &mut Vec<u8>) -> Result<(), OutOfMemory>
-    ensures { OnOk result (out.new.items ≡ out.old.items ++ values.price_text value.now) }
+    ensures ok { OnOk result (out.new.items ≡ out.old.items ++ values.price_text value.now) }
+    ensures err { OnErr result (take (length out.old.items) out.new.items ≡ out.old.items) }
 {
     print_i64(value.mantissa(), out)?;
     out.push(b'/')?;
@@ -294,7 +299,8 @@ fn put_price(value: &Price, out: &mut Vec<u8>) -> Result<(), OutOfMemory>
 
 // Appends the spelling of a value.
 pub(crate) fn put_value(value: &Value, out: &mut Vec<u8>) -> Result<(), OutOfMemory>
-    ensures { OnOk result (out.new.items ≡ out.old.items ++ values.value_text value.now) }
+    ensures ok { OnOk result (out.new.items ≡ out.old.items ++ values.value_text value.now) }
+    ensures err { OnErr result (take (length out.old.items) out.new.items ≡ out.old.items) }
 {
     match value {
         Value::Bool(b) => put_bool(*b, out),

@@ -1,4 +1,4 @@
-ghost use Rattle.std.specs.Prelude.{◌≡◌, ◌++◌, OnOk};
+ghost use Rattle.std.specs.Prelude.{◌≡◌, ◌++◌, length, take, OnOk, OnErr};
 
 use crate::nums::Nums;
 use mama_memory::OutOfMemory;
@@ -114,7 +114,8 @@ pub(crate) fn read_type(nums: Nums, word: &[u8]) -> Option<ValueType>
 
 // Appends the word for a type.
 pub(crate) fn put_type(kind: ValueType, out: &mut Vec<u8>) -> Result<(), OutOfMemory>
-    ensures { OnOk result (out.new.items ≡ out.old.items ++ type_text kind) }
+    ensures ok { OnOk result (out.new.items ≡ out.old.items ++ type_text kind) }
+    ensures err { OnErr result (take (length out.old.items) out.new.items ≡ out.old.items) }
 {
     Ok(out.extend_from_slice(kind.text())?)
 }

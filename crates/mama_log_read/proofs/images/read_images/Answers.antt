@@ -4,7 +4,7 @@ use Rattle.mama_record.specs.RunView.{image_in, images_of}
 use Rattle.mama_log_read.proofs.Taking.{image_more}
 use Rattle.mama_log_read.proofs.images.read_images.Goals as goal
 
-pub loop-images-preserved : goal.loop-images-preserved
-loop-images-preserved c =
-    image_more c.args.names.now c.args.objects.now c.args.text.now (images_of c.loop-images.images.items) (images_of c.push.new.self.items) c.loop-images.left.now c.in-Some.later.now (image_in c.in-Some.image) c.loop-images.rest.now c.in-Some.after.now
-    c.loop-images.invariant (rw c.in-Some.is at c.in_ok-image.ensures) (ap images_of c.in_ok-push.ensures.items ∙ map_push image_in c.loop-images.images.items c.in-Some.image)
+pub loop-words-preserved : goal.loop-words-preserved
+loop-words-preserved c =
+    image_more c.args.names.now c.args.objects.now c.args.text.now (images_of c.loop-words.images.items) (images_of c.push.new.self.items) c.loop-words.left.now c.in-Some.later.now (image_in c.in-Some.image) c.loop-words.rest.now c.in-Some.after.now
+    c.loop-words.invariant (rw c.in-Some.is at c.in_ok-image.ensures) (ap images_of c.in_ok-push.ensures.items ∙ map_push image_in c.loop-words.images.items c.in-Some.image)
