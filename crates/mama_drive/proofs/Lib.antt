@@ -3,6 +3,7 @@ pub mod SceneLemmas
 pub mod HeldLemmas
 pub mod SeatLemmas
 pub mod ServerLemmas
+pub mod MarkLemmas
 pub mod SystemLemmas
 pub mod TurnLemmas
 pub mod StageLemmas

@@ -7,7 +7,7 @@ use Rattle.mama_event.specs.declared.to_bridge.BridgeNote.{BridgeNote}
 use Rattle.mama_event.specs.declared.to_timers.TimersNote.{TimersNote}
 use Rattle.mama_event.specs.declared.to_publisher.PublisherNote.{PublisherNote}
 use Rattle.mama_event.specs.declared.to_queue.QueueNote.{QueueNote}
-use Rattle.mama_seats.specs.Sender.{Sender}
+use Rattle.mama_seats.specs.Sender.{Sender, taken}
 use Rattle.mama_seats.specs.Server.{Server, served, all_told}
 use Rattle.mama_drive.specs.Seat.{ServiceSeat}
 use Rattle.mama_drive.specs.Scene.{Scene}
@@ -71,9 +71,6 @@ turn_kept x y is =
 pub told_kept : (x y : Server) → y ≡ all_told x → IsSeatOf x y
 told_kept x y is = record { objects = ap (λ (s : Server). s.objects) is; groups = ap (λ (s : Server). s.groups) is; watches = ap (λ (s : Server). s.watches) is }
 
-pub same_seat : (x y : Server) → y ≡ x → IsSeatOf x y
-same_seat x y is = record { objects = ap (λ (s : Server). s.objects) is; groups = ap (λ (s : Server). s.groups) is; watches = ap (λ (s : Server). s.watches) is }
-
 -- groups that were told all still were
 pub told_still : {T E : Type 0} → (r : Result T E) (x y : Server) → OnOk r (y ≡ all_told x) → OnErr r (y ≡ x) → x.heard ≡ x.journal → y.heard ≡ y.journal
 told_still (Ok v) x y ok err here = ap (λ (s : Server). s.heard) ok ∙ sym (ap (λ (s : Server). s.journal) ok)
@@ -118,3 +115,10 @@ timers_laid s old x y e is journal here changed =
     ∙ ap (λ j. record s { timers = j; to_timers = x.lane ++ e ∷ [] }) journal
     ∙ ap (λ l. record s { to_timers = l ++ e ∷ [] }) here
     ∙ ap (λ (o : Scene). record o { to_timers = o.to_timers ++ e ∷ [] }) is
+
+-- where nothing waits, nothing waits after a turn
+pub taken_stays : (x y : Sender) → y ≡ taken x x.lane → x.lane ≡ [] → y.lane ≡ []
+taken_stays x y is none = ap (λ (s : Sender). s.lane) is ∙ ap (λ (l : List PublisherNote). (taken x l).lane) none ∙ none
+
+pub served_stays : (x y : Server) → all_told y ≡ all_told (served x x.lane) → x.lane ≡ [] → y.lane ≡ []
+served_stays x y is none = ap (λ (s : Server). s.lane) is ∙ ap (λ (l : List (ℕ × QueueNote)). (served x l).lane) none ∙ none

@@ -1,29 +1,27 @@
 -- What a system keeps where a seat or a mark changes.
-use Rattle.std.proofs.Common.{◌≡◌, ℕ, suc, ◌^◌, ◌<◌, Bool, true, false, not, List, [], ◌∷◌, map, length, get_or, refl, sym, ◌∙◌, ap, arith}
-use Rattle.std.specs.List.{list_all}
+use Rattle.std.proofs.Common.{◌≡◌, ℕ, zero, suc, ◌^◌, ◌<◌, Bool, true, false, List, [], ◌∷◌, map, length, get_or, refl, sym, ◌∙◌, ap, subst, arith}
+use Rattle.std.specs.BTreeSet.{BTreeSet}
 use Rattle.std.proofs.Math.ListN.{set}
 use Rattle.std.proofs.lemmas.List.{length-set, length-map, set-get_or, get_or-map}
-use Rattle.std.proofs.lemmas.List.Folds.{list_all-map}
 use Rattle.std.proofs.Math.Seq.{map-set_same}
 use Rattle.mama_journal.specs.Journal.{numbers_below}
 use Rattle.mama_event.specs.declared.shape.Shape.{Shape}
 use Rattle.mama_event.specs.declared.to_queue.QueueNote.{QueueNote}
 use Rattle.mama_event.specs.declared.group.GroupRow.{GroupRow}
 use Rattle.mama_event.specs.declared.watch.WatchRow.{WatchRow}
+use Rattle.mama_script.specs.declared.publisher.PublisherPart.{PublisherPart}
 use Rattle.mama_plans.specs.Lists.{groups_on, watches_on, groups_on_each, watches_on_each}
 use Rattle.mama_plans.proofs.EachLemmas.{numbers_len}
 use Rattle.mama_rules_rounds.specs.Client.{Planned}
-use Rattle.mama_rules_rounds.specs.World.{Grouped, Watched, is_empty}
+use Rattle.mama_rules_rounds.specs.World.{Grouped, Watched}
 use Rattle.mama_seats.specs.Server.{Server}
 use Rattle.mama_seats.specs.Stand.{Stand}
 use Rattle.mama_seats.specs.Sender.{Sender}
 use Rattle.mama_event.specs.Ports.{clients_of, publishers_of, queues_of, bridge_ports}
-use Rattle.mama_drive.specs.Start.{new_servers}
+use Rattle.mama_drive.specs.Start.{senders_from, new_servers}
+use Rattle.mama_drive.specs.Marks.{AreMarked, KeepsMarks}
+use Rattle.mama_drive.proofs.MarkLemmas.{marked_same}
 use Rattle.mama_drive.specs.Scene.{Scene, lane_in, waiting_in, journal_in, heard_in, objects_in, groups_in, watches_in, IsSystem}
-
-unnot : (b : Bool) → not b ≡ false → b ≡ true
-unnot true e = refl
-unnot false e = cc
 
 -- the groups of one queue were told all
 pub told_at : (servers : List Server) (q : ℕ) (x : Server) → q < length servers → x ≡ get_or servers q x → map heard_in servers ≡ map journal_in servers → x.heard ≡ x.journal
@@ -37,10 +35,10 @@ pub record IsSeatOf (x y : Server) : Type 0 where
   pub groups : y.groups ≡ x.groups
   pub watches : y.watches ≡ x.watches
 
-module _ (shape bridge_shape timers_shape : Shape) (objects : List Planned) (groups : List Grouped) (watches : List Watched) (clients : List Stand) (senders : List Sender) (servers : List Server) (publishers_wait queues_wait ready : Bool)
-    (h : IsSystem shape bridge_shape timers_shape objects groups watches clients senders servers publishers_wait queues_wait ready) where
+module _ (shape bridge_shape timers_shape : Shape) (objects : List Planned) (groups : List Grouped) (watches : List Watched) (clients : List Stand) (senders : List Sender) (servers : List Server) (marked_publishers marked_queues : BTreeSet ℕ) (ready : Bool)
+    (h : IsSystem shape bridge_shape timers_shape objects groups watches clients senders servers marked_publishers marked_queues ready) where
   -- another seat of the bridge, and of the timer service, of the same shape
-  pub with_bridge : (b : Shape) → b ≡ bridge_shape → IsSystem shape b timers_shape objects groups watches clients senders servers publishers_wait queues_wait ready
+  pub with_bridge : (b : Shape) → b ≡ bridge_shape → IsSystem shape b timers_shape objects groups watches clients senders servers marked_publishers marked_queues ready
   with_bridge b same = record {
     ports = h.ports;
     same_bridge = same ∙ h.same_bridge;
@@ -51,12 +49,12 @@ module _ (shape bridge_shape timers_shape : Shape) (objects : List Planned) (gro
     shared = h.shared;
     grouped = h.grouped;
     watched = h.watched;
-    quiet_publishers = h.quiet_publishers;
-    quiet_queues = h.quiet_queues;
+    publishers_marked = h.publishers_marked;
+    queues_marked = h.queues_marked;
     told = h.told;
   }
 
-  pub with_timers : (t : Shape) → t ≡ timers_shape → IsSystem shape bridge_shape t objects groups watches clients senders servers publishers_wait queues_wait ready
+  pub with_timers : (t : Shape) → t ≡ timers_shape → IsSystem shape bridge_shape t objects groups watches clients senders servers marked_publishers marked_queues ready
   with_timers t same = record {
     ports = h.ports;
     same_bridge = h.same_bridge;
@@ -67,17 +65,17 @@ module _ (shape bridge_shape timers_shape : Shape) (objects : List Planned) (gro
     shared = h.shared;
     grouped = h.grouped;
     watched = h.watched;
-    quiet_publishers = h.quiet_publishers;
-    quiet_queues = h.quiet_queues;
+    publishers_marked = h.publishers_marked;
+    queues_marked = h.queues_marked;
     told = h.told;
   }
 
   -- another seat of a queue, with marks that hold of it
-  pub with_server : (q : ℕ) (x y : Server) (wait told : Bool) → x ≡ get_or servers q x → IsSeatOf x y
-      → (wait ≡ false → list_all is_empty (map waiting_in (set servers q y)) ≡ true)
+  pub with_server : (q : ℕ) (x y : Server) (marks : BTreeSet ℕ) (told : Bool) → x ≡ get_or servers q x → IsSeatOf x y
+      → AreMarked marks (map waiting_in (set servers q y))
       → (told ≡ true → map heard_in (set servers q y) ≡ map journal_in (set servers q y))
-      → IsSystem shape bridge_shape timers_shape objects groups watches clients senders (set servers q y) publishers_wait wait told
-  with_server q x y wait told at same quiet heard = record {
+      → IsSystem shape bridge_shape timers_shape objects groups watches clients senders (set servers q y) marked_publishers marks told
+  with_server q x y marks told at same marked heard = record {
     ports = h.ports;
     same_bridge = h.same_bridge;
     same_timers = h.same_timers;
@@ -87,35 +85,44 @@ module _ (shape bridge_shape timers_shape : Shape) (objects : List Planned) (gro
     shared = map-set_same objects_in servers q y x (same.objects ∙ ap objects_in at) ∙ h.shared ∙ sym (map-set_same (λ (s : Server). objects) servers q y x refl);
     grouped = map-set_same groups_in servers q y x (same.groups ∙ ap groups_in at) ∙ h.grouped;
     watched = map-set_same watches_in servers q y x (same.watches ∙ ap watches_in at) ∙ h.watched;
-    quiet_publishers = h.quiet_publishers;
-    quiet_queues = quiet;
+    publishers_marked = h.publishers_marked;
+    queues_marked = marked;
     told = heard;
   }
 
   -- an event more on its lane, or none
-  pub with_lane : (q : ℕ) (x y : Server) → x ≡ get_or servers q x → IsSeatOf x y → y.heard ≡ x.heard → y.journal ≡ x.journal
-      → IsSystem shape bridge_shape timers_shape objects groups watches clients senders (set servers q y) publishers_wait true ready
-  with_lane q x y at same heard journal =
-      with_server q x y true ready at same (λ e. cc)
+  pub with_lane : (q : ℕ) (x y : Server) (marks : BTreeSet ℕ) → x ≡ get_or servers q x → IsSeatOf x y → y.heard ≡ x.heard → y.journal ≡ x.journal
+      → AreMarked marks (map waiting_in (set servers q y))
+      → IsSystem shape bridge_shape timers_shape objects groups watches clients senders (set servers q y) marked_publishers marks ready
+  with_lane q x y marks at same heard journal marked =
+      with_server q x y marks ready at same marked
       (λ e. map-set_same heard_in servers q y x (heard ∙ ap heard_in at) ∙ h.told e ∙ sym (map-set_same journal_in servers q y x (journal ∙ ap journal_in at)))
 
+  -- the same seat of a queue
+  pub with_same_server : (q : ℕ) (x y : Server) → x ≡ get_or servers q x → y ≡ x
+      → IsSystem shape bridge_shape timers_shape objects groups watches clients senders (set servers q y) marked_publishers marked_queues ready
+  with_same_server q x y at same =
+      subst (λ (l : List Server). IsSystem shape bridge_shape timers_shape objects groups watches clients senders l marked_publishers marked_queues ready)
+      (sym (ap (set servers q) (same ∙ at) ∙ set-get_or servers q x)) h
+
   -- a turn more, which its groups were not told
-  pub with_turn : (q : ℕ) (x y : Server) → x ≡ get_or servers q x → IsSeatOf x y
-      → IsSystem shape bridge_shape timers_shape objects groups watches clients senders (set servers q y) publishers_wait true false
-  with_turn q x y at same = with_server q x y true false at same (λ e. cc) (λ e. cc)
+  pub with_turn : (q : ℕ) (x y : Server) (marks : BTreeSet ℕ) → x ≡ get_or servers q x → IsSeatOf x y
+      → AreMarked marks (map waiting_in (set servers q y))
+      → IsSystem shape bridge_shape timers_shape objects groups watches clients senders (set servers q y) marked_publishers marks false
+  with_turn q x y marks at same marked = with_server q x y marks false at same marked (λ e. cc)
 
   -- its groups were told, or not
   pub with_told : (q : ℕ) (x y : Server) → q < length servers → x ≡ get_or servers q x → IsSeatOf x y → y.lane ≡ x.lane → (x.heard ≡ x.journal → y.heard ≡ y.journal) → y.journal ≡ x.journal
-      → IsSystem shape bridge_shape timers_shape objects groups watches clients senders (set servers q y) publishers_wait queues_wait ready
+      → IsSystem shape bridge_shape timers_shape objects groups watches clients senders (set servers q y) marked_publishers marked_queues ready
   with_told q x y within at same lane heard journal =
-      with_server q x y queues_wait ready at same
-      (λ e. ap (list_all is_empty) (map-set_same waiting_in servers q y x (lane ∙ ap waiting_in at)) ∙ h.quiet_queues e)
+      with_server q x y marked_queues ready at same
+      (marked_same marked_queues (map waiting_in servers) (map waiting_in (set servers q y)) (map-set_same waiting_in servers q y x (lane ∙ ap waiting_in at)) h.queues_marked)
       (λ e.
       let here : x.heard ≡ x.journal = told_at servers q x within at (h.told e) in
       map-set_same heard_in servers q y x (heard here ∙ journal ∙ sym here ∙ ap heard_in at) ∙ h.told e ∙ sym (map-set_same journal_in servers q y x (journal ∙ ap journal_in at)))
 
   -- the groups of all queues were told all
-  pub made_ready : map heard_in servers ≡ map journal_in servers → IsSystem shape bridge_shape timers_shape objects groups watches clients senders servers publishers_wait queues_wait true
+  pub made_ready : map heard_in servers ≡ map journal_in servers → IsSystem shape bridge_shape timers_shape objects groups watches clients senders servers marked_publishers marked_queues true
   made_ready heard = record {
     ports = h.ports;
     same_bridge = h.same_bridge;
@@ -126,14 +133,15 @@ module _ (shape bridge_shape timers_shape : Shape) (objects : List Planned) (gro
     shared = h.shared;
     grouped = h.grouped;
     watched = h.watched;
-    quiet_publishers = h.quiet_publishers;
-    quiet_queues = h.quiet_queues;
+    publishers_marked = h.publishers_marked;
+    queues_marked = h.queues_marked;
     told = λ e. heard;
   }
 
-  -- another seat of a publisher, and the mark that events wait
-  pub with_sender : (p : ℕ) (y : Sender) → IsSystem shape bridge_shape timers_shape objects groups watches clients (set senders p y) servers true queues_wait ready
-  with_sender p y = record {
+  -- another seat of a publisher, with marks that hold of it
+  pub with_sender : (p : ℕ) (y : Sender) (marks : BTreeSet ℕ) → AreMarked marks (map lane_in (set senders p y))
+      → IsSystem shape bridge_shape timers_shape objects groups watches clients (set senders p y) servers marks marked_queues ready
+  with_sender p y marks marked = record {
     ports = h.ports;
     same_bridge = h.same_bridge;
     same_timers = h.same_timers;
@@ -143,14 +151,14 @@ module _ (shape bridge_shape timers_shape : Shape) (objects : List Planned) (gro
     shared = h.shared;
     grouped = h.grouped;
     watched = h.watched;
-    quiet_publishers = λ e. cc;
-    quiet_queues = h.quiet_queues;
+    publishers_marked = marked;
+    queues_marked = h.queues_marked;
     told = h.told;
   }
 
   -- another seat of a publisher with the same lane
   pub with_same_lane : (p : ℕ) (x y : Sender) → x ≡ get_or senders p x → y.lane ≡ x.lane
-      → IsSystem shape bridge_shape timers_shape objects groups watches clients (set senders p y) servers publishers_wait queues_wait ready
+      → IsSystem shape bridge_shape timers_shape objects groups watches clients (set senders p y) servers marked_publishers marked_queues ready
   with_same_lane p x y at same = record {
     ports = h.ports;
     same_bridge = h.same_bridge;
@@ -161,13 +169,13 @@ module _ (shape bridge_shape timers_shape : Shape) (objects : List Planned) (gro
     shared = h.shared;
     grouped = h.grouped;
     watched = h.watched;
-    quiet_publishers = λ e. ap (list_all is_empty) (map-set_same lane_in senders p y x (same ∙ ap lane_in at)) ∙ h.quiet_publishers e;
-    quiet_queues = h.quiet_queues;
+    publishers_marked = marked_same marked_publishers (map lane_in senders) (map lane_in (set senders p y)) (map-set_same lane_in senders p y x (same ∙ ap lane_in at)) h.publishers_marked;
+    queues_marked = h.queues_marked;
     told = h.told;
   }
 
   -- another seat of a client
-  pub with_client : (c : ℕ) (y : Stand) → IsSystem shape bridge_shape timers_shape objects groups watches (set clients c y) senders servers publishers_wait queues_wait ready
+  pub with_client : (c : ℕ) (y : Stand) → IsSystem shape bridge_shape timers_shape objects groups watches (set clients c y) senders servers marked_publishers marked_queues ready
   with_client c y = record {
     ports = h.ports;
     same_bridge = h.same_bridge;
@@ -178,14 +186,14 @@ module _ (shape bridge_shape timers_shape : Shape) (objects : List Planned) (gro
     shared = h.shared;
     grouped = h.grouped;
     watched = h.watched;
-    quiet_publishers = h.quiet_publishers;
-    quiet_queues = h.quiet_queues;
+    publishers_marked = h.publishers_marked;
+    queues_marked = h.queues_marked;
     told = h.told;
   }
 
   -- other seats, as many, where the publishers' lanes are the same
   pub with_seats : (cs : List Stand) (ss : List Sender) → length cs ≡ length clients → length ss ≡ length senders → map lane_in ss ≡ map lane_in senders
-      → IsSystem shape bridge_shape timers_shape objects groups watches cs ss servers publishers_wait queues_wait ready
+      → IsSystem shape bridge_shape timers_shape objects groups watches cs ss servers marked_publishers marked_queues ready
   with_seats cs ss clients_same senders_same lanes = record {
     ports = h.ports;
     same_bridge = h.same_bridge;
@@ -196,15 +204,15 @@ module _ (shape bridge_shape timers_shape : Shape) (objects : List Planned) (gro
     shared = h.shared;
     grouped = h.grouped;
     watched = h.watched;
-    quiet_publishers = λ e. ap (list_all is_empty) lanes ∙ h.quiet_publishers e;
-    quiet_queues = h.quiet_queues;
+    publishers_marked = marked_same marked_publishers (map lane_in senders) (map lane_in ss) lanes h.publishers_marked;
+    queues_marked = h.queues_marked;
     told = h.told;
   }
 
-  -- the mark for publishers, by what is on their lanes
-  pub publishers_looked : (quiet : Bool) → quiet ≡ list_all (λ (s : Sender). is_empty s.lane) senders
-      → IsSystem shape bridge_shape timers_shape objects groups watches clients senders servers (not quiet) queues_wait ready
-  publishers_looked quiet is = record {
+  -- more marks than before, of publishers and of queues
+  pub more_publishers_marked : (marks : BTreeSet ℕ) → KeepsMarks marked_publishers marks
+      → IsSystem shape bridge_shape timers_shape objects groups watches clients senders servers marks marked_queues ready
+  more_publishers_marked marks kept = record {
     ports = h.ports;
     same_bridge = h.same_bridge;
     same_timers = h.same_timers;
@@ -214,15 +222,14 @@ module _ (shape bridge_shape timers_shape : Shape) (objects : List Planned) (gro
     shared = h.shared;
     grouped = h.grouped;
     watched = h.watched;
-    quiet_publishers = λ e. list_all-map is_empty lane_in senders ∙ sym is ∙ unnot quiet e;
-    quiet_queues = h.quiet_queues;
+    publishers_marked = λ n none. h.publishers_marked n (kept n none);
+    queues_marked = h.queues_marked;
     told = h.told;
   }
 
-  -- the mark for queues
-  pub queues_looked : (quiet : Bool) → quiet ≡ list_all (λ (s : Server). is_empty s.lane) servers
-      → IsSystem shape bridge_shape timers_shape objects groups watches clients senders servers publishers_wait (not quiet) ready
-  queues_looked quiet is = record {
+  pub more_queues_marked : (marks : BTreeSet ℕ) → KeepsMarks marked_queues marks
+      → IsSystem shape bridge_shape timers_shape objects groups watches clients senders servers marked_publishers marks ready
+  more_queues_marked marks kept = record {
     ports = h.ports;
     same_bridge = h.same_bridge;
     same_timers = h.same_timers;
@@ -232,8 +239,8 @@ module _ (shape bridge_shape timers_shape : Shape) (objects : List Planned) (gro
     shared = h.shared;
     grouped = h.grouped;
     watched = h.watched;
-    quiet_publishers = h.quiet_publishers;
-    quiet_queues = λ e. list_all-map is_empty waiting_in servers ∙ sym is ∙ unnot quiet e;
+    publishers_marked = h.publishers_marked;
+    queues_marked = λ n none. h.queues_marked n (kept n none);
     told = h.told;
   }
 
@@ -276,12 +283,23 @@ watches_each queues watches = length-map (numbers_below queues) (watches_on watc
 pub as_many_each : (queues : ℕ) (groups : List Grouped) (watches : List Watched) → length (groups_on_each queues groups) ≡ length (watches_on_each queues watches)
 as_many_each queues groups watches = groups_each queues groups ∙ sym (watches_each queues watches)
 
--- a system that has done nothing yet
+waiting_new : (objects : List Planned) (gs : List (List (ℕ × GroupRow))) (ws : List (List (ℕ × WatchRow))) (n : ℕ) → get_or (map waiting_in (new_servers objects gs ws)) n [] ≡ []
+waiting_new objects [] ws n = refl
+waiting_new objects (g ∷ gs) [] n = refl
+waiting_new objects (g ∷ gs) (w ∷ ws) zero = refl
+waiting_new objects (g ∷ gs) (w ∷ ws) (suc n) = waiting_new objects gs ws n
+
+lanes_new : (from : ℕ) (parts : List PublisherPart) (n : ℕ) → get_or (map lane_in (senders_from from parts)) n [] ≡ []
+lanes_new from [] n = refl
+lanes_new from (p ∷ ps) zero = refl
+lanes_new from (p ∷ ps) (suc n) = lanes_new (suc from) ps n
+
+-- a system that has done nothing yet, in which no marks are needed
 pub new_system : (shape bridge_shape timers_shape : Shape) (objects : List Planned) (groups : List Grouped) (watches : List Watched) (clients : List Stand) (senders : List Sender) (servers : List Server)
-    → bridge_ports shape < 2 ^ 32 → bridge_shape ≡ shape → timers_shape ≡ shape → length clients ≡ clients_of shape → length senders ≡ publishers_of shape
-    → servers ≡ new_servers objects (groups_on_each (queues_of shape) groups) (watches_on_each (queues_of shape) watches)
-    → IsSystem shape bridge_shape timers_shape objects groups watches clients senders servers true true false
-new_system shape bridge_shape timers_shape objects groups watches clients senders servers ports bridge timers client_count sender_count is =
+    (parts : List PublisherPart) (marked_publishers marked_queues : BTreeSet ℕ) → bridge_ports shape < 2 ^ 32 → bridge_shape ≡ shape → timers_shape ≡ shape → length clients ≡ clients_of shape → length senders ≡ publishers_of shape
+    → senders ≡ senders_from 0 parts → servers ≡ new_servers objects (groups_on_each (queues_of shape) groups) (watches_on_each (queues_of shape) watches)
+    → IsSystem shape bridge_shape timers_shape objects groups watches clients senders servers marked_publishers marked_queues false
+new_system shape bridge_shape timers_shape objects groups watches clients senders servers parts marked_publishers marked_queues ports bridge timers client_count sender_count from is =
     let gs : List (List (ℕ × GroupRow)) = groups_on_each (queues_of shape) groups in
     let ws : List (List (ℕ × WatchRow)) = watches_on_each (queues_of shape) watches in
     let alike : length gs ≡ length ws = as_many_each (queues_of shape) groups watches in
@@ -295,7 +313,7 @@ new_system shape bridge_shape timers_shape objects groups watches clients sender
       shared = ap (map objects_in) is ∙ shared_new objects gs ws ∙ sym (ap (map (λ (s : Server). objects)) is);
       grouped = ap (map groups_in) is ∙ grouped_new objects gs ws alike;
       watched = ap (map watches_in) is ∙ watched_new objects gs ws alike;
-      quiet_publishers = λ e. cc;
-      quiet_queues = λ e. cc;
+      publishers_marked = λ n none. ap (λ (l : List Sender). get_or (map lane_in l) n []) from ∙ lanes_new 0 parts n;
+      queues_marked = λ n none. ap (λ (l : List Server). get_or (map waiting_in l) n []) is ∙ waiting_new objects gs ws n;
       told = λ e. cc;
     }

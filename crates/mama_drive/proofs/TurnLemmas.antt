@@ -1,27 +1,30 @@
 -- Turns of many actors, passes, and when nothing waits.
-use Rattle.std.proofs.Common.{◌≡◌, ℕ, zero, suc, true, List, [], ◌∷◌, map, get_or, refl, ◌∙◌, ap, subst}
+use Rattle.std.proofs.Common.{◌≡◌, ℕ, zero, suc, ◌+◌, ◌<◌, ◌≤◌, true, List, [], ◌∷◌, map, get_or, refl, ◌∙◌, ap, subst, arith}
 use Rattle.std.specs.List.{list_all}
 use Rattle.mama_rules_rounds.specs.World.{Setting, World, is_empty, in_turn, publisher_turn, publisher_took, queue_turn, queue_took, pass, IsQuiet}
 use Rattle.mama_drive.specs.Scene.{Scene, Moves, setting_in, world_in, lane_in, waiting_in, Passes}
 use Rattle.mama_drive.proofs.SceneLemmas.{moves_then, moves_none}
 
--- of empty lanes each is empty
-empty_at : {V : Type 0} → (lanes : List (List V)) (n : ℕ) → list_all is_empty lanes ≡ true → get_or lanes n [] ≡ []
-empty_at [] n h = refl
-empty_at ([] ∷ lanes) zero h = refl
-empty_at ([] ∷ lanes) (suc n) h = empty_at lanes n h
-empty_at ((v ∷ vs) ∷ lanes) n h = cc
-
 -- turns of actors for whom nothing waits change nothing
-pub publishers_idle : (setting : Setting) (w : World) (n : ℕ) → list_all is_empty w.to_publishers ≡ true → in_turn (publisher_turn setting) n w ≡ w
-publishers_idle setting w zero h = refl
-publishers_idle setting w (suc n) h =
-    ap (publisher_turn setting n) (publishers_idle setting w n h) ∙ ap (publisher_took setting n w) (empty_at w.to_publishers n h)
+pub publishers_passed : (setting : Setting) (w v : World) (n k : ℕ) → in_turn (publisher_turn setting) n w ≡ v → ((q : ℕ) → n ≤ q → q < k + n → get_or v.to_publishers q [] ≡ [])
+    → in_turn (publisher_turn setting) (k + n) w ≡ v
+publishers_passed setting w v n zero is none =
+    let none_more : 0 + n ≡ n = omega arith in
+    ap (λ j. in_turn (publisher_turn setting) j w) none_more ∙ is
+publishers_passed setting w v n (suc k) is none =
+    let one_more : suc k + n ≡ suc (k + n) = omega arith in
+    ap (λ j. in_turn (publisher_turn setting) j w) one_more ∙ ap (publisher_turn setting (k + n)) (publishers_passed setting w v n k is (λ q low high. none q low (omega (arith, high))))
+    ∙ ap (publisher_took setting (k + n) v) (none (k + n) (omega arith) (omega arith))
 
-pub queues_idle : (setting : Setting) (w : World) (n : ℕ) → list_all is_empty w.to_queues ≡ true → in_turn (queue_turn setting) n w ≡ w
-queues_idle setting w zero h = refl
-queues_idle setting w (suc n) h =
-    ap (queue_turn setting n) (queues_idle setting w n h) ∙ ap (queue_took setting n w) (empty_at w.to_queues n h)
+pub queues_passed : (setting : Setting) (w v : World) (n k : ℕ) → in_turn (queue_turn setting) n w ≡ v → ((q : ℕ) → n ≤ q → q < k + n → get_or v.to_queues q [] ≡ [])
+    → in_turn (queue_turn setting) (k + n) w ≡ v
+queues_passed setting w v n zero is none =
+    let none_more : 0 + n ≡ n = omega arith in
+    ap (λ j. in_turn (queue_turn setting) j w) none_more ∙ is
+queues_passed setting w v n (suc k) is none =
+    let one_more : suc k + n ≡ suc (k + n) = omega arith in
+    ap (λ j. in_turn (queue_turn setting) j w) one_more ∙ ap (queue_turn setting (k + n)) (queues_passed setting w v n k is (λ q low high. none q low (omega (arith, high))))
+    ∙ ap (queue_took setting (k + n) v) (none (k + n) (omega arith) (omega arith))
 
 pub passes_none : (s : Scene) → Passes s s
 passes_none s = record { count = 0; moves = moves_none s }
@@ -34,7 +37,3 @@ pub is_quiet_by : (s old : Scene) → s ≡ old → s.to_bridge ≡ [] → s.to_
     → IsQuiet (world_in old)
 is_quiet_by s old is bridge timers publishers queues =
     subst (λ (o : Scene). IsQuiet (world_in o)) is (record { bridge = bridge; timers = timers; publishers = publishers; queues = queues })
-
-pub none_waits : {V : Type 0} → (lane : List V) → is_empty lane ≡ true → lane ≡ []
-none_waits [] h = refl
-none_waits (v ∷ vs) h = cc

@@ -1,5 +1,6 @@
 pub mod Entry
 pub mod Seat
+pub mod Marks
 pub mod Scene
 pub mod Held
 pub mod Lawful

@@ -1,6 +1,7 @@
 -- inner: The system on one thread, as its seats and lanes, and the stage of the run that it is.
 use Rattle.std.specs.Prelude.{◌≡◌, ℕ, ◌-◌, ◌^◌, ◌<◌, nat_le, Bool, true, false, ◌||◌, List, [], ◌∷◌, ◌++◌, map, length, slice_index_or, slice_set}
 use Rattle.std.specs.List.{flat_map, list_all}
+use Rattle.std.specs.BTreeSet.{BTreeSet}
 use Rattle.mama_journal.specs.Lane.{from_port, by_port}
 use Rattle.mama_event.specs.declared.shape.Shape.{Shape}
 use Rattle.mama_event.specs.declared.to_bridge.BridgeNote.{BridgeNote}
@@ -22,6 +23,7 @@ use Rattle.mama_rules_rounds.specs.Stage.{Stage, IsStageDrained, AreSteps, AreRo
 use Rattle.mama_seats.specs.Sender.{Sender, steps_in}
 use Rattle.mama_seats.specs.Stand.{Stand, client_left, reading, Ends, BeginsWith}
 use Rattle.mama_seats.specs.Server.{Server}
+use Rattle.mama_drive.specs.Marks.{AreMarked}
 
 pub record Scene : Type 0 where
   pub shape : Shape
@@ -98,9 +100,9 @@ AreMoments [] (c ∷ cs) = ⊥
 AreMoments (m ∷ ms) [] = ⊥
 AreMoments (m ∷ ms) (c ∷ cs) = BeginsWith c.read m × AreMoments ms cs
 
--- What a system keeps: the ports have numbers, its actors are those of the shape, its queues know the plans of the same objects and have its groups and watches, and where it
--- has no mark that events wait on the lanes of some publisher, or of some queue, none does; and where it has the mark, the groups were told all.
-pub record IsSystem (shape bridge_shape timers_shape : Shape) (objects : List Planned) (groups : List Grouped) (watches : List Watched) (clients : List Stand) (senders : List Sender) (servers : List Server) (publishers_wait queues_wait ready : Bool) : Type 0 where
+-- What a system keeps: the ports have numbers, its actors are those of the shape, its queues know the plans of the same objects and have its groups and watches, and
+-- nothing waits for a publisher, or for a queue, that has no mark; and where it has the mark, the groups were told all.
+pub record IsSystem (shape bridge_shape timers_shape : Shape) (objects : List Planned) (groups : List Grouped) (watches : List Watched) (clients : List Stand) (senders : List Sender) (servers : List Server) (marked_publishers marked_queues : BTreeSet ℕ) (ready : Bool) : Type 0 where
   pub ports : bridge_ports shape < 2 ^ 32
   pub same_bridge : bridge_shape ≡ shape
   pub same_timers : timers_shape ≡ shape
@@ -110,8 +112,8 @@ pub record IsSystem (shape bridge_shape timers_shape : Shape) (objects : List Pl
   pub shared : map objects_in servers ≡ map (λ (s : Server). objects) servers
   pub grouped : map groups_in servers ≡ groups_on_each (queues_of shape) groups
   pub watched : map watches_in servers ≡ watches_on_each (queues_of shape) watches
-  pub quiet_publishers : publishers_wait ≡ false → list_all is_empty (map lane_in senders) ≡ true
-  pub quiet_queues : queues_wait ≡ false → list_all is_empty (map waiting_in servers) ≡ true
+  pub publishers_marked : AreMarked marked_publishers (map lane_in senders)
+  pub queues_marked : AreMarked marked_queues (map waiting_in servers)
   pub told : ready ≡ true → map heard_in servers ≡ map journal_in servers
 
 -- each client that is done has no lines left

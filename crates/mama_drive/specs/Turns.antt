@@ -12,9 +12,7 @@ use Rattle.mama_drive.specs.Grown.{HaveGrown}
 abbrev pub turned : Setting → Turn → World → World
 turned setting turn.Bridge w = w
 turned setting turn.Timers w = bridge_turn setting w
-turned setting turn.Publishers w = timers_turn setting (bridge_turn setting w)
 turned setting (turn.Publisher n) w = in_turn (publisher_turn setting) n (timers_turn setting (bridge_turn setting w))
-turned setting turn.Queues w = in_turn (publisher_turn setting) (publishers_of setting.shape) (timers_turn setting (bridge_turn setting w))
 turned setting (turn.Queue n) w =
     in_turn (queue_turn setting) n (in_turn (publisher_turn setting) (publishers_of setting.shape) (timers_turn setting (bridge_turn setting w)))
 
@@ -22,9 +20,7 @@ turned setting (turn.Queue n) w =
 abbrev pub Counts : Shape → Turn → Type 0
 Counts shape turn.Bridge = Unit {0}
 Counts shape turn.Timers = Unit {0}
-Counts shape turn.Publishers = Unit {0}
 Counts shape (turn.Publisher n) = n ≤ publishers_of shape
-Counts shape turn.Queues = Unit {0}
 Counts shape (turn.Queue n) = n ≤ queues_of shape
 
 -- Since the first scene passes were made, and of one pass more the turns before this one.

@@ -13,6 +13,7 @@
 mod bridge_seat;
 mod held;
 mod laws;
+mod marks;
 mod place;
 mod playing;
 mod putting;

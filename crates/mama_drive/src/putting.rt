@@ -9,6 +9,7 @@ ghost use Rattle.mama_timer.specs.Out.{out_note};
 ghost use Rattle.mama_plans.specs.Put.{own_tag, note_of as out_note_of};
 ghost use Rattle.mama_drive.specs.Held.{changed_at, with_note, with_event, lay_put, lay_tick, lay_event, lay_out};
 
+use crate::marks::mark;
 use crate::system::System;
 use mama_bridge::BridgeOut;
 use mama_event::{ObjectId, ToBridge, ToPublisher, ToQueue, ToService, ToTimers};
@@ -49,7 +50,9 @@ impl<'a> System<'a> {
         if (number as usize) >= self.publishers.len() {
             return Ok(());
         }
-        self.publishers_wait = true;
+        let Ok(()) = mark(&mut self.marked_publishers, number) else {
+            return Err(event);
+        };
         let seat = &mut self.publishers[number as usize];
         seat.put(event)
     }
@@ -68,7 +71,9 @@ impl<'a> System<'a> {
         if (number as usize) >= self.queues.len() {
             return Ok(());
         }
-        self.queues_wait = true;
+        let Ok(()) = mark(&mut self.marked_queues, number) else {
+            return Err(event);
+        };
         let seat = &mut self.queues[number as usize];
         seat.put(port, event)
     }

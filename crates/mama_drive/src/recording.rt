@@ -108,8 +108,8 @@ impl<'a> System<'a> {
             queues,
             bridge,
             timers,
-            publishers_wait: _,
-            queues_wait: _,
+            marked_publishers: _,
+            marked_queues: _,
             script: _,
             ready: _,
         } = self;

@@ -1,10 +1,9 @@
-ghost use Rattle.std.specs.Prelude.{◌≡◌, ◌<◌, length, true, OnOk, OnErr};
-ghost use Rattle.std.specs.List.{list_all};
+ghost use Rattle.std.specs.Prelude.{◌≡◌, ◌+◌, ◌^◌, ◌<◌, length, true, IfSome, IfOk, OnOk, OnErr};
 ghost use Rattle.mama_event.specs.Ports.{clients_of, publishers_of, queues_of};
 ghost use Rattle.mama_rules_rounds.specs.World as world;
-ghost use Rattle.mama_rules_rounds.specs.World.{is_empty};
 ghost use Rattle.mama_rules_rounds.specs.Stage as stage;
 ghost use Rattle.mama_drive.specs.Heard.{Hears, StepRead};
+ghost use Rattle.mama_drive.specs.Marks.{IsNextOf};
 ghost use Rattle.mama_drive.specs.Scene.{setting_in, world_in, Moves, Advances, Stepped};
 
 use crate::held::{Held, settle};
@@ -114,39 +113,25 @@ impl<'a> Run<'a> {
         Ok(())
     }
 
-    /// Moves what is held to its lanes. Nothing that a reader of the run sees changes.
-    pub(crate) fn settle(&mut self) -> Result<(), OutOfMemory>
-        ensures { self.new ≡ self.old }
+    /// The next publisher from this number on for whom an event may wait, once what is held lies on its lanes. Nothing that
+    /// a reader of the run sees changes.
+    pub(crate) fn next_publisher(&mut self, from: u32) -> Result<Option<u32>, OutOfMemory>
+        ensures next { IfOk result (λ next. IsNextOf (world_in self.new).to_publishers from next) }
+        ensures within { IfOk result (λ next. IfSome next (λ n. (n < publishers_of self.new.shape) × (n + 1 < 2 ^ 32))) }
+        ensures same { self.new ≡ self.old }
     {
-        settle(&mut self.system, &mut self.held)
+        settle(&mut self.system, &mut self.held)?;
+        Ok(self.system.next_publisher(from))
     }
 
-    /// Whether surely nothing waits on the lane of any publisher.
-    pub(crate) fn are_publishers_idle(&self) -> bool
-        ensures { result ≡ true → list_all is_empty (world_in self.now).to_publishers ≡ true }
+    /// The next queue from this number on for which an event may wait, in the same way.
+    pub(crate) fn next_queue(&mut self, from: u32) -> Result<Option<u32>, OutOfMemory>
+        ensures next { IfOk result (λ next. IsNextOf (world_in self.new).to_queues from next) }
+        ensures within { IfOk result (λ next. IfSome next (λ n. (n < queues_of self.new.shape) × (n + 1 < 2 ^ 32))) }
+        ensures same { self.new ≡ self.old }
     {
-        self.held.is_empty() && self.system.are_publishers_idle()
-    }
-
-    /// Whether surely nothing waits on the lane of any queue.
-    pub(crate) fn are_queues_idle(&self) -> bool
-        ensures { result ≡ true → list_all is_empty (world_in self.now).to_queues ≡ true }
-    {
-        self.held.is_empty() && self.system.are_queues_idle()
-    }
-
-    /// Marks whether events wait on the lane of some publisher.
-    pub(crate) fn look_at_publishers(&mut self)
-        ensures { self.new ≡ self.old }
-    {
-        self.system.look_at_publishers();
-    }
-
-    /// Marks whether events wait on the lane of some queue.
-    pub(crate) fn look_at_queues(&mut self)
-        ensures { self.new ≡ self.old }
-    {
-        self.system.look_at_queues();
+        settle(&mut self.system, &mut self.held)?;
+        Ok(self.system.next_queue(from))
     }
 
     /// Whether nothing waits on any lane, and nothing is held.
@@ -170,13 +155,5 @@ impl<'a> Run<'a> {
         ensures shape { result ≡ publishers_of self.now.shape }
     {
         self.system.publisher_count()
-    }
-
-    /// How many queues there are.
-    pub(crate) fn queue_count(&self) -> u32
-        ensures number { result ≡ length self.now.servers }
-        ensures shape { result ≡ queues_of self.now.shape }
-    {
-        self.system.queue_count()
     }
 }

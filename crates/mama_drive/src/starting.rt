@@ -19,6 +19,7 @@ use mama_plans::{Plans, groups_by_queue, plans_of, watches_by_queue};
 use mama_script::{ClientLines, PublisherPart, Script};
 use mama_seats::{ClientSeat, PublisherSeat, QueueSeat};
 use std::alloc::Global;
+use std::collections::BTreeSet;
 use std::sync::Arc;
 
 impl<'a> Run<'a> {
@@ -62,8 +63,8 @@ impl<'a> System<'a> {
             queues,
             bridge,
             timers,
-            publishers_wait: true,
-            queues_wait: true,
+            marked_publishers: BTreeSet::new(alloc),
+            marked_queues: BTreeSet::new(alloc),
             script,
             ready: false,
         })

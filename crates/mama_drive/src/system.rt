@@ -1,22 +1,23 @@
-ghost use Rattle.std.specs.Prelude.{◌≡◌, ◌^◌, ◌<◌, map, length, true};
-ghost use Rattle.std.specs.List.{list_all};
+ghost use Rattle.std.specs.Prelude.{◌≡◌, ◌+◌, ◌^◌, ◌<◌, map, length, true, IfSome};
 ghost use Rattle.mama_event.specs.Ports.{clients_of, publishers_of, queues_of};
 ghost use Rattle.mama_rules_rounds.specs.World as world;
-ghost use Rattle.mama_rules_rounds.specs.World.{is_empty};
+ghost use Rattle.mama_drive.specs.Marks.{IsNextOf};
 ghost use Rattle.mama_drive.specs.Scene.{world_in, lane_in, waiting_in, AreTold};
 
 use crate::bridge_seat::BridgeSeat;
+use crate::marks::{is_none_marked, next_marked};
 use crate::timers_seat::TimersSeat;
 use mama_event::Shape;
 use mama_plans::Plans;
 use mama_script::Script;
 use mama_seats::{ClientSeat, PublisherSeat, QueueSeat};
 use std::alloc::Global;
+use std::collections::BTreeSet;
 use std::marker::Model;
 use std::sync::Arc;
 
-/// All actors of a script on one thread, with what waits on the lanes between them. The marks say whether events may
-/// wait on the lanes of publishers, and on those of queues: while none does, a pass does not look at each of them.
+/// All actors of a script on one thread, with what waits on the lanes between them. The marks are the numbers of the
+/// publishers, and of the queues, on whose lanes an event may wait: a pass looks at none but those.
 #[derive(Drop)]
 pub struct System<'a> {
     pub(crate) alloc: Global,
@@ -27,8 +28,8 @@ pub struct System<'a> {
     pub(crate) queues: Vec<QueueSeat>,
     pub(crate) bridge: BridgeSeat,
     pub(crate) timers: TimersSeat,
-    pub(crate) publishers_wait: bool,
-    pub(crate) queues_wait: bool,
+    pub(crate) marked_publishers: BTreeSet<u32>,
+    pub(crate) marked_queues: BTreeSet<u32>,
     // The script, which names the groups and the watches.
     pub(crate) script: &'a Script,
     // Whether the groups of all queues surely were told all that was done.
@@ -44,7 +45,7 @@ impl<'a> Model for System<'a> {
 
     ghost view = { λ s. record { shape = s.shape.now; objects = arc_value s.plans; groups = groups_from (arc_value s.plans) 0 s.script.now.groups; watches = watches_from (arc_value s.plans) 0 s.script.now.watches; clients = s.clients.items; senders = s.publishers.items; servers = s.queues.items; bridge = s.bridge.journal; timers = s.timers.journal; to_bridge = s.bridge.lane; to_timers = s.timers.lane; ready = s.ready } };
 
-    ghost invariant = { λ s. IsSystem s.shape.now s.bridge.shape s.timers.shape (arc_value s.plans) (groups_from (arc_value s.plans) 0 s.script.now.groups) (watches_from (arc_value s.plans) 0 s.script.now.watches) s.clients.items s.publishers.items s.queues.items s.publishers_wait s.queues_wait s.ready };
+    ghost invariant = { λ s. IsSystem s.shape.now s.bridge.shape s.timers.shape (arc_value s.plans) (groups_from (arc_value s.plans) 0 s.script.now.groups) (watches_from (arc_value s.plans) 0 s.script.now.watches) s.clients.items s.publishers.items s.queues.items s.marked_publishers s.marked_queues s.ready };
 }
 
 impl<'a> System<'a> {
@@ -72,20 +73,6 @@ impl<'a> System<'a> {
         self.shape.bounds.queues
     }
 
-    /// Marks whether events wait on the lane of some publisher.
-    pub(crate) fn look_at_publishers(&mut self)
-        ensures { self.new ≡ self.old }
-    {
-        self.publishers_wait = !are_publishers_quiet(self.publishers.as_slice());
-    }
-
-    /// Marks whether events wait on the lane of some queue.
-    pub(crate) fn look_at_queues(&mut self)
-        ensures { self.new ≡ self.old }
-    {
-        self.queues_wait = !are_queues_quiet(self.queues.as_slice());
-    }
-
     /// Marks that the groups of all queues were told all that was done.
     pub(crate) fn make_ready(&mut self)
         requires { AreTold self.old }
@@ -94,28 +81,32 @@ impl<'a> System<'a> {
         self.ready = true;
     }
 
-    /// Whether surely nothing waits on the lane of any publisher, by the mark.
-    pub(crate) fn are_publishers_idle(&self) -> bool
-        ensures { result ≡ true → list_all is_empty (map lane_in self.now.senders) ≡ true }
+    /// The next publisher from this number on for whom an event may wait.
+    pub(crate) fn next_publisher(&self, from: u32) -> Option<u32>
+        ensures next { IsNextOf (map lane_in self.now.senders) from result }
+        ensures within { IfSome result (λ next. (next < publishers_of self.now.shape) × (next + 1 < 2 ^ 32)) }
     {
-        !self.publishers_wait
+        let count = self.publisher_count();
+        next_marked(&self.marked_publishers, from, count)
     }
 
-    /// Whether surely nothing waits on the lane of any queue, by the mark.
-    pub(crate) fn are_queues_idle(&self) -> bool
-        ensures { result ≡ true → list_all is_empty (map waiting_in self.now.servers) ≡ true }
+    /// The next queue from this number on for which an event may wait.
+    pub(crate) fn next_queue(&self, from: u32) -> Option<u32>
+        ensures next { IsNextOf (map waiting_in self.now.servers) from result }
+        ensures within { IfSome result (λ next. (next < queues_of self.now.shape) × (next + 1 < 2 ^ 32)) }
     {
-        !self.queues_wait
+        let count = self.queue_count();
+        next_marked(&self.marked_queues, from, count)
     }
 
     /// Whether nothing waits on any lane.
     pub(crate) fn is_quiet(&self) -> bool
         ensures { result ≡ true → world.IsQuiet (world_in self.now) }
     {
-        if self.publishers_wait {
+        if !is_none_marked(&self.marked_publishers) {
             return false;
         }
-        if self.queues_wait {
+        if !is_none_marked(&self.marked_queues) {
             return false;
         }
         if !self.bridge.is_quiet() {
@@ -131,18 +122,4 @@ pub(crate) fn publishers_in(shape: &Shape) -> u32
     ensures { result ≡ publishers_of shape.now }
 {
     shape.publisher_topics.len() as u32
-}
-
-/// Whether nothing waits on the lane of any publisher.
-fn are_publishers_quiet(seats: &[PublisherSeat]) -> bool
-    ensures { result ≡ list_all (λ seat. is_empty seat.lane) seats.now }
-{
-    seats.iter().all(|seat| seat.is_quiet())
-}
-
-/// Whether nothing waits on the lane of any queue.
-fn are_queues_quiet(seats: &[QueueSeat]) -> bool
-    ensures { result ≡ list_all (λ seat. is_empty seat.lane) seats.now }
-{
-    seats.iter().all(|seat| seat.is_quiet())
 }

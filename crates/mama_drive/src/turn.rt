@@ -7,15 +7,13 @@ ghost use Rattle.mama_drive.specs.Turns.{GoesOn};
 use crate::run::Run;
 use mama_memory::OutOfMemory;
 
-/// The turn of a pass that comes next: that of the bridge, of the timer service, of a publisher or of a queue. Before
-/// the first publisher, and before the first queue, all of them are passed over where nothing waits for any.
+/// The turn of a pass that comes next: that of the bridge, of the timer service, or of the first publisher or the first
+/// queue from a number on for which an event waits. Those for which nothing waits are passed over.
 #[derive(Clone, Copy)]
 pub(crate) enum Turn {
     Bridge,
     Timers,
-    Publishers,
     Publisher(u32),
-    Queues,
     Queue(u32),
 }
 
@@ -38,9 +36,7 @@ pub(crate) fn next_turn(run: &mut Run, turn: Turn) -> Result<Turn, OutOfMemory>
     match turn {
         Turn::Bridge => bridge(run),
         Turn::Timers => timers(run),
-        Turn::Publishers => publishers(run),
         Turn::Publisher(number) => publisher(run, number),
-        Turn::Queues => queues(run),
         Turn::Queue(number) => queue(run, number),
     }
 }
@@ -60,55 +56,35 @@ fn timers(run: &mut Run) -> Result<Turn, OutOfMemory>
     ensures err { OnErr result (run.new ≡ run.old) }
 {
     run.timers_turn()?;
-    Ok(Turn::Publishers)
-}
-
-/// Looks whether anything waits for a publisher.
-fn publishers(run: &mut Run) -> Result<Turn, OutOfMemory>
-    ensures on { IfOk result (λ next. GoesOn turns.Publishers run.old next run.new) }
-    ensures err { OnErr result (run.new ≡ run.old) }
-{
-    run.settle()?;
-    if run.are_publishers_idle() {
-        return Ok(Turn::Queues);
-    }
     Ok(Turn::Publisher(0))
 }
 
-/// A publisher's turn, if there is one of this number.
+/// The turn of the next publisher from this number on, if an event waits for one.
 fn publisher(run: &mut Run, number: u32) -> Result<Turn, OutOfMemory>
     ensures on { IfOk result (λ next. GoesOn (turns.Publisher number) run.old next run.new) }
     ensures err { OnErr result (run.new ≡ run.old) }
 {
-    if number < run.publisher_count() {
-        run.publisher_turn(number)?;
-        return Ok(Turn::Publisher(number + 1));
+    let found = run.next_publisher(number)?;
+    match found {
+        None => Ok(Turn::Queue(0)),
+        Some(next) => {
+            run.publisher_turn(next)?;
+            Ok(Turn::Publisher(next + 1))
+        }
     }
-    run.look_at_publishers();
-    Ok(Turn::Queues)
 }
 
-/// Looks whether anything waits for a queue.
-fn queues(run: &mut Run) -> Result<Turn, OutOfMemory>
-    ensures on { IfOk result (λ next. GoesOn turns.Queues run.old next run.new) }
-    ensures err { OnErr result (run.new ≡ run.old) }
-{
-    run.settle()?;
-    if run.are_queues_idle() {
-        return Ok(Turn::Bridge);
-    }
-    Ok(Turn::Queue(0))
-}
-
-/// A queue's turn, if there is one of this number.
+/// The turn of the next queue from this number on, if an event waits for one.
 fn queue(run: &mut Run, number: u32) -> Result<Turn, OutOfMemory>
     ensures on { IfOk result (λ next. GoesOn (turns.Queue number) run.old next run.new) }
     ensures err { OnErr result (run.new ≡ run.old) }
 {
-    if number < run.queue_count() {
-        run.queue_turn(number)?;
-        return Ok(Turn::Queue(number + 1));
+    let found = run.next_queue(number)?;
+    match found {
+        None => Ok(Turn::Bridge),
+        Some(next) => {
+            run.queue_turn(next)?;
+            Ok(Turn::Queue(next + 1))
+        }
     }
-    run.look_at_queues();
-    Ok(Turn::Bridge)
 }

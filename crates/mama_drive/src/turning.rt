@@ -8,6 +8,7 @@ ghost use Rattle.mama_drive.specs.Lawful.{comes_first};
 ghost use Rattle.mama_drive.specs.Scene.{setting_in, world_in, AreTold, Moves, Advances, Stepped};
 
 use crate::held::Held;
+use crate::marks::unmark;
 use crate::system::{System, publishers_in};
 use mama_edge::Clock;
 use mama_event::Shape;
@@ -41,9 +42,10 @@ impl<'a> System<'a> {
         ensures err { OnErr result (self.new ≡ self.old) }
     {
         let port = self.shape.clients + number;
-        self.publishers_wait = true;
         let seat = &mut self.publishers[number as usize];
         let out = seat.turn()?;
+        let is_empty = seat.is_quiet();
+        unmark(&mut self.marked_publishers, number, is_empty);
         Ok(Held::Sent {
             port,
             events: Waiting::all(out),
@@ -60,9 +62,10 @@ impl<'a> System<'a> {
     {
         let timers_port = self.shape.clients + number;
         let bridge_port = port_of_queue(self.shape, number);
-        self.queues_wait = true;
         let seat = &mut self.queues[number as usize];
         let served = seat.turn()?;
+        let is_empty = seat.is_quiet();
+        unmark(&mut self.marked_queues, number, is_empty);
         self.ready = false;
         let ServedTurn { outs, wish } = served;
         Ok(Held::Served {

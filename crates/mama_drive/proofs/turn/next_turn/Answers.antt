@@ -8,14 +8,8 @@ returns-in-Bridge-clause-on c = on_turn c.args.turn turn.Bridge c.bridge.result 
 pub returns-in-Timers-clause-on : goal.returns-in-Timers-clause-on
 returns-in-Timers-clause-on c = on_turn c.args.turn turn.Timers c.timers.result c.args.run.now c.timers.new.run c.in-Timers.is c.timers.ensures.on
 
-pub returns-in-Publishers-clause-on : goal.returns-in-Publishers-clause-on
-returns-in-Publishers-clause-on c = on_turn c.args.turn turn.Publishers c.publishers.result c.args.run.now c.publishers.new.run c.in-Publishers.is c.publishers.ensures.on
-
 pub returns-in-Publisher-clause-on : goal.returns-in-Publisher-clause-on
 returns-in-Publisher-clause-on c = on_turn c.args.turn (turn.Publisher c.in-Publisher.number) c.publisher.result c.args.run.now c.publisher.new.run c.in-Publisher.is c.publisher.ensures.on
-
-pub returns-in-Queues-clause-on : goal.returns-in-Queues-clause-on
-returns-in-Queues-clause-on c = on_turn c.args.turn turn.Queues c.queues.result c.args.run.now c.queues.new.run c.in-Queues.is c.queues.ensures.on
 
 pub returns-in-Queue-clause-on : goal.returns-in-Queue-clause-on
 returns-in-Queue-clause-on c = on_turn c.args.turn (turn.Queue c.in-Queue.number) c.queue.result c.args.run.now c.queue.new.run c.in-Queue.is c.queue.ensures.on

@@ -24,12 +24,13 @@ use Rattle.mama_drive.proofs.system.System.new.Goals as goal
 pub invariant_of-result : goal.invariant_of-result
 invariant_of-result c =
     let shape = c.shape-shape.ensures in
-    new_system _ _ _ (arc_value c.args.plans) _ _ c.in_ok-clients.clients.items c.in_ok-publishers.publishers.items c.in_ok-queues.queues.items
+    new_system _ _ _ (arc_value c.args.plans) _ _ c.in_ok-clients.clients.items c.in_ok-publishers.publishers.items c.in_ok-queues.queues.items c.args.script.now.publishers _ _
     (subst (λ (s : Shape). bridge_ports s < 2 ^ 32) (sym shape.value) (few_ports c.args.script.now shape.script shape.within))
     (ap (λ (b : ServiceSeat BridgeNote). b.shape) c.in_ok-bridge.ensures) (ap (λ (t : ServiceSeat TimersNote). t.shape) c.in_ok-timers.ensures)
     (ap length c.in_ok-clients.ensures ∙ stands_length _ 0 c.clients.result.now ∙ ap length c.clients.ensures ∙ sym shape.script.shaped.clients ∙ sym (ap clients_of shape.value))
     (ap length c.in_ok-publishers.ensures ∙ senders_length 0 c.publishers.result.now ∙ ap length c.publishers.ensures
     ∙ sym (ap length shape.script.shaped.publishers ∙ length-map c.args.script.now.publishers topic_of_part) ∙ sym (ap publishers_of shape.value))
+    (c.in_ok-publishers.ensures ∙ ap (senders_from 0) c.publishers.ensures)
     (queues_new c.args.script.now (arc_value c.args.plans) _ c.in_ok-groups.groups.items c.in_ok-watches.watches.items c.in_ok-queues.queues.items shape.value c.requires
     c.in_ok-groups.ensures c.in_ok-watches.ensures c.in_ok-queues.ensures)
 

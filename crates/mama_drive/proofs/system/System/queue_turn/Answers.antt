@@ -1,10 +1,11 @@
-use Rattle.std.proofs.Common.{arith, ap, false, refl, ◌+◌, sym, subst, ◌<◌, length}
+use Rattle.std.proofs.Common.{arith, false, refl, ◌+◌, sym, subst, ◌<◌, length}
 use Rattle.mama_plans.specs.Put.{notes_of}
-use Rattle.mama_drive.specs.Scene.{Scene, AreTold, heard_in, journal_in}
+use Rattle.mama_drive.specs.Scene.{Scene, AreTold, waiting_in}
+use Rattle.mama_drive.proofs.MarkLemmas.{marked_turned}
 use Rattle.mama_drive.proofs.HeldTurnLemmas.{queue_turned, all_wait}
 use Rattle.mama_drive.proofs.LawfulLemmas.{first_at}
-use Rattle.mama_drive.proofs.SystemLemmas.{with_lane, with_turn, told_at}
-use Rattle.mama_drive.proofs.SeatLemmas.{turn_kept, same_seat}
+use Rattle.mama_drive.proofs.SystemLemmas.{with_same_server, with_turn, told_at}
+use Rattle.mama_drive.proofs.SeatLemmas.{turn_kept, served_stays}
 use Rattle.mama_drive.proofs.system.System.queue_turn.Goals as goal
 
 pub overflow_add-timers_port : goal.overflow_add-timers_port
@@ -28,12 +29,14 @@ turn-requires-clause-told c =
     c.index_mut-seat.ensures.value (subst AreTold (sym c.self.view_is) c.requires.heard)
 
 pub invariant_of-self : goal.invariant_of-self
-invariant_of-self c = with_lane _ _ _ _ _ _ _ _ _ _ _ _ c.self.invariant c.args.number c.index_mut-seat.result.now c.turn.new.self c.index_mut-seat.ensures.value
-    (same_seat c.index_mut-seat.result.now c.turn.new.self c.in_err-served.ensures.err) (ap heard_in c.in_err-served.ensures.err) (ap journal_in c.in_err-served.ensures.err)
+invariant_of-self c = with_same_server _ _ _ _ _ _ _ _ _ _ _ _ c.self.invariant c.args.number c.index_mut-seat.result.now c.turn.new.self c.index_mut-seat.ensures.value c.in_err-served.ensures.err
 
 pub invariant_of-self-2 : goal.invariant_of-self-2
-invariant_of-self-2 c = with_turn _ _ _ _ _ _ _ _ _ _ _ _ c.self.invariant c.args.number c.index_mut-seat.result.now c.turn.new.self c.index_mut-seat.ensures.value
+invariant_of-self-2 c = with_turn _ _ _ _ _ _ _ _ _ _ _ _ c.self.invariant c.args.number c.index_mut-seat.result.now c.turn.new.self c.unmark.new.marks c.index_mut-seat.ensures.value
     (turn_kept c.index_mut-seat.result.now c.turn.new.self c.in_ok-served.ensures.seat)
+    (marked_turned waiting_in c.self.inside.queues.items c.args.number c.turn.new.self c.self.inside.marked_queues c.unmark.new.marks c.self.invariant.queues_marked
+    c.index_mut-seat.result.now c.is_quiet-is_empty.result (subst (λ (s : Scene). c.args.number < length s.servers) (sym c.self.view_is) c.requires.number) c.index_mut-seat.ensures.value
+    c.is_quiet-is_empty.ensures (served_stays c.index_mut-seat.result.now c.turn.new.self c.in_ok-served.ensures.seat) c.unmark.ensures)
 
 pub returns-clause-turn : goal.returns-clause-turn
 returns-clause-turn c =
