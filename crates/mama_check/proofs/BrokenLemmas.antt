@@ -1,5 +1,6 @@
 -- What the first that breaks a rule says, where it is found or none is.
-use Rattle.std.specs.Prelude.{slice_get, Option, None, Some}
+use Rattle.std.specs.Prelude.{◌↔◌, slice_get, Option, None, Some, is_some, IfNone}
+use Rattle.std.specs.Bool.{OnTrue}
 use Rattle.std.proofs.Common.{◌≡◌, ℕ, Bool, true, false, List, length, map, refl, sym, ◌∙◌, ap, subst, true≢false}
 use Rattle.mama_event.specs.declared.ids.ObjectId.{ObjectId}
 use Rattle.mama_script.specs.Script.{ScriptData}
@@ -20,6 +21,27 @@ first_at Keeps n found k is first = subst (λ (o : Option ℕ). IsFirst Keeps n 
 pub none_breaks : (Keeps : ℕ → Type 0) (n : ℕ) (found : Option ℕ) → ((k : ℕ) → found ≡ Some k → ⊥) → IsFirst Keeps n found → IsFirst Keeps n None
 none_breaks Keeps n None none first = first
 none_breaks Keeps n (Some k) none first = absurd (none k refl)
+
+-- what is said where nothing was found, and where something is true
+pub if_none : {X : Type 0} (found : Option X) (P : Type 0) → ((x : X) → found ≡ Some x → ⊥) → IfNone found P → P
+if_none None P none holds = holds
+if_none (Some x) P none holds = absurd (none x refl)
+
+pub if_true : (b : Bool) (P : Type 0) → b ≡ true → OnTrue b P → P
+if_true b P is holds = subst (λ (v : Bool). OnTrue v P) is holds
+
+-- the needs of an actor are found exactly where it keeps a rule
+pub found_keeps : {X : Type 0} (found : Option X) (x : X) (Keeps : Type 0) → found ≡ Some x → (is_some found ≡ true) ↔ Keeps → Keeps
+found_keeps {X} found x Keeps is tells = tells.0 (ap (λ (o : Option X). is_some o) is)
+
+pub none_keeps : {X : Type 0} (found : Option X) (Keeps : Type 0) → found ≡ None → (is_some found ≡ true) ↔ Keeps → Keeps → ⊥
+none_keeps {X} found Keeps is tells kept = true≢false (sym (tells.1 kept) ∙ ap (λ (o : Option X). is_some o) is)
+
+pub yes_keeps : (Keeps : Type 0) → Keeps → (true ≡ true) ↔ Keeps
+yes_keeps Keeps kept = (λ _. kept, λ _. refl)
+
+pub no_keeps : (Keeps : Type 0) → (Keeps → ⊥) → (false ≡ true) ↔ Keeps
+no_keeps Keeps broken = (λ is. absurd (true≢false (sym is)), λ kept. absurd (broken kept))
 
 pub not_whole : (whole : Bool) (Keeps : Type 0) → (Keeps → whole ≡ true) → whole ≡ false → Keeps → ⊥
 not_whole whole Keeps tells other kept = true≢false (sym (tells kept) ∙ other)

@@ -1,4 +1,4 @@
-ghost use Rattle.std.specs.Prelude.{◌≡◌, ℕ, ◌<◌, ◌^◌, length, map, Some, slice_get, IfOk};
+ghost use Rattle.std.specs.Prelude.{◌≡◌, ℕ, ◌<◌, ◌^◌, [], length, map, Some, slice_get, IfOk, IfNone};
 ghost use Rattle.mama_event.specs.declared.ids.ObjectId.{ObjectId};
 ghost use Rattle.mama_rules_rounds.specs.Round.{setting_of};
 ghost use Rattle.mama_script.specs.Within.{IsWithin};
@@ -6,17 +6,17 @@ ghost use Rattle.mama_laws_legal.specs.Laws.{IsOrderly};
 ghost use Rattle.mama_rules_legal.specs.Form.{IsCounted, IsFormed};
 ghost use Rattle.mama_check.specs.All.{AreAllPuts};
 ghost use Rattle.mama_check.specs.Puts.{AreServed};
+ghost use Rattle.mama_check.specs.Causal.{all_needs};
 ghost use Rattle.mama_check.specs.Verdict.{Finds, KeepAllLines, KeepEdges, KeepObjects, KeepLists, rule_of};
 
 use crate::all::AllPuts;
-use crate::edges::{
-    first_of_publisher_edges, first_of_queue_edges, is_bridge_whole, is_timing_whole,
-};
+use crate::edges::{add_bridge, add_clients, add_publishers, add_queues, add_timers};
 use crate::images::first_of_images;
 use crate::lines::{first_of_lines, first_of_moments};
 use crate::lists::{first_of_groups, first_of_watches};
 use crate::objects::first_of_calls;
 use crate::verdict::Actor;
+use mama_check_order::Need;
 use mama_check_queue::ServedQueue;
 use mama_event::ObjectId;
 use mama_memory::OutOfMemory;
@@ -101,24 +101,29 @@ pub(crate) fn first_broken_line(script: &Script, run: &RunRecord) -> Option<(u8,
 }
 
 /// The first actor whose edges are not whole: publishers, the bridge, the timer service, and then queues. All lines were
-/// done.
+/// done. Where there is none, what the entries of all actors need is added, in the order of the actors' numbers.
 pub(crate) fn first_broken_edge(
     alloc: Global,
     script: &Script,
     run: &RunRecord,
     puts: &AllPuts,
+    needs: &mut Vec<Vec<Option<Need>>>,
 ) -> Result<Option<(u8, Actor)>, OutOfMemory>
     requires orderly { IsOrderly script.now }
     requires counted { IsCounted script.now run.now }
     requires puts { AreAllPuts script.now run.now puts.now }
     requires lines { KeepAllLines script.now run.now }
-    ensures { IfOk result (Finds script.now run.now (KeepEdges script.now run.now)) }
+    requires none { needs.old.items ≡ [] }
+    ensures broken { IfOk result (Finds script.now run.now (KeepEdges script.now run.now)) }
+    ensures needs { IfOk result (λ broken. IfNone broken (map (λ actor. actor.items) needs.new.items ≡ all_needs script.now run.now)) }
 {
-    if let Some(p) = first_of_publisher_edges(alloc, script, run, &puts.bridge)? {
+    add_clients(alloc, needs, script)?;
+    if let Some(p) = add_publishers(alloc, needs, script, run, &puts.bridge)? {
         return Ok(Some((3, publisher_of(p))));
     }
-    if !is_bridge_whole(
+    if !add_bridge(
         alloc,
+        needs,
         script,
         run,
         &puts.clients,
@@ -127,8 +132,9 @@ pub(crate) fn first_broken_edge(
     )? {
         return Ok(Some((3, Actor::Bridge)));
     }
-    if !is_timing_whole(
+    if !add_timers(
         alloc,
+        needs,
         script,
         run,
         &puts.clients,
@@ -137,7 +143,7 @@ pub(crate) fn first_broken_edge(
     )? {
         return Ok(Some((3, Actor::Timers)));
     }
-    if let Some(q) = first_of_queue_edges(alloc, script, run, &puts.bridge, &puts.timers)? {
+    if let Some(q) = add_queues(alloc, needs, script, run, &puts.bridge, &puts.timers)? {
         return Ok(Some((3, queue_of(q))));
     }
     Ok(None)
@@ -146,27 +152,26 @@ pub(crate) fn first_broken_edge(
 /// The first object whose callbacks are not those that its queue makes, or else the first whose image is not the one that
 /// its strategy leaves. All lines were done, and all edges are whole.
 pub(crate) fn first_broken_object(
-    alloc: Global,
     script: &Script,
     run: &RunRecord,
     plans: &Plans,
     served: &[ServedQueue],
-) -> Result<Option<(u8, Actor)>, OutOfMemory>
+) -> Option<(u8, Actor)>
     requires formed { IsFormed script.now run.now }
     requires plans { plans.now ≡ (setting_of script.now).objects }
     requires served { AreServed script.now run.now served.now }
     requires lines { KeepAllLines script.now run.now }
     requires edges { KeepEdges script.now run.now }
-    ensures { IfOk result (Finds script.now run.now (KeepObjects script.now run.now)) }
+    ensures { Finds script.now run.now (KeepObjects script.now run.now) result }
 {
-    if let Some(k) = first_of_calls(alloc, script, run, plans, served)? {
+    if let Some(k) = first_of_calls(script, run, plans, served) {
         let object = object_at(plans, k);
-        return Ok(Some((rule_of(&object), Actor::Object(object))));
+        return Some((rule_of(&object), Actor::Object(object)));
     }
-    if let Some(k) = first_of_images(script, run, plans, served)? {
-        return Ok(Some((8, Actor::Object(object_at(plans, k)))));
+    if let Some(k) = first_of_images(script, run, plans, served) {
+        return Some((8, Actor::Object(object_at(plans, k))));
     }
-    Ok(None)
+    None
 }
 
 /// The first rule on groups and watches that is broken, and the first group or watch that breaks it. All else is kept.

@@ -1,12 +1,16 @@
-ghost use Rattle.std.specs.Prelude.{◌≡◌, ◌↔◌, ◌<◌, true, length, map, IfOk};
+//! What the entries of each actor need, found where the actor took all that was put to it.
+ghost use Rattle.std.specs.Prelude.{◌≡◌, ◌↔◌, ◌++◌, ◌∷◌, [], true, length, map, replicate, None, IfOk, IfNone, OnOk};
+ghost use Rattle.std.specs.Bool.{OnTrue};
 ghost use Rattle.mama_event.specs.Ports.{queues_of};
 ghost use Rattle.mama_script.specs.Tree.{IsShaped};
 ghost use Rattle.mama_check_puts.specs.Puts.{AreLists, timers_put_to};
 ghost use Rattle.mama_check.specs.First.{IsFirst};
 ghost use Rattle.mama_check.specs.Puts.{AreClientPuts, AreBridgePuts, AreServed, publisher_to_bridge};
 ghost use Rattle.mama_check.specs.Rules.{KeepsPublisherEdge, KeepsBridgeEdges, KeepsTimersEdges, KeepsQueueEdges};
+ghost use Rattle.mama_check.specs.Causal.{of_each, client_needs, publisher_needs, bridge_needs, timers_needs, queue_needs};
 
 use crate::takes::{needs_in_bridge, needs_in_publisher, needs_in_queue, needs_in_timers};
+use mama_check_order::Need;
 use mama_check_puts::{BridgePuts, ClientPuts};
 use mama_check_queue::ServedQueue;
 use mama_event::{BridgeNote, QueueNote};
@@ -15,27 +19,57 @@ use mama_record::RunRecord;
 use mama_script::Script;
 use std::alloc::Global;
 
-/// Whether a publisher took all that the bridge put to it, in order.
-pub fn is_publisher_whole(
+/// What so many entries need that take nothing.
+fn no_needs(alloc: Global, count: usize) -> Result<Vec<Option<Need>>, OutOfMemory>
+    ensures { IfOk result (λ needs. needs.items ≡ replicate count None) }
+{
+    Ok(vec![in alloc; None; count]?)
+}
+
+/// Adds what the entries of each client need: for each line, and one more, nothing.
+pub(crate) fn add_clients(
     alloc: Global,
+    needs: &mut Vec<Vec<Option<Need>>>,
+    script: &Script,
+) -> Result<(), OutOfMemory>
+    ensures { OnOk result (map (λ actor. actor.items) needs.new.items ≡ map (λ actor. actor.items) needs.old.items ++ of_each (length script.now.clients) (client_needs script.now)) }
+{
+    let clients = script.clients();
+    for lines in clients {
+        needs.push(no_needs(alloc, lines.as_slice().len() + 1)?)?;
+    }
+    Ok(())
+}
+
+/// Adds what the entries of each publisher need. The answer is the first that did not take all that the bridge put to it, in
+/// order: then those from it on are left out.
+pub(crate) fn add_publishers(
+    alloc: Global,
+    needs: &mut Vec<Vec<Option<Need>>>,
     script: &Script,
     run: &RunRecord,
     bridge: &BridgePuts,
-    publisher: usize,
-) -> Result<bool, OutOfMemory>
+) -> Result<Option<usize>, OutOfMemory>
     requires shaped { IsShaped script.now }
-    requires publisher { publisher < length script.now.publishers }
     requires journals { length run.now.publishers ≡ length script.now.publishers }
     requires bridge { AreBridgePuts script.now run.now bridge.now }
-    ensures { IfOk result (λ whole. (whole ≡ true) ↔ KeepsPublisherEdge script.now run.now publisher) }
+    ensures first { IfOk result (λ first. IsFirst (KeepsPublisherEdge script.now run.now) (length script.now.publishers) first) }
+    ensures needs { IfOk result (λ first. IfNone first (map (λ actor. actor.items) needs.new.items ≡ map (λ actor. actor.items) needs.old.items ++ of_each (length script.now.publishers) (publisher_needs script.now run.now))) }
 {
-    let needs = needs_in_publisher(alloc, script, run, bridge, publisher)?;
-    Ok(needs.is_some())
+    for p in 0..script.publishers().len() {
+        match needs_in_publisher(alloc, script, run, bridge, p)? {
+            Some(own) => needs.push(own)?,
+            None => return Ok(Some(p)),
+        }
+    }
+    Ok(None)
 }
 
-/// Whether the bridge took by each port all that was put there, in order, and nothing by other ports.
-pub fn is_bridge_whole(
+/// Adds what the entries of the bridge need, if it took by each port all that was put there, in order, and nothing by other
+/// ports. The answer is whether it did.
+pub(crate) fn add_bridge(
     alloc: Global,
+    needs: &mut Vec<Vec<Option<Need>>>,
     script: &Script,
     run: &RunRecord,
     clients: &[ClientPuts],
@@ -47,15 +81,22 @@ pub fn is_bridge_whole(
     requires clients { AreClientPuts script.now run.now clients.now }
     requires publishers { AreLists (map (λ list. list.items) publishers.now) (length script.now.publishers) (publisher_to_bridge script.now run.now) }
     requires queues { AreServed script.now run.now queues.now }
-    ensures { IfOk result (λ whole. (whole ≡ true) ↔ KeepsBridgeEdges script.now run.now) }
+    ensures whole { IfOk result (λ whole. (whole ≡ true) ↔ KeepsBridgeEdges script.now run.now) }
+    ensures needs { IfOk result (λ whole. OnTrue whole (map (λ actor. actor.items) needs.new.items ≡ map (λ actor. actor.items) needs.old.items ++ bridge_needs script.now run.now ∷ [])) }
 {
-    let needs = needs_in_bridge(alloc, script, run, clients, publishers, queues)?;
-    Ok(needs.is_some())
+    match needs_in_bridge(alloc, script, run, clients, publishers, queues)? {
+        Some(own) => {
+            needs.push(own)?;
+            Ok(true)
+        }
+        None => Ok(false),
+    }
 }
 
-/// Whether the timer service took by each port all that was put there, in order, and nothing by other ports.
-pub fn is_timing_whole(
+/// The same of the timer service.
+pub(crate) fn add_timers(
     alloc: Global,
+    needs: &mut Vec<Vec<Option<Need>>>,
     script: &Script,
     run: &RunRecord,
     clients: &[ClientPuts],
@@ -67,55 +108,23 @@ pub fn is_timing_whole(
     requires clients { AreClientPuts script.now run.now clients.now }
     requires queues { AreServed script.now run.now queues.now }
     requires bridge { AreBridgePuts script.now run.now bridge.now }
-    ensures { IfOk result (λ whole. (whole ≡ true) ↔ KeepsTimersEdges script.now run.now) }
+    ensures whole { IfOk result (λ whole. (whole ≡ true) ↔ KeepsTimersEdges script.now run.now) }
+    ensures needs { IfOk result (λ whole. OnTrue whole (map (λ actor. actor.items) needs.new.items ≡ map (λ actor. actor.items) needs.old.items ++ timers_needs script.now run.now ∷ [])) }
 {
-    let needs = needs_in_timers(alloc, script, run, clients, queues, bridge)?;
-    Ok(needs.is_some())
-}
-
-/// Whether a queue took by each of its two ports all that was put there, in order, and nothing by other ports.
-pub fn is_queue_whole(
-    alloc: Global,
-    script: &Script,
-    run: &RunRecord,
-    bridge: &BridgePuts,
-    timers: &[Vec<(usize, QueueNote)>],
-    queue: usize,
-) -> Result<bool, OutOfMemory>
-    requires queue { queue < queues_of script.now.shape }
-    requires journals { length run.now.queues ≡ queues_of script.now.shape }
-    requires bridge { AreBridgePuts script.now run.now bridge.now }
-    requires timers { AreLists (map (λ list. list.items) timers.now) (queues_of script.now.shape) (timers_put_to script.now.shape run.now.timers) }
-    ensures { IfOk result (λ whole. (whole ≡ true) ↔ KeepsQueueEdges script.now run.now queue) }
-{
-    let needs = needs_in_queue(alloc, script, run, bridge, timers, queue)?;
-    Ok(needs.is_some())
-}
-
-/// The first publisher that did not take all that the bridge put to it, in order.
-pub fn first_of_publisher_edges(
-    alloc: Global,
-    script: &Script,
-    run: &RunRecord,
-    bridge: &BridgePuts,
-) -> Result<Option<usize>, OutOfMemory>
-    requires shaped { IsShaped script.now }
-    requires journals { length run.now.publishers ≡ length script.now.publishers }
-    requires bridge { AreBridgePuts script.now run.now bridge.now }
-    ensures { IfOk result (λ first. IsFirst (KeepsPublisherEdge script.now run.now) (length script.now.publishers) first) }
-{
-    let count = script.publishers().len();
-    for p in 0..count {
-        if !is_publisher_whole(alloc, script, run, bridge, p)? {
-            return Ok(Some(p));
+    match needs_in_timers(alloc, script, run, clients, queues, bridge)? {
+        Some(own) => {
+            needs.push(own)?;
+            Ok(true)
         }
+        None => Ok(false),
     }
-    Ok(None)
 }
 
-/// The first queue that did not take by both its ports all that was put there, in order, and nothing by other ports.
-pub fn first_of_queue_edges(
+/// Adds what the entries of each queue need. The answer is the first that did not take by both its ports all that was put
+/// there, in order, or took something by another: then those from it on are left out.
+pub(crate) fn add_queues(
     alloc: Global,
+    needs: &mut Vec<Vec<Option<Need>>>,
     script: &Script,
     run: &RunRecord,
     bridge: &BridgePuts,
@@ -124,12 +133,13 @@ pub fn first_of_queue_edges(
     requires journals { length run.now.queues ≡ queues_of script.now.shape }
     requires bridge { AreBridgePuts script.now run.now bridge.now }
     requires timers { AreLists (map (λ list. list.items) timers.now) (queues_of script.now.shape) (timers_put_to script.now.shape run.now.timers) }
-    ensures { IfOk result (λ first. IsFirst (KeepsQueueEdges script.now run.now) (queues_of script.now.shape) first) }
+    ensures first { IfOk result (λ first. IsFirst (KeepsQueueEdges script.now run.now) (queues_of script.now.shape) first) }
+    ensures needs { IfOk result (λ first. IfNone first (map (λ actor. actor.items) needs.new.items ≡ map (λ actor. actor.items) needs.old.items ++ of_each (queues_of script.now.shape) (queue_needs script.now run.now))) }
 {
-    let count = run.queues().len();
-    for q in 0..count {
-        if !is_queue_whole(alloc, script, run, bridge, timers, q)? {
-            return Ok(Some(q));
+    for q in 0..run.queues().len() {
+        match needs_in_queue(alloc, script, run, bridge, timers, q)? {
+            Some(own) => needs.push(own)?,
+            None => return Ok(Some(q)),
         }
     }
     Ok(None)

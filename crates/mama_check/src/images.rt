@@ -1,9 +1,9 @@
-ghost use Rattle.std.specs.Prelude.{◌≡◌, ◌≢◌, ℕ, [], ◌∷◌, length, slice_index_or, IfOk, IfSome, IfNone};
+ghost use Rattle.std.specs.Prelude.{◌≡◌, ◌≢◌, ℕ, [], ◌∷◌, length, slice_index_or, IfSome, IfNone};
 ghost use Rattle.mama_event.specs.Object.{same_sub};
 ghost use Rattle.mama_record.specs.RunView as view;
 ghost use Rattle.mama_rules_rounds.specs.Round.{setting_of};
 ghost use Rattle.mama_plans.specs.Plans.{planned_object};
-ghost use Rattle.mama_plans.specs.Image.{found_image};
+ghost use Rattle.mama_check_queue.specs.Served.{image_given};
 ghost use Rattle.mama_check_queue.specs.Recorded.{AreOf, journals_of, image_by, images_by};
 ghost use Rattle.mama_rules_legal.specs.Form.{IsFormed};
 ghost use Rattle.mama_check.specs.First.{IsFirst};
@@ -11,29 +11,28 @@ ghost use Rattle.mama_check.specs.Images.{KeepsImage, own_first, own_rest, first
 ghost use Rattle.mama_check.specs.Puts.{AreServed};
 
 use mama_check_order::{is_same_head, is_same_message};
-use mama_check_queue::ServedQueue;
+use mama_check_queue::{ImageRow, ServedQueue};
 use mama_event::{ImageHead, ObjectId, SubId};
-use mama_memory::OutOfMemory;
 use mama_msg::Msg;
 use mama_plans::{PlannedObject, Plans};
 use mama_record::RunRecord;
 use mama_script::Script;
 
 /// The last image of a subscription on the queue of this number. The queues follow these plans.
-fn image_on(
+fn image_on<'s>(
     plans: &Plans,
-    served: &[ServedQueue],
+    served: &'s [ServedQueue],
     queue: u32,
     sub: SubId,
-) -> Result<Option<(ImageHead, Msg)>, OutOfMemory>
+) -> Option<ImageRow<'s>>
     requires { AreOf plans.now served.now }
-    ensures { IfOk result (λ found. found_image sub found ≡ image_by plans.now (slice_index_or (journals_of served.now) queue []) (ObjectId.Sub sub)) }
+    ensures { image_given sub result ≡ image_by plans.now (slice_index_or (journals_of served.now) queue []) (ObjectId.Sub sub) }
 {
     let queue = queue as usize;
     if queue < served.len() {
         return served[queue].image(sub);
     }
-    Ok(None)
+    None
 }
 
 /// Whether an image is of a subscription.
@@ -86,14 +85,14 @@ fn after_none<'r>(
 fn after_found<'r>(
     left: &'r [(SubId, ImageHead, Msg)],
     sub: SubId,
-    found: Option<(ImageHead, Msg)>,
+    found: Option<ImageRow>,
 ) -> Option<&'r [(SubId, ImageHead, Msg)]>
-    ensures first { IfSome result (λ rest. own_first sub (view.images_of left.now) ≡ found_image sub found) }
+    ensures first { IfSome result (λ rest. own_first sub (view.images_of left.now) ≡ image_given sub found.entry) }
     ensures rest { IfSome result (λ rest. view.images_of rest.now ≡ own_rest sub (view.images_of left.now)) }
-    ensures none { IfNone result (own_first sub (view.images_of left.now) ≢ found_image sub found) }
+    ensures none { IfNone result (own_first sub (view.images_of left.now) ≢ image_given sub found.entry) }
 {
     match found {
-        Some((head, body)) => after_one(left, sub, &head, &body),
+        Some(image) => after_one(left, sub, &image.head, image.body),
         None => after_none(left, sub),
     }
 }
@@ -105,19 +104,19 @@ fn after_object<'r>(
     served: &[ServedQueue],
     planned: &PlannedObject,
     left: &'r [(SubId, ImageHead, Msg)],
-) -> Result<Option<&'r [(SubId, ImageHead, Msg)]>, OutOfMemory>
+) -> Option<&'r [(SubId, ImageHead, Msg)]>
     requires { AreOf plans.now served.now }
-    ensures first { IfOk result (λ found. IfSome found (λ rest. first_for planned.now.object (view.images_of left.now) ≡ images_by plans.now (journals_of served.now) (planned_object planned.now))) }
-    ensures rest { IfOk result (λ found. IfSome found (λ rest. view.images_of rest.now ≡ rest_for planned.now.object (view.images_of left.now))) }
-    ensures none { IfOk result (λ found. IfNone found (first_for planned.now.object (view.images_of left.now) ≢ images_by plans.now (journals_of served.now) (planned_object planned.now))) }
+    ensures first { IfSome result (λ rest. first_for planned.now.object (view.images_of left.now) ≡ images_by plans.now (journals_of served.now) (planned_object planned.now)) }
+    ensures rest { IfSome result (λ rest. view.images_of rest.now ≡ rest_for planned.now.object (view.images_of left.now)) }
+    ensures none { IfNone result (first_for planned.now.object (view.images_of left.now) ≢ images_by plans.now (journals_of served.now) (planned_object planned.now)) }
 {
     match planned.object {
         ObjectId::Sub(sub) => {
-            let found = image_on(plans, served, planned.queue, sub)?;
-            Ok(after_found(left, sub, found))
+            let found = image_on(plans, served, planned.queue, sub);
+            after_found(left, sub, found)
         }
-        ObjectId::Timer(_) => Ok(Some(left)),
-        ObjectId::Inbox(_) => Ok(Some(left)),
+        ObjectId::Timer(_) => Some(left),
+        ObjectId::Inbox(_) => Some(left),
     }
 }
 
@@ -128,19 +127,19 @@ pub fn first_of_images(
     run: &RunRecord,
     plans: &Plans,
     served: &[ServedQueue],
-) -> Result<Option<usize>, OutOfMemory>
+) -> Option<usize>
     requires formed { IsFormed script.now run.now }
     requires plans { plans.now ≡ (setting_of script.now).objects }
     requires served { AreServed script.now run.now served.now }
-    ensures { IfOk result (λ first. IsFirst (KeepsImage script.now run.now) (length (setting_of script.now).objects) first) }
+    ensures { IsFirst (KeepsImage script.now run.now) (length (setting_of script.now).objects) result }
 {
     let mut left = run.images();
     let objects = plans.objects();
     for (k, planned) in objects.iter().enumerate() {
-        match after_object(plans, served, planned, left)? {
+        match after_object(plans, served, planned, left) {
             Some(rest) => left = rest,
-            None => return Ok(Some(k)),
+            None => return Some(k),
         }
     }
-    Ok(None)
+    None
 }

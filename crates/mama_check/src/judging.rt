@@ -43,24 +43,16 @@ pub fn check(alloc: Global, script: &Script, run: &RunRecord) -> Result<Verdict,
     let groups = groups_by_queue(alloc, script, &plans)?;
     let watches = watches_by_queue(alloc, script, &plans)?;
     let puts = all_puts(alloc, script, run, &plans, &groups, &watches)?;
-    if let Some(broken) = first_broken_edge(alloc, script, run, &puts)? {
+    let mut needs = Vec::new(alloc);
+    if let Some(broken) = first_broken_edge(alloc, script, run, &puts, &mut needs)? {
         return Ok(not_legal(broken));
     }
-    if let Some(broken) = first_broken_object(alloc, script, run, &plans, &puts.queues)? {
+    if let Some(broken) = first_broken_object(script, run, &plans, &puts.queues) {
         return Ok(not_legal(broken));
     }
     if let Some(broken) = first_broken_list(alloc, script, run, &plans, &puts.queues)? {
         return Ok(not_legal(broken));
     }
-    let causal = is_causal(
-        alloc,
-        script,
-        run,
-        &puts.clients,
-        &puts.publishers,
-        &puts.bridge,
-        &puts.timers,
-        &puts.queues,
-    )?;
+    let causal = is_causal(alloc, script, run, needs.as_slice())?;
     Ok(Verdict::Legal { causal })
 }

@@ -3,8 +3,8 @@
 //! `specs/Rules.antt` says each rule, for one actor, and `specs/First.antt` what the first actor is that does not keep it.
 //! A function for each rule finds that actor, and [`kept_rules_are_legal`] says that a record is legal exactly where all
 //! keep all of them (`specs/Kept.antt`). [`check`] gives the verdict on a whole record: legal, or the first rule that is
-//! broken and its first actor. [`is_causal`] says whether its entries could all be taken one after another, each after
-//! what it needs, and [`needs_of_run`] what that is for each. [`has_sent_all`] decides whether a publisher did all its
+//! broken and its first actor. What an entry needs is found as its actor's edges are walked. [`is_causal`] says whether all
+//! entries could be taken one after another, each after what it needs, and [`needs_of_run`] what that is for each. [`has_sent_all`] decides whether a publisher did all its
 //! lines, was settled and told the end; [`sends_of`] and [`clock_lines_of`] count lines.
 #![tactic(auto)]
 
@@ -27,10 +27,6 @@ mod takes;
 mod verdict;
 
 pub use causal::{actors_have_their_numbers, is_causal, needs_of_run};
-pub use edges::{
-    first_of_publisher_edges, first_of_queue_edges, is_bridge_whole, is_publisher_whole,
-    is_queue_whole, is_timing_whole,
-};
 pub use images::first_of_images;
 pub use judging::check;
 pub use laws::{kept_rules_are_legal, legal_records_are_formed, legal_records_are_true};

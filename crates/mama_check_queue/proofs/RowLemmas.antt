@@ -6,8 +6,13 @@ use Rattle.std.proofs.Math.ListN.{set}
 use Rattle.std.proofs.lemmas.Bool.{or_parts}
 use Rattle.std.proofs.lemmas.List.{length-map, get_or-map, map-set, length-append}
 use Rattle.std.proofs.lemmas.List.Quantifiers.{position-Some}
+use Rattle.mama_event.specs.declared.ids.SubId.{SubId}
+use Rattle.mama_event.specs.declared.ids.TimerId.{TimerId}
+use Rattle.mama_event.specs.declared.ids.InboxId.{InboxId}
 use Rattle.mama_event.specs.declared.ids.ObjectId.{ObjectId}
+use Rattle.mama_event.specs.declared.ids.ObjectId.TheVariants.{Sub, Timer, Inbox}
 use Rattle.mama_event.specs.declared.order.Order.{Order}
+use Rattle.mama_event.specs.declared.order.Order.TheVariants as order
 use Rattle.mama_event.specs.Object.{same_object}
 use Rattle.mama_rules_queue.specs.Queue.{ends}
 use Rattle.mama_dispatch.proofs.DeedLemmas.{same_object-true, same_object-sym, same_object-refl}
@@ -215,6 +220,27 @@ muted_more x os order s =
         or_assoc : (a b c : Bool) → ((a || b) || c) ≡ (a || (b || c))
         or_assoc true b c = refl
         or_assoc false b c = refl
+
+-- each kind of order ends one object, and an Ask none
+pub ends_sub : (s : SubId) (x : ObjectId) → ends x (order.Stop s) ≡ same_object (Sub s) x
+ends_sub s (Sub a) = same_object-sym (Sub a) (Sub s)
+ends_sub s (Timer a) = refl
+ends_sub s (Inbox a) = refl
+
+pub ends_timer : (t : TimerId) (x : ObjectId) → ends x (order.Disarm t) ≡ same_object (Timer t) x
+ends_timer t (Sub a) = refl
+ends_timer t (Timer a) = same_object-sym (Timer a) (Timer t)
+ends_timer t (Inbox a) = refl
+
+pub ends_inbox : (i : InboxId) (x : ObjectId) → ends x (order.Close i) ≡ same_object (Inbox i) x
+ends_inbox i (Sub a) = refl
+ends_inbox i (Timer a) = refl
+ends_inbox i (Inbox a) = same_object-sym (Inbox a) (Inbox i)
+
+pub ends_none : (i : InboxId) (topic : ℕ) (fids : List ℕ) (x : ObjectId) → ends x (order.Ask i topic fids) ≡ false
+ends_none i topic fids (Sub a) = refl
+ends_none i topic fids (Timer a) = refl
+ends_none i topic fids (Inbox a) = refl
 
 -- an order mutes the object that it ends, where that is live
 pub mutes : (o : ObjectId) (order : Order) → ((x : ObjectId) → ends x order ≡ same_object o x) → (x : ObjectId) (s : SeenData) → at o x silenced s ≡ muted_by x (order ∷ []) s

@@ -1,5 +1,5 @@
 -- believed: A queue that was served again: what it put, and the last images of its subscriptions.
-use Rattle.std.specs.Prelude.{ℕ, List, map}
+use Rattle.std.specs.Prelude.{ℕ, List, Option, map}
 use Rattle.std.specs.Global.{Vec}
 use Rattle.mama_journal.specs.Journal.{first_said}
 use Rattle.mama_check_order.specs.Numbered.{numbered, parted}
@@ -15,10 +15,13 @@ use Rattle.mama_event.specs.declared.watch.WatchNote.{WatchNote}
 use Rattle.mama_rules_queue.specs.Queue.{QueuePut, make_in, context_of, messages_of, deeds}
 use Rattle.mama_rules_queue.specs.Group.{group_notes}
 use Rattle.mama_rules_queue.specs.Watch.{watch_notes, watched_puts_at}
+use Rattle.mama_dispatch.specs.declared.row.ImageRow.{ImageRow}
+use Rattle.mama_dispatch.specs.Images.{lent}
 use Rattle.mama_group.specs.declared.silent.SilentGroup.{SilentGroup}
 use Rattle.mama_record.specs.RunData.{LastImage, GroupNotes, WatchNotes}
 use Rattle.mama_rules_rounds.specs.Client.{Planned, bridge_part, timers_part}
 use Rattle.mama_rules_rounds.specs.Round.{image_in}
+use Rattle.mama_plans.specs.Image.{found_image}
 use Rattle.mama_plans.specs.Orders.{orders_in}
 
 -- a queue: the objects with the plans that its listeners follow, its groups and its watches, and what it took
@@ -59,3 +62,6 @@ group_given g = record { group = g.0; notes = g.1.items }
 
 abbrev pub watch_given : ℕ × Vec WatchNote → WatchNotes
 watch_given w = record { watch = w.0; notes = w.1.items }
+
+abbrev pub image_given : SubId → Option ImageRow → List LastImage
+image_given sub row = found_image sub (lent row)

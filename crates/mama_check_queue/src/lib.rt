@@ -16,12 +16,10 @@ mod seen;
 mod served;
 mod serving;
 
-pub use mama_event::{
-    BridgeNote, CallNote, ImageHead, ObjectId, PlanRow, QueueNote, SubId, TimersNote,
-};
+pub use mama_dispatch::ImageRow;
+pub use mama_event::{BridgeNote, CallNote, ObjectId, PlanRow, QueueNote, SubId, TimersNote};
 pub use mama_group::SilentGroup;
 pub use mama_memory::OutOfMemory;
-pub use mama_msg::Msg;
 pub use mama_plans::{PlannedObject, Plans};
 pub use served::ServedQueue;
 pub use serving::serve_all;

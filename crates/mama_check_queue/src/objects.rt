@@ -4,21 +4,21 @@ ghost use Rattle.mama_event.specs.Object.{same_object};
 ghost use Rattle.mama_event.specs.declared.ids.ObjectId.{ObjectId as AnyObject};
 ghost use Rattle.mama_event.specs.declared.ids.ObjectId.TheVariants.{Sub as OfSub};
 ghost use Rattle.mama_dq.specs.Strategy.{callbacks_of};
-ghost use Rattle.mama_rules_queue.specs.Queue.{called, handled, ends};
+ghost use Rattle.mama_rules_queue.specs.Queue.{called, handled};
+ghost use Rattle.mama_dispatch.specs.Images.{lent};
 ghost use Rattle.mama_dispatch.specs.Journals.{image_in};
 ghost use Rattle.mama_check_queue.specs.Seen.{at, begun, silenced, muted_by, called_so, handling, made_as, after_deed};
 ghost use Rattle.mama_check_queue.specs.Rows.{seen_in};
 ghost use Rattle.mama_check_queue.specs.Lists.{is_missed_row};
 
 use crate::seen::{
-    Seen, begin_at, copies_of, handle_at, image_of, is_missed_at, make_at, new_seen, note_at,
-    silence_at,
+    Seen, begin_at, handle_at, image_of, is_missed_at, make_at, new_seen, note_at, silence_at,
 };
 use indexmap::IndexSet;
+use mama_dispatch::ImageRow;
 use mama_dq::Calls;
-use mama_event::{CallNote, Callback, ImageHead, Make, MarketMsg, ObjectId, Order, Orders, SubId};
+use mama_event::{CallNote, Callback, Make, MarketMsg, ObjectId, Order, Orders, SubId};
 use mama_memory::OutOfMemory;
-use mama_msg::Msg;
 use std::alloc::Global;
 use std::marker::Model;
 
@@ -41,23 +41,6 @@ impl Model for Objects {
     ghost view = { λ s. record { ids = s.places.keys; rows = map seen_data s.rows.items } };
 
     ghost invariant = { λ s. length s.places.keys ≡ length s.rows.items };
-}
-
-/// The object that an order ends, if it ends one.
-fn ended_by(order: &Order) -> Option<ObjectId>
-    ensures some { IfSome result (λ object. (x : AnyObject) → ends x order.now ≡ same_object object x) }
-    ensures none { IfNone result ((x : AnyObject) → ends x order.now ≡ false) }
-{
-    match order {
-        Order::Stop(sub) => Some(ObjectId::Sub(*sub)),
-        Order::Disarm(timer) => Some(ObjectId::Timer(*timer)),
-        Order::Close(inbox) => Some(ObjectId::Inbox(*inbox)),
-        Order::Ask {
-            inbox: _,
-            topic: _,
-            fids: _,
-        } => None,
-    }
 }
 
 impl Objects {
@@ -127,20 +110,13 @@ impl Objects {
         }
     }
 
-    /// Copies of the callbacks of an object.
-    pub(crate) fn copied_calls(&self, object: &ObjectId) -> Result<Vec<CallNote>, OutOfMemory>
-        ensures { IfOk result (λ calls. calls.items ≡ (seen_in self.now object.now).calls) }
-    {
-        copies_of(self.alloc, self.calls(object))
-    }
-
-    /// The image of a subscription, if it has one.
-    pub(crate) fn image(&self, sub: SubId) -> Result<Option<(ImageHead, Msg)>, OutOfMemory>
-        ensures { IfOk result (λ found. found ≡ image_in (seen_in self.now (OfSub sub)).context) }
+    /// The image of a subscription, lent, if it has one.
+    pub(crate) fn image(&self, sub: SubId) -> Option<ImageRow<'_>>
+        ensures { lent result ≡ image_in (seen_in self.now (OfSub sub)).context }
     {
         match self.place(&ObjectId::Sub(sub)) {
             Some(place) => image_of(&self.rows[place].context),
-            None => Ok(None),
+            None => None,
         }
     }
 
@@ -199,9 +175,15 @@ impl Objects {
     fn mute(&mut self, order: &Order)
         ensures { (x : AnyObject) → seen_in self.new x ≡ muted_by x (order.now ∷ []) (seen_in self.old x) }
     {
-        match ended_by(order) {
-            Some(object) => self.silence(&object),
-            None => {}
+        match order {
+            Order::Stop(sub) => self.silence(&ObjectId::Sub(*sub)),
+            Order::Disarm(timer) => self.silence(&ObjectId::Timer(*timer)),
+            Order::Close(inbox) => self.silence(&ObjectId::Inbox(*inbox)),
+            Order::Ask {
+                inbox: _,
+                topic: _,
+                fids: _,
+            } => {}
         }
     }
 

@@ -1,5 +1,6 @@
 ghost use Rattle.std.specs.Prelude.{◌≡◌, ◌++◌, ◌&&◌, not, [], Some, IfOk, OnOk};
 ghost use Rattle.mama_dq.specs.Strategy.{callbacks_of};
+ghost use Rattle.mama_dispatch.specs.Images.{lent};
 ghost use Rattle.mama_dispatch.specs.Journals.{image_in};
 ghost use Rattle.mama_rules_queue.specs.Queue.{is_create as creates, is_destroy as destroys, context_of};
 ghost use Rattle.mama_check_queue.specs.Seen.{unseen, begun, silenced, called_so, kept_more, handling, made_as};
@@ -7,10 +8,10 @@ ghost use Rattle.mama_rules_queue.specs.Watch.{lacks_image};
 ghost use Rattle.mama_check_queue.specs.Rows.{seen_data};
 ghost use Rattle.mama_check_queue.specs.Lists.{is_missed_row};
 
+use mama_dispatch::ImageRow;
 use mama_dq::{Calls, DqContext};
 use mama_event::{CallNote, Callback, ImageHead, Make, MarketMsg, Orders, Strategy, SubKind};
 use mama_memory::{Duplicate, OutOfMemory};
-use mama_msg::Msg;
 use std::alloc::Global;
 
 /// What the journal of a queue tells of one object.
@@ -152,31 +153,17 @@ fn folded(alloc: Global, make: Make, messages: &[MarketMsg]) -> Result<DqContext
     Ok(context)
 }
 
-/// The image of a context, if it has one.
-pub(crate) fn image_of(context: &DqContext) -> Result<Option<(ImageHead, Msg)>, OutOfMemory>
-    ensures { IfOk result (λ found. found ≡ image_in context.now) }
+/// The image of a context, lent, if it has one.
+pub(crate) fn image_of(context: &DqContext) -> Option<ImageRow<'_>>
+    ensures { lent result ≡ image_in context.now }
 {
-    let Some(image) = context.image() else {
-        return Ok(None);
-    };
-    let body = image.try_clone()?;
+    let body = context.image()?;
     let head = ImageHead {
         sender: context.sender(),
         last: context.last(),
         quality: context.quality(),
     };
-    Ok(Some((head, body)))
-}
-
-/// Copies of some callbacks.
-pub(crate) fn copies_of(alloc: Global, notes: &[CallNote]) -> Result<Vec<CallNote>, OutOfMemory>
-    ensures { IfOk result (λ copies. copies.items ≡ notes.now) }
-{
-    let mut copies = Vec::with_capacity(alloc, notes.len())?;
-    for note in notes {
-        copies.push(note.try_clone()?)?;
-    }
-    Ok(copies)
+    Some(ImageRow { head, body })
 }
 
 /// Whether a context has no image.

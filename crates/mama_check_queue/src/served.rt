@@ -1,19 +1,17 @@
-ghost use Rattle.std.specs.Prelude.{◌≡◌, map, IfOk};
+ghost use Rattle.std.specs.Prelude.{◌≡◌, map};
 ghost use Rattle.mama_rules_queue.specs.Queue.{deeds, calls_of};
 ghost use Rattle.mama_rules_rounds.specs.Round.{noted};
 ghost use Rattle.mama_plans.specs.Orders.{orders_in};
-ghost use Rattle.mama_plans.specs.Image.{found_image};
-ghost use Rattle.mama_check_queue.specs.Served.{bridge_puts, timers_puts, last_image_of, groups_heard, watches_noted, group_given, watch_given};
+ghost use Rattle.mama_check_queue.specs.Served.{bridge_puts, timers_puts, last_image_of, image_given, groups_heard, watches_noted, group_given, watch_given};
 
 use crate::objects::Objects;
 use crate::puts::Puts;
+use mama_dispatch::ImageRow;
 use mama_event::{
-    BridgeNote, CallNote, GroupNote, GroupRow, ImageHead, ObjectId, QueueNote, SubId, TimersNote,
-    WatchNote, WatchRow,
+    BridgeNote, CallNote, GroupNote, GroupRow, ObjectId, QueueNote, SubId, TimersNote, WatchNote,
+    WatchRow,
 };
 use mama_group::SilentGroup;
-use mama_memory::OutOfMemory;
-use mama_msg::Msg;
 use mama_plans::Plans;
 use std::marker::Model;
 
@@ -72,15 +70,15 @@ impl<'a> ServedQueue<'a> {
     }
 
     /// The callbacks of an object.
-    pub fn calls(&self, object: &ObjectId) -> Result<Vec<CallNote>, OutOfMemory>
-        ensures { IfOk result (λ calls. calls.items ≡ map noted (calls_of object.now (deeds (orders_in self.now.objects) self.now.journal))) }
+    pub fn calls(&self, object: &ObjectId) -> &[CallNote]
+        ensures { result.now ≡ map noted (calls_of object.now (deeds (orders_in self.now.objects) self.now.journal)) }
     {
-        self.objects.copied_calls(object)
+        self.objects.calls(object)
     }
 
-    /// The last image of a subscription, or `None` where it has none, as a basic one.
-    pub fn image(&self, sub: SubId) -> Result<Option<(ImageHead, Msg)>, OutOfMemory>
-        ensures { IfOk result (λ found. found_image sub found ≡ last_image_of self.now sub) }
+    /// The last image of a subscription, lent, or `None` where it has none, as a basic one.
+    pub fn image(&self, sub: SubId) -> Option<ImageRow<'_>>
+        ensures { image_given sub result ≡ last_image_of self.now sub }
     {
         self.objects.image(sub)
     }

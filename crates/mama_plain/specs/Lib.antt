@@ -11,5 +11,4 @@ pub mod Own
 pub mod Rewritten
 pub mod Kept
 pub mod Replayed
-pub mod Stepped
 pub mod Unreplayed

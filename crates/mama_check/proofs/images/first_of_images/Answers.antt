@@ -1,6 +1,5 @@
 use Rattle.std.proofs.Common.{◌∙◌}
 use Rattle.mama_record.specs.RunView as view
-use Rattle.mama_check_queue.proofs.Options.{some_is, none_is}
 use Rattle.mama_check.proofs.ImageWalk.{at_start, at_next, first_here, at_end}
 use Rattle.mama_check.proofs.images.first_of_images.Goals as goal
 
@@ -12,14 +11,13 @@ pub loop-k-preserved : goal.loop-k-preserved
 loop-k-preserved c =
     at_next c.args.script.now c.args.run.now c.args.plans.now c.args.served.now c.objects-objects.result.now c.loop-k.k c.index-objects-k.result (view.images_of c.loop-k.left.now)
     c.objects-objects.ensures c.requires.plans c.requires.served.journals c.loop-k-test.true c.index-objects-k.is c.loop-k.invariant (view.images_of c.in-Some.rest.now)
-    (some_is c.in_ok-rest.field-0 c.in-Some.rest _ c.in-Some.is c.in_ok-rest.ensures.first)
-    (some_is c.in_ok-rest.field-0 c.in-Some.rest _ c.in-Some.is c.in_ok-rest.ensures.rest)
+    c.in-Some.ensures.first c.in-Some.ensures.rest
 
 pub returns-in-None : goal.returns-in-None
 returns-in-None c =
     first_here c.args.script.now c.args.run.now c.args.plans.now c.args.served.now c.objects-objects.result.now c.loop-k.k c.index-objects-k.result (view.images_of c.loop-k.left.now)
     c.objects-objects.ensures c.requires.plans c.requires.served.journals c.loop-k-test.true c.index-objects-k.is c.loop-k.invariant
-    (none_is c.in_ok-rest.field-0 _ c.in-None.is c.in_ok-rest.ensures.none)
+    c.in-None.ensures.none
 
 pub returns : goal.returns
 returns c =

@@ -15,30 +15,29 @@ loop-k-preserved c =
     let script = c.args.script.now in
     let run = c.args.run.now in
     let x = c.index-objects-k.result in
-    let calls : List CallNote = c.in_ok-calls.calls.items in
+    let calls : List CallNote = c.calls_on-calls.result.now in
     let planned : planned_objects c.objects-objects.result.now ≡ (setting_of script).objects = c.objects-objects.ensures ∙ c.requires.plans in
     let told : calls ≡ (object_calls (setting_of script) run.queues (planned_object x)).calls =
-    told_calls script run c.args.plans.now c.args.served.now (planned_object x) calls c.requires.plans c.requires.served.journals c.in_ok-calls.ensures in
+    told_calls script run c.args.plans.now c.args.served.now (planned_object x) calls c.requires.plans c.requires.served.journals c.calls_on-calls.ensures in
     below_more _ _ c.loop-k.invariant
     (calls_kept script run c.calls-recorded.result.now c.objects-objects.result.now c.loop-k.k c.index-recorded-k.result x c.calls-recorded.ensures planned c.requires.objects c.loop-k-test.true
     c.index-recorded-k.is c.index-objects-k.is calls told
-    (sym c.deref.ensures.value ∙ c.are_same_calls.ensures.0 c.if-not-are_same_calls.false ∙ c.deref-in-loop-k.ensures.value))
+    (sym c.deref.ensures.value ∙ c.are_same_calls.ensures.0 c.if-not-are_same_calls.false))
 
 pub returns-then-not-are_same_calls : goal.returns-then-not-are_same_calls
 returns-then-not-are_same_calls c =
     let script = c.args.script.now in
     let run = c.args.run.now in
     let x = c.index-objects-k.result in
-    let calls : List CallNote = c.in_ok-calls.calls.items in
+    let calls : List CallNote = c.calls_on-calls.result.now in
     let planned : planned_objects c.objects-objects.result.now ≡ (setting_of script).objects = c.objects-objects.ensures ∙ c.requires.plans in
     let told : calls ≡ (object_calls (setting_of script) run.queues (planned_object x)).calls =
-    told_calls script run c.args.plans.now c.args.served.now (planned_object x) calls c.requires.plans c.requires.served.journals c.in_ok-calls.ensures in (
+    told_calls script run c.args.plans.now c.args.served.now (planned_object x) calls c.requires.plans c.requires.served.journals c.calls_on-calls.ensures in (
       planned_within script c.objects-objects.result.now c.loop-k.k planned c.loop-k-test.true,
       (λ keeps. true≢false (sym (c.are_same_calls.ensures.1
           (c.deref.ensures.value
           ∙ calls_back script run c.calls-recorded.result.now c.objects-objects.result.now c.loop-k.k c.index-recorded-k.result x c.calls-recorded.ensures planned c.requires.objects c.loop-k-test.true
-          c.index-recorded-k.is c.index-objects-k.is calls told keeps
-          ∙ sym c.deref-in-loop-k.ensures.value))
+          c.index-recorded-k.is c.index-objects-k.is calls told keeps))
           ∙ c.if-not-are_same_calls.true)),
       c.loop-k.invariant,
     )

@@ -1,6 +1,5 @@
 use Rattle.std.specs.Prelude.{map}
 use Rattle.std.proofs.Common.{ap, ◌∙◌}
-use Rattle.std.proofs.lemmas.Result.{IfOk-weaker}
 use Rattle.mama_rules_queue.specs.Queue.{deeds, calls_of}
 use Rattle.mama_rules_rounds.specs.Round.{noted}
 use Rattle.mama_plans.specs.Orders.{orders_in}
@@ -10,8 +9,5 @@ use Rattle.mama_check_queue.proofs.served.ServedQueue.calls.Goals as goal
 
 pub returns : goal.returns
 returns c =
-    IfOk-weaker c.copied_calls.result _ _
-    (λ calls is.
-    is ∙ ap (λ (s : SeenData). s.calls) (c.self.invariant.seen.each c.args.object.now)
-    ∙ ap (λ (s : ServedData). map noted (calls_of c.args.object.now (deeds (orders_in s.objects) s.journal))) c.self.view_is)
-    c.copied_calls.ensures
+    c.calls.ensures ∙ ap (λ (s : SeenData). s.calls) (c.self.invariant.seen.each c.args.object.now)
+    ∙ ap (λ (s : ServedData). map noted (calls_of c.args.object.now (deeds (orders_in s.objects) s.journal))) c.self.view_is

@@ -1,5 +1,4 @@
-use Rattle.std.proofs.Common.{◌≡◌, ℕ, List, ap, ◌∙◌}
-use Rattle.std.proofs.lemmas.Result.{IfOk-weaker}
+use Rattle.std.proofs.Common.{ℕ, List, ap, ◌∙◌}
 use Rattle.mama_journal.specs.Journal.{first_said}
 use Rattle.mama_event.specs.declared.ids.ObjectId.{ObjectId}
 use Rattle.mama_event.specs.declared.ids.ObjectId.TheVariants.{Sub}
@@ -19,9 +18,6 @@ returns c =
     let orders : ObjectId → ℕ → List Order = orders_in c.self.inside.plans.now in
     let journal : List (ℕ × QueueNote) = c.self.inside.journal.now in
     let sub = c.args.sub in
-    IfOk-weaker c.image.result _ (λ found. found_image sub found ≡ last_image_of c.args.self.now sub)
-    (λ found is.
-    ap (found_image sub) (is ∙ ap (λ (s : SeenData). image_in s.context) (c.self.invariant.seen.each (Sub sub)))
+    ap (found_image sub) (c.image.ensures ∙ ap (λ (s : SeenData). image_in s.context) (c.self.invariant.seen.each (Sub sub)))
     ∙ found_as sub (context_after orders journal sub) (context_waits (first_said (λ (e : ℕ × QueueNote). make_in (Sub sub) e.1) journal) (messages_of sub (deeds orders journal)))
-    ∙ ap (λ (s : ServedData). last_image_of s sub) c.self.view_is)
-    c.image.ensures
+    ∙ ap (λ (s : ServedData). last_image_of s sub) c.self.view_is

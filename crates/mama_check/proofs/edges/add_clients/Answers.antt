@@ -6,7 +6,7 @@ use Rattle.mama_script.specs.declared.client.ClientLine.{ClientLine}
 use Rattle.mama_check.specs.Causal.{client_needs}
 use Rattle.mama_check.proofs.LineLemmas.{any_default}
 use Rattle.mama_check.proofs.Causes.{added_to}
-use Rattle.mama_check.proofs.causal.add_clients.Goals as goal
+use Rattle.mama_check.proofs.edges.add_clients.Goals as goal
 
 pub loop-lines-preserved : goal.loop-lines-preserved
 loop-lines-preserved c =

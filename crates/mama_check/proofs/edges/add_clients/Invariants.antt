@@ -1,6 +1,6 @@
 use Rattle.std.proofs.Common.{◌≡◌, ◌++◌, map}
 use Rattle.mama_check.specs.Causal.{of_each, client_needs}
-use Rattle.mama_check.proofs.causal.add_clients.Given as goal
+use Rattle.mama_check.proofs.edges.add_clients.Given as goal
 
 -- what so many need is added
 abbrev pub invariant-loop-lines : goal.invariant-loop-lines

@@ -1,7 +1,0 @@
-use Rattle.std.proofs.Common.{◌≡◌, Bool, true, sym, subst}
-use Rattle.std.specs.Prelude.{◌↔◌}
-use Rattle.mama_check.specs.Rules.{KeepsQueueEdges}
-use Rattle.mama_check.proofs.edges.is_queue_whole.Goals as goal
-
-pub returns : goal.returns
-returns c = subst (λ (b : Bool). (b ≡ true) ↔ KeepsQueueEdges c.args.script.now c.args.run.now c.args.queue) (sym c.is_some.ensures) c.in_ok-needs.ensures.whole
