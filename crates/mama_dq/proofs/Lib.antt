@@ -10,3 +10,4 @@ pub mod KeptLaw
 pub mod GapLaw
 pub mod StaleLaw
 pub mod OrderlyLaw
+pub mod Cells

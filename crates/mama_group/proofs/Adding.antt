@@ -183,10 +183,10 @@ pub record IsBegun {H T : Type 0} (groups : List (Group H)) (places : IndexMap S
   pub apart : All AreApart groups
 
 module _ {H T : Type 0} (groups : List (Group H)) (h : Group H) (places after : IndexMap SubId Place T) (behind : List SubId) where
-  pub one_more : h.notes.items ≡ [] → h.counts ≡ record { members = length h.members; waiting = length h.members; stale = 0; ended = 0 }
+  pub begun_more : h.notes.items ≡ [] → h.counts ≡ record { members = length h.members; waiting = length h.members; stale = 0; ended = 0 }
       → ((s : SubId) → get same_sub after s ≡ cond (has_member s h.members) (Some record { group = length groups; member = kept.Waiting; heard = 0 }) (get same_sub places s))
       → are_distinct (members_in groups) (h.members ++ behind) ≡ true → IsBegun groups places → IsBegun (groups ++ h ∷ []) after
-  one_more fresh counts written distinct begun =
+  begun_more fresh counts written distinct begun =
       let counted : IsCounted h =
       subst (λ (c : Counts). AreCounted c (members_by h.members h.notes.items)) (sym counts)
       (subst (λ (ns : List GroupNote). AreCounted record { members = length h.members; waiting = length h.members; stale = 0; ended = 0 } (members_by h.members ns)) (sym fresh) (counted_new h.members)) in

@@ -8,15 +8,15 @@ use mathlib.Core.List.{IsPrefix}
 use mathlib.Core.Option.{some, some-injective, some-ne-none}
 use lib.ListN.{get_elem?}
 use Rattle.crossbeam_queue.proofs.Lists.{at_set, set_again}
-use Rattle.crossbeam_queue.specs.Fifo.{Pushes, Pops, Forks, Merges, Learns}
+use Rattle.crossbeam_queue.specs.Fifo.{Pushes, PopsMany, Forks, Merges, Learns, Admits}
 use Rattle.mama_event.specs.declared.shape.Bounds.{Bounds}
 use Rattle.mama_journal.specs.Lane.{by_port}
 use Rattle.mama_lane.specs.declared.view.View.{View}
 use Rattle.mama_lane.specs.declared.view.Role.{Role}
 use Rattle.mama_lane.specs.declared.view.Role.TheVariants.{Taker, Port, Note, Spent}
 use Rattle.mama_lane.specs.Steps.{opener, spent, bound, with_port, next_port, with_put, with_taken, with_learnt, with_closed}
-use Rattle.mama_lane.specs.Rule.{notes_of, Fits, Kept, IsKept, CameFromPort, IsCaughtUp, AreBegun}
-use Rattle.mama_lane.proofs.Lists.{by_port-append, by_port_here, by_port_else, each_map, each_both, each_snoc, changed, changed_here, changed_else, changed_cases, first_of, at_end, at_same, at_there, not_empty}
+use Rattle.mama_lane.specs.Rule.{notes_of, Fits, Kept, IsKept, CameFromPorts, IsCaughtUp, AreBegun}
+use Rattle.mama_lane.proofs.Lists.{by_port-append, by_port_here, by_port_else, each_map, each_both, each_snoc, changed, changed_here, changed_else, changed_cases, there_set, there_snoc, first_of, at_end, at_same, at_there, not_empty}
 
 -- a list begins with itself, and with nothing
 pub whole_begins : {N : Type 0} (xs : List N) → IsPrefix xs xs
@@ -79,24 +79,30 @@ module _ {N : Type 0} where
 module _ {E N : Type 0} (noted : E → N) (lawful : Bounds → ℕ → List N → Type 0) where
   -- a port's pass or a note's is not the first
   not_first : (items : List (ℕ × E)) (views : List (View N)) (i : ℕ) (v : View N) → IsKept noted lawful items views → get_elem? views i ≡ some v → (v.role ≡ Taker → ⊥) → i ≢ 0
-  not_first items views i v h at apart e = let K = h v (ap (λ (j : ℕ). get_elem? views j) (sym e) ∙ at) in apart K.role
+  not_first items views i v h at apart e = let K = h.1 v (ap (λ (j : ℕ). get_elem? views j) (sym e) ∙ at) in apart K.role
 
   -- a change of another pass than the first: the taker's is as before
   kept_else : (items items' : List (ℕ × E)) (views : List (View N)) (i : ℕ) (v w : View N) → IsKept noted lawful items views → get_elem? views i ≡ some v → (v.role ≡ Taker → ⊥)
       → ((t : View N) → Kept noted lawful t items views → Kept noted lawful t items' (set views i w)) → IsKept noted lawful items' (set views i w)
-  kept_else items items' views i v w h at apart step t e = ⊎_elim (λ (x : (0 ≡ i) × (w ≡ t)). absurd (not_first items views i v h at apart (sym x.0)))
-      (λ (x : (0 ≢ i) × (get_elem? views 0 ≡ some t)). step t (h t x.1)) (at_set views i 0 w t e)
+  kept_else items items' views i v w h at apart step = (
+    there_set views i w h.0,
+    λ t e. ⊎_elim (λ (x : (0 ≡ i) × (w ≡ t)). absurd (not_first items views i v h at apart (sym x.0)))
+        (λ (x : (0 ≢ i) × (get_elem? views 0 ≡ some t)). step t (h.1 t x.1)) (at_set views i 0 w t e),
+  )
 
   -- a change of the first pass
   kept_first : (items items' : List (ℕ × E)) (views : List (View N)) (v w : View N) → IsKept noted lawful items views → get_elem? views 0 ≡ some v
       → (Kept noted lawful v items views → Kept noted lawful w items' (set views 0 w)) → IsKept noted lawful items' (set views 0 w)
-  kept_first items items' views v w h at step t e = ⊎_elim (λ (x : (0 ≡ 0) × (w ≡ t)). subst (λ (u : View N). Kept noted lawful u items' (set views 0 w)) x.1 (step (h v at)))
-      (λ (x : (0 ≢ 0) × (get_elem? views 0 ≡ some t)). absurd (x.0 refl)) (at_set views 0 0 w t e)
+  kept_first items items' views v w h at step = (
+    there_set views 0 w h.0,
+    λ t e. ⊎_elim (λ (x : (0 ≡ 0) × (w ≡ t)). subst (λ (u : View N). Kept noted lawful u items' (set views 0 w)) x.1 (step (h.1 v at)))
+        (λ (x : (0 ≢ 0) × (get_elem? views 0 ≡ some t)). absurd (x.0 refl)) (at_set views 0 0 w t e),
+  )
 
   -- a new pass
-  kept_new : (items : List (ℕ × E)) (views : List (View N)) (i : ℕ) (v r : View N) → IsKept noted lawful items views → get_elem? views i ≡ some v
+  kept_new : (items : List (ℕ × E)) (views : List (View N)) (r : View N) → IsKept noted lawful items views
       → ((t : View N) → Kept noted lawful t items views → Kept noted lawful t items (views ++ r ∷ [])) → IsKept noted lawful items (views ++ r ∷ [])
-  kept_new items views i v r h at step t e = step t (h t (first_of views (r ∷ []) i v t at e))
+  kept_new items views r h step = (there_snoc views r, λ t e. step t (h.1 t (first_of views (r ∷ []) t h.0 e)))
 
   -- put: the event goes last in the lane, and what the port put grows
   put_kept : (t : View N) (items : List (ℕ × E)) (views : List (View N)) (i : ℕ) (v : View N) (event : E) → v.role ≡ Port → lawful v.bounds v.number (v.put ++ noted event ∷ [])
@@ -138,16 +144,16 @@ module _ {E N : Type 0} (noted : E → N) (lawful : Bounds → ℕ → List N �
         refl,
       )
 
-  -- take: what the lane holds first is what was taken last
-  take_kept : (v : View N) (port : ℕ) (event : E) (items : List (ℕ × E)) (views : List (View N)) → Kept noted lawful v ((port, event) ∷ items) views
-      → Kept noted lawful (with_taken v port (noted event)) items (set views 0 (with_taken v port (noted event)))
-  take_kept v port event items views K =
-      let w : View N = with_taken v port (noted event) in
+  -- take: what the lane held first is what was taken last
+  take_kept : (v : View N) (xs items : List (ℕ × E)) (views : List (View N)) → Kept noted lawful v (xs ++ items) views
+      → Kept noted lawful (with_taken v (notes_of noted xs)) items (set views 0 (with_taken v (notes_of noted xs)))
+  take_kept v xs items views K =
+      let w : View N = with_taken v (notes_of noted xs) in
       record {
         seat = K.seat;
         sent = K.sent;
         role = K.role;
-        flows = λ p. K.flows p ∙ ap (by_port p) (sym (append_assoc v.taken ((port, noted event) ∷ []) (notes_of noted items)));
+        flows = λ p. K.flows p ∙ ap (by_port p) (ap (λ (l : List (ℕ × N)). v.taken ++ l) (map-append (λ (y : ℕ × E). (y.0, noted y.1)) xs items) ∙ sym (append_assoc v.taken (notes_of noted xs) (notes_of noted items)));
         unmade = K.unmade;
         allowed = K.allowed;
         learnt = K.learnt;
@@ -165,27 +171,35 @@ module _ {E N : Type 0} (noted : E → N) (lawful : Bounds → ℕ → List N �
       let one : by_port port ((port, x) ∷ notes_of noted items) ≡ x ∷ by_port port (notes_of noted items) = by_port-append port ((port, x) ∷ []) (notes_of noted items) ∙ ap (λ (l : List N). l ++ by_port port (notes_of noted items)) (by_port_here port x) in
       absurd (not_empty (by_port port v.taken) x (by_port port (notes_of noted items)) (ap (λ (l : List N). by_port port v.taken ++ l) (sym one) ∙ parts))
 
-  pub takes : ((b : Bounds) (p : ℕ) (front back : List N) → lawful b p (front ++ back) → lawful b p front) → (v : View N)
-      → Pops (IsKept noted lawful) 0 v (λ x w. (w ≡ with_taken v x.0 (noted x.1)) × CameFromPort noted lawful v x.0 x.1 w)
-  takes prefix v x items views h at =
-      let w : View N = with_taken v x.0 (noted x.1) in let K = h v at in let K' = take_kept v x.0 x.1 items views K in (
+  -- so did each event that the lane holds before others
+  from_ports_made : (xs items : List (ℕ × E)) (v : View N) (views : List (View N)) → Kept noted lawful v (xs ++ items) views → AllByRecursion (λ (x : ℕ × E). x.0 < v.made) xs
+  from_ports_made [] items v views K = tt
+  from_ports_made (x ∷ xs) items v views K = (
+    from_port_made v x.0 x.1 (xs ++ items) views K (dec_le v.made x.0),
+    from_ports_made xs items (with_taken v (notes_of noted (x ∷ []))) (set views 0 (with_taken v (notes_of noted (x ∷ [])))) (take_kept v (x ∷ []) (xs ++ items) views K),
+  )
+
+  pub takes : ((b : Bounds) (p : ℕ) (front back : List N) → lawful b p (front ++ back) → lawful b p front) → (v : View N) (n : ℕ)
+      → PopsMany (IsKept noted lawful) 0 v n (λ xs w. (w ≡ with_taken v (notes_of noted xs)) × CameFromPorts noted lawful v xs w)
+  takes prefix v n xs items views _ h at =
+      let w : View N = with_taken v (notes_of noted xs) in let K = h.1 v at in let K' = take_kept v xs items views K in (
         w,
-        kept_first (x ∷ items) items views v w h at (λ _. K'),
+        kept_first (xs ++ items) items views v w h at (λ _. K'),
         (
           refl,
           (
-            from_port_made v x.0 x.1 items views K (dec_le v.made x.0),
+            from_ports_made xs items v views K,
             λ p. prefix v.bounds p (by_port p w.taken) (by_port p (notes_of noted items)) (subst (lawful v.bounds p) (K'.flows p ∙ by_port-append p w.taken (notes_of noted items)) (K'.allowed p)),
           ),
         ),
       )
 
   pub looks : (v : View N) → Learns (IsKept noted lawful) 0 v (IsCaughtUp noted lawful v)
-  looks v items views h at none = let K = h v at in each_map (λ (c : ℕ × List N). IsPrefix c.1 (K.sent c.0)) (λ c. IsPrefix c.1 (by_port c.0 v.taken))
+  looks v items views h at none = let K = h.1 v at in each_map (λ (c : ℕ × List N). IsPrefix c.1 (K.sent c.0)) (λ c. IsPrefix c.1 (by_port c.0 v.taken))
       (λ c begins. subst (IsPrefix c.1) (K.flows c.0 ∙ ap (by_port c.0) (ap (λ (l : List (ℕ × E)). v.taken ++ notes_of noted l) none ∙ append-nil v.taken)) begins) v.learnt K.learnt
 
   pub ends : (v : View N) → Learns (IsKept noted lawful) 0 v (AreBegun noted lawful v)
-  ends v items views h at = let K = h v at in each_map (λ (c : ℕ × List N). (c.0 < v.made) × (c.1 ≡ K.sent c.0)) (λ c. IsPrefix (by_port c.0 v.taken) c.1 × lawful v.bounds c.0 c.1)
+  ends v items views h at = let K = h.1 v at in each_map (λ (c : ℕ × List N). (c.0 < v.made) × (c.1 ≡ K.sent c.0)) (λ c. IsPrefix (by_port c.0 v.taken) c.1 × lawful v.bounds c.0 c.1)
       (λ c is. ((by_port c.0 (notes_of noted items), sym (by_port-append c.0 v.taken (notes_of noted items)) ∙ (sym (K.flows c.0) ∙ sym is.1)), subst (lawful v.bounds c.0) (sym is.1) (K.allowed c.0))) v.closed K.closed
 
   -- bind: while there is no port, the opener may be told the bounds
@@ -220,7 +234,7 @@ module _ {E N : Type 0} (noted : E → N) (lawful : Bounds → ℕ → List N �
   pub binds : ((b : Bounds) (p : ℕ) → lawful b p []) → (b : Bounds) (v : View N) → v.made ≡ 0 → Forks (IsKept noted lawful) 0 v (bound b v) spent
   binds start b v none items views h at =
       let w : View N = bound b v in let k = kept_first items items views v w h at (bind_kept start b v items views none) in
-      kept_new items (set views 0 w) 0 w spent k (at_there views 0 v w at) (λ t K. snoc_kept t items (set views 0 w) spent K (fits_spent t K.seat K.sent _))
+      kept_new items (set views 0 w) spent k (λ t K. snoc_kept t items (set views 0 w) spent K (fits_spent t K.seat K.sent _))
 
   -- split: the taker makes the next port
   split_kept : (v : View N) (items : List (ℕ × E)) (views : List (View N)) → Kept noted lawful v items views → Kept noted lawful (with_port v) items (set views 0 (with_port v) ++ next_port v ∷ [])
@@ -255,24 +269,29 @@ module _ {E N : Type 0} (noted : E → N) (lawful : Bounds → ℕ → List N �
       }
 
   pub splits : (v : View N) → Forks (IsKept noted lawful) 0 v (with_port v) (next_port v)
-  splits v items views h at t e =
-      let l : View N = with_port v in let vs : List (View N) = set views 0 l in let there = at_there views 0 v l at in
-      subst (λ (u : View N). Kept noted lawful u items (vs ++ next_port v ∷ [])) (at_same vs 0 l t there (first_of vs (next_port v ∷ []) 0 l t there e)) (split_kept v items views (h v at))
+  splits v items views h at =
+      let l : View N = with_port v in let vs : List (View N) = set views 0 l in (
+        there_snoc vs (next_port v),
+        λ t e. subst (λ (u : View N). Kept noted lawful u items (vs ++ next_port v ∷ [])) (at_same vs 0 l t (at_there views 0 v l at) (first_of vs (next_port v ∷ []) t (there_set views 0 l h.0) e))
+            (split_kept v items views (h.1 v at)),
+      )
 
   -- tell: a note has a copy of what the port put, or of a beginning of it
   pub tells : (i : ℕ) (v note : View N) → v.role ≡ Port → note.role ≡ Note → note.number ≡ v.number → IsPrefix note.put v.put → Forks (IsKept noted lawful) i v v note
   tells i v note is_port is_note same begins items views h at =
       subst (λ (vs : List (View N)). IsKept noted lawful items (vs ++ note ∷ [])) (sym (set_again views i v at))
-      (kept_new items views i v note h at (λ t K. let F = (K.fits i v at).port is_port in
+      (kept_new items views note h (λ t K. let F = (K.fits i v at).port is_port in
       snoc_kept t items views note K (record { port = λ e. absurd (port_note note.role e is_note); note = λ _. (begins.0, begins.1 ∙ (F.put ∙ ap K.sent (sym same))) })))
 
   -- learn and join: the taker takes in what another pass knows, which is spent
   kept_merge : (items : List (ℕ × E)) (views : List (View N)) (v both : View N) (i : ℕ) (w : View N) → IsKept noted lawful items views → get_elem? views 0 ≡ some v → ¬ (i ≡ 0) → get_elem? (set views 0 both) i ≡ some w
       → ((K : Kept noted lawful v items views) → get_elem? views i ≡ some w → Kept noted lawful both items (set (set views 0 both) i spent)) → IsKept noted lawful items (set (set views 0 both) i spent)
-  kept_merge items views v both i w h at apart at' step t e =
-      let was : get_elem? views i ≡ some w = ⊎_elim (λ (x : (i ≡ 0) × (both ≡ w)). absurd (apart x.0)) (λ (x : (i ≢ 0) × (get_elem? views i ≡ some w)). x.1) (at_set views 0 i both w at') in
-      ⊎_elim (λ (x : (0 ≡ i) × (spent ≡ t)). absurd (apart (sym x.0)))
-      (λ (x : (0 ≢ i) × (get_elem? (set views 0 both) 0 ≡ some t)). subst (λ (u : View N). Kept noted lawful u items (set (set views 0 both) i spent)) (at_same (set views 0 both) 0 both t (at_there views 0 v both at) x.1) (step (h v at) was)) (at_set (set views 0 both) i 0 spent t e)
+  kept_merge items views v both i w h at apart at' step = (
+    there_set (set views 0 both) i spent (there_set views 0 both h.0),
+    λ t e. let was : get_elem? views i ≡ some w = ⊎_elim (λ (x : (i ≡ 0) × (both ≡ w)). absurd (apart x.0)) (λ (x : (i ≢ 0) × (get_elem? views i ≡ some w)). x.1) (at_set views 0 i both w at') in
+        ⊎_elim (λ (x : (0 ≡ i) × (spent ≡ t)). absurd (apart (sym x.0)))
+        (λ (x : (0 ≢ i) × (get_elem? (set views 0 both) 0 ≡ some t)). subst (λ (u : View N). Kept noted lawful u items (set (set views 0 both) i spent)) (at_same (set views 0 both) 0 both t (at_there views 0 v both at) x.1) (step (h.1 v at) was)) (at_set (set views 0 both) i 0 spent t e),
+  )
 
   learn_kept : (v : View N) (i : ℕ) (w : View N) (items : List (ℕ × E)) (views : List (View N)) → w.role ≡ Note → get_elem? views i ≡ some w → Kept noted lawful v items views
       → Kept noted lawful (with_learnt v w) items (set (set views 0 (with_learnt v w)) i spent)
@@ -327,17 +346,23 @@ module _ {E N : Type 0} (noted : E → N) (lawful : Bounds → ℕ → List N �
 
   -- nothing was put yet
   pub begins : ((b : Bounds) (p : ℕ) → lawful b p []) → IsKept noted lawful [] (opener ∷ [])
-  begins start t e =
-      let first : View N = opener in
-      subst (λ (u : View N). Kept noted lawful u [] (first ∷ [])) (some-injective first t e)
-      (record {
-        seat = λ _. 0;
-        sent = λ _. [];
-        role = refl;
-        flows = λ _. refl;
-        unmade = λ _ _. refl;
-        allowed = start first.bounds;
-        learnt = tt;
-        closed = tt;
-        fits = λ i v at. fits_snoc first (λ _. 0) (λ _. []) [] first (λ j u d. absurd (some-ne-none u (sym d))) (fits_taker first (λ _. 0) (λ _. []) 0 first refl) i v at;
-      })
+  begins start =
+      let first : View N = opener in (
+        tt,
+        λ t e. subst (λ (u : View N). Kept noted lawful u [] (first ∷ [])) (some-injective first t e)
+            (record {
+              seat = λ _. 0;
+              sent = λ _. [];
+              role = refl;
+              flows = λ _. refl;
+              unmade = λ _ _. refl;
+              allowed = start first.bounds;
+              learnt = tt;
+              closed = tt;
+              fits = λ i v at. fits_snoc first (λ _. 0) (λ _. []) [] first (λ j u d. absurd (some-ne-none u (sym d))) (fits_taker first (λ _. 0) (λ _. []) 0 first refl) i v at;
+            }),
+      )
+
+  -- The queue may make passes of its own, as one does for each event of a batch. They begin as the opener's, and say nothing.
+  pub admits : Admits (IsKept noted lawful) opener
+  admits items views h = kept_new items views opener h (λ t K. snoc_kept t items views opener K (fits_taker t K.seat K.sent (length views) opener refl))

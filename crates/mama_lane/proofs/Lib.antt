@@ -1,3 +1,4 @@
+pub mod Batches
 pub mod Edges
 pub mod Kept
 pub mod Lists

@@ -6,6 +6,7 @@ use mathlib.Core.Option.{some, some-injective, some-ne-none}
 use native.Mathlib.Decide.{ℕ_discrete}
 use lib.ListN.{get_elem?}
 use Rattle.mama_journal.specs.Lane.{by_port}
+use Rattle.mama_lane.specs.Rule.{IsThere}
 
 pub by_port-append : {N : Type 0} (p : ℕ) (xs ys : List (ℕ × N)) → by_port p (xs ++ ys) ≡ by_port p xs ++ by_port p ys
 by_port-append p [] ys = refl
@@ -50,10 +51,20 @@ module _ {A : Type 0} (f : ℕ → A) (k : ℕ) (y : A) where
 
 -- lists read by `get_elem?`
 module _ {A : Type 0} where
-  -- a longer list that is not empty begins with the same element
-  pub first_of : (l m : List A) (i : ℕ) (a b : A) → get_elem? l i ≡ some a → get_elem? (l ++ m) 0 ≡ some b → get_elem? l 0 ≡ some b
-  first_of [] m i a b e h = absurd (some-ne-none a (sym e))
-  first_of (x ∷ xs) m i a b e h = h
+  -- a list stays what is not empty, where an element is set or one more joins
+  pub there_set : (l : List A) (i : ℕ) (a : A) → IsThere l → IsThere (set l i a)
+  there_set [] i a there = there
+  there_set (x ∷ xs) zero a there = tt
+  there_set (x ∷ xs) (suc i) a there = tt
+
+  pub there_snoc : (l : List A) (a : A) → IsThere (l ++ a ∷ [])
+  there_snoc [] a = tt
+  there_snoc (x ∷ xs) a = tt
+
+  -- a longer list begins with the same element
+  pub first_of : (l m : List A) (a : A) → IsThere l → get_elem? (l ++ m) 0 ≡ some a → get_elem? l 0 ≡ some a
+  first_of [] m a there h = absurd there
+  first_of (x ∷ xs) m a there h = h
 
   pub at_end : (l : List A) (a b : A) (j : ℕ) → get_elem? (l ++ a ∷ []) j ≡ some b → (get_elem? l j ≡ some b) ⊎ ((a ≡ b) × (j ≡ length l))
   at_end [] a b zero e = inr (some-injective a b e, refl)

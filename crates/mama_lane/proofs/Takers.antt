@@ -1,5 +1,5 @@
 -- A taker's flags say which ports ended, and its buffer has what it took last.
-use Rattle.std.proofs.Common.{◌≡◌, ◌≢◌, ℕ, ◌-◌, ◌<◌, Bool, true, false, ◌||◌, List, [], ◌∷◌, ◌++◌, length, get_or, set, take, Option, None, Some, IfNone, sym, refl, ap, ◌∙◌, subst, append-nil, append_assoc, arith, if◌then◌else◌}
+use Rattle.std.proofs.Common.{◌≡◌, ◌≢◌, ℕ, ◌-◌, ◌<◌, Bool, true, false, ◌||◌, List, [], ◌∷◌, ◌++◌, length, get_or, set, take, sym, refl, ap, ◌∙◌, subst, append-nil, append_assoc, arith, if◌then◌else◌}
 use Rattle.std.proofs.lemmas.List.{get_or-set_same, get_or-set_other, length-set, length-append, length-map, take_at, take_all}
 use Rattle.std.proofs.lemmas.List.Folds.{list_any-append}
 use Rattle.std.proofs.lemmas.List.Elements.{All-from_recursion}
@@ -7,12 +7,10 @@ use Rattle.std.specs.List.{All, list_any, AllByRecursion}
 use mathlib.Core.List.{IsPrefix}
 use mathlib.Core.Logic.{dite}
 use native.Mathlib.Decide.{ℕ_discrete}
-use Rattle.mama_event.specs.declared.shape.Bounds.{Bounds}
 use Rattle.mama_journal.specs.Lane.{by_port}
 use Rattle.mama_lane.specs.declared.view.View.{View}
-use Rattle.mama_lane.specs.Steps.{with_taken}
 use Rattle.mama_lane.specs.Rule.{notes_of}
-use Rattle.mama_lane.specs.Taker.{IsTakerPass, IsTaker, without, after_takes}
+use Rattle.mama_lane.specs.Taker.{IsTaker, without, after_takes}
 use Rattle.mama_lane.specs.Values.{LaneId, TakerValue, after_take}
 use Rattle.mama_lane.proofs.Lists.{by_port-append, by_port_here, by_port_else}
 
@@ -54,20 +52,14 @@ module _ {N : Type 0} (last : N → Bool) where
   flags_after xs port note flags true room e old = last_flags xs port note flags room e old
   flags_after xs port note flags false room e old = same_flags xs port note flags e old
 
--- the pass after it took one event more
-pub took : {N : Type 0} (lawful : Bounds → ℕ → List N → Type 0) (v w : View N) (port : ℕ) (note : N) → IsTakerPass lawful v → w ≡ with_taken v port note → ((p : ℕ) → lawful v.bounds p (by_port p w.taken)) → IsTakerPass lawful w
-took {N} lawful v w port note t is may = let n : View N = with_taken v port note in
-    subst (λ (u : View N). IsTakerPass lawful u) (sym is) (record { role = t.role; unclosed = t.unclosed; lawful_each = λ p. subst (λ (u : View N). lawful v.bounds p (by_port p u.taken)) is (may p) })
-
 same_count : (flags : List Bool) (port : ℕ) (is_last : Bool) → length (if is_last then set flags port true else flags) ≡ length flags
 same_count flags port true = length-set flags port true
 same_count flags port false = refl
 
 -- what an empty look tells, as clauses see it
-pub informed : {E N : Type 0} (r : Option E) (lane : LaneId) (v : View N) (t : TakerValue N) → record { lane = lane; bounds = v.bounds; ports = v.made; taken = v.taken; learnt = v.learnt } ≡ t
-    → IfNone r (AllByRecursion (λ (c : ℕ × List N). IsPrefix c.1 (by_port c.0 v.taken)) v.learnt) → IfNone r (All (λ (c : ℕ × List N). IsPrefix c.1 (by_port c.0 t.taken)) t.learnt)
-informed {E} {N} None lane v t is h = subst (λ (u : TakerValue N). All (λ (c : ℕ × List N). IsPrefix c.1 (by_port c.0 u.taken)) u.learnt) is (All-from_recursion _ v.learnt h)
-informed (Some x) lane v t is h = tt
+pub informed : {N : Type 0} (lane : LaneId) (v : View N) (t : TakerValue N) → record { lane = lane; bounds = v.bounds; ports = v.made; taken = v.taken; learnt = v.learnt } ≡ t
+    → AllByRecursion (λ (c : ℕ × List N). IsPrefix c.1 (by_port c.0 v.taken)) v.learnt → All (λ (c : ℕ × List N). IsPrefix c.1 (by_port c.0 t.taken)) t.learnt
+informed {N} lane v t is h = subst (λ (u : TakerValue N). All (λ (c : ℕ × List N). IsPrefix c.1 (by_port c.0 u.taken)) u.learnt) is (All-from_recursion _ v.learnt h)
 
 -- what a list begins with, without what lies in the buffer
 module _ {E N : Type 0} (noted : E → N) where

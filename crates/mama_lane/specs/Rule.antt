@@ -1,5 +1,5 @@
 -- inner: The rule of a lane: what it holds and what its passes know fit together.
-use Rattle.std.specs.Prelude.{◌≡◌, ◌≢◌, ℕ, ◌<◌, ◌≤◌, List, [], ◌++◌, map}
+use Rattle.std.specs.Prelude.{◌≡◌, ◌≢◌, ℕ, ◌<◌, ◌≤◌, List, [], ◌∷◌, ◌++◌, map, ⊤}
 use Rattle.std.specs.List.{AllByRecursion}
 use mathlib.Core.List.{IsPrefix}
 use mathlib.Core.Option.{some}
@@ -12,6 +12,11 @@ use Rattle.mama_lane.specs.declared.view.Role.TheVariants.{Taker, Port, Note}
 -- what the lane holds, as plain data
 abbrev pub notes_of : {E N : Type 0} → (E → N) → List (ℕ × E) → List (ℕ × N)
 notes_of noted items = map (λ x. (x.0, noted x.1)) items
+
+-- the list is not empty
+abbrev pub IsThere : {V : Type 0} → List V → Type 0
+IsThere [] = ⊥
+IsThere (v ∷ vs) = ⊤
 
 module _ {N : Type 0} where
   -- The pass at i is the one pass of its port. The taker made the port and has not closed it, and the pass knows what
@@ -27,6 +32,10 @@ module _ {N : Type 0} where
   pub record Fits (taker : View N) (seat : ℕ → ℕ) (sent : ℕ → List N) (i : ℕ) (v : View N) : Type 0 where
     pub port : v.role ≡ Port → IsPort taker seat sent i v
     pub note : v.role ≡ Note → IsPrefix v.put (sent v.number)
+
+-- what a taker took from each port is lawful
+abbrev pub IsLawfulTaken : {N : Type 0} → (Bounds → ℕ → List N → Type 0) → View N → Type 0
+IsLawfulTaken lawful v = (port : ℕ) → lawful v.bounds port (by_port port v.taken)
 
 module _ {E N : Type 0} (noted : E → N) (lawful : Bounds → ℕ → List N → Type 0) where
   -- The rule of a lane, where the taker's view is taker, the lane holds items, and views has the view of each pass:
@@ -46,13 +55,13 @@ module _ {E N : Type 0} (noted : E → N) (lawful : Bounds → ℕ → List N �
     pub closed : AllByRecursion (λ c. (c.0 < taker.made) × (c.1 ≡ sent c.0)) taker.closed
     pub fits : (i : ℕ) (v : View N) → get_elem? views i ≡ some v → Fits taker seat sent i v
 
-  -- the rule, as the queue keeps it: the taker's pass is the first
+  -- the rule, as the queue keeps it: there is a pass, and the first is the taker's
   abbrev pub IsKept : List (ℕ × E) → List (View N) → Type 0
-  IsKept items views = (taker : View N) → get_elem? views 0 ≡ some taker → Kept taker items views
+  IsKept items views = IsThere views × ((taker : View N) → get_elem? views 0 ≡ some taker → Kept taker items views)
 
-  -- what a take tells: the event came from a port, and what was taken from each port is lawful
-  abbrev pub CameFromPort : View N → ℕ → E → View N → Type 0
-  CameFromPort v port event w = (port < v.made) × ((p : ℕ) → lawful v.bounds p (by_port p w.taken))
+  -- what a take tells: each event came from a port, and what was taken from each port is lawful
+  abbrev pub CameFromPorts : View N → List (ℕ × E) → View N → Type 0
+  CameFromPorts v events w = AllByRecursion (λ x. x.0 < v.made) events × IsLawfulTaken lawful w
 
   -- what a look at a lane that holds nothing tells: of each note that was learnt, all that it names was taken
   abbrev pub IsCaughtUp : View N → List (ℕ × E) → Type 0

@@ -34,9 +34,9 @@ module _ {N : Type 0} where
   abbrev pub with_put : View N → N → View N
   with_put v note = record v { put = v.put ++ note ∷ [] }
 
-  -- take: what was taken grows by the port's number and the note
-  abbrev pub with_taken : View N → ℕ → N → View N
-  with_taken v port note = record v { taken = v.taken ++ (port, note) ∷ [] }
+  -- take: what was taken grows by the ports' numbers and the notes
+  abbrev pub with_taken : View N → List (ℕ × N) → View N
+  with_taken v more = record v { taken = v.taken ++ more }
 
   -- tell: a note names what the port has put
   abbrev pub noted_port : View N → View N

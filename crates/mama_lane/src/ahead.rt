@@ -5,7 +5,6 @@ ghost use Rattle.std.specs.VecDeque.{deque_capacity};
 ghost use mathlib.Core.List.{IsPrefix};
 ghost use Rattle.mama_journal.specs.Lane.{by_port};
 ghost use Rattle.mama_lane.specs.Rule.{notes_of};
-ghost use Rattle.mama_lane.specs.Taker.{after_takes};
 
 use crate::lane::Lane;
 use crate::looker::Looker;
@@ -13,8 +12,8 @@ use mama_event::Stream;
 use std::collections::VecDeque;
 use std::sync::Wait;
 
-/// How many events a taker takes ahead at most.
-pub const AHEAD: usize = 64;
+/// How many events a taker takes ahead at most: those of a block of the queue, which one step can claim.
+pub const AHEAD: usize = 31;
 
 /// The first event of the buffer, which is filled before where it is empty.
 pub fn next<E: Stream, R: Wait>(
@@ -35,29 +34,6 @@ pub fn next<E: Stream, R: Wait>(
     if let Some(event) = buffer.pop_front() {
         return Some(event);
     }
-    fill(rt, lane, looker, buffer);
+    looker.take(rt, lane, buffer);
     buffer.pop_front()
-}
-
-// Takes events into an empty buffer until it is full, or a look finds the lane empty.
-fn fill<E: Stream, R: Wait>(
-    rt: &R,
-    lane: &Lane<E>,
-    looker: &mut Looker<E>,
-    buffer: &mut VecDeque<(u32, E)>,
-)
-    requires lane { looker.old.lane ≡ lane.now.id }
-    requires room { AHEAD ≤ deque_capacity buffer.old }
-    requires empty { buffer.old.items ≡ [] }
-    ensures room { deque_capacity buffer.new ≡ deque_capacity buffer.old }
-    ensures looker { looker.new ≡ after_takes looker.old (notes_of E.noted buffer.new.items) }
-    ensures ports { AllByRecursion (λ x. x.0 < looker.old.ports) buffer.new.items }
-    ensures caught_up { buffer.new.items ≡ [] → All (λ note. IsPrefix note.1 (by_port note.0 looker.old.taken)) looker.old.learnt }
-{
-    for _ in 0..AHEAD {
-        match looker.take(rt, lane) {
-            Some(event) => buffer.push_back_reserved(event),
-            None => return,
-        }
-    }
 }

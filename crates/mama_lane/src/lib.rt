@@ -8,8 +8,8 @@
 //! - What the taker takes came from one of the ports, and what it took from each port is lawful ([`Taker::take`]). It
 //!   finds nothing only by a look at a lane that holds nothing, so that by then it took all that the notes which it
 //!   learnt name ([`Port::tell`], [`Taker::learn`]).
-//! - It takes up to 64 events ahead of its calls, each by a step of its own, and answers them one by one in their order.
-//!   What it took is what it answered.
+//! - It takes events ahead of its calls, as many as leave the lane in one step and 31 at most, and answers them one by
+//!   one in their order. What it took is what it answered.
 //! - At the end, what was taken from a port begins what the port put, and is all of it where its last event was taken
 //!   ([`close_lane`], [`Taker::ended`]).
 //!
@@ -28,15 +28,15 @@
 //! | bind | `open_lane` | the opener's | it knows the bounds within which ports put | |
 //! | split | `open_lane` | the opener's | the next port number gets a view with an empty put list | |
 //! | put | `Port::put` | the port's | the event goes last in the lane; the port's put list grows | |
-//! | take | `Taker::take` | the taker's | the first event leaves the lane; the taken list grows | the event came from a port; what was taken from each port is lawful |
+//! | take | `Taker::take` | the taker's | some of the first events leave the lane; the taken list grows | each event came from a port; what was taken from each port is lawful |
 //! | empty look | `Taker::take`, where nothing was taken ahead | the taker's | nothing | of each note that was learnt, what it names begins what was taken from its port |
 //! | tell | `Port::tell` | the port's | a note gets a view with a copy of the put list | |
 //! | learn | `Taker::learn` | the taker's and the note's | the taker's view keeps what the note names; the note's view is spent | |
 //! | join | `close_lane` | the taker's and the port's | the taker's view keeps the port's put list; the port's view is spent | |
 //! | last look | `close_lane` | the taker's | nothing | of each port that was joined, what was taken from it begins what it put, which is lawful |
 //!
-//! The opener's pass goes on as the taker's. Where nothing is taken ahead, a call of `Taker::take` makes steps until 64 events
-//! are, or an empty look is made.
+//! The opener's pass goes on as the taker's. Where nothing is taken ahead, a call of `Taker::take` makes one step: a take,
+//! or an empty look. The queue then reads each event of a take by a pass of its own, which makes no other step.
 #![tactic(auto)]
 
 mod ahead;

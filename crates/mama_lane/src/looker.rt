@@ -1,18 +1,23 @@
-ghost use Rattle.std.specs.Prelude.{◌≡◌, ℕ, ◌<◌, IfSome, IfNone};
-ghost use Rattle.std.specs.List.{All};
+ghost use Rattle.std.specs.Prelude.{◌≡◌, ℕ, ◌<◌, ◌≤◌, []};
+ghost use Rattle.std.specs.List.{All, AllByRecursion};
+ghost use Rattle.std.specs.VecDeque.{deque_capacity};
 ghost use mathlib.Core.List.{IsPrefix};
 ghost use Rattle.mama_journal.specs.Lane.{by_port};
-ghost use Rattle.mama_lane.specs.Values.{after_take, after_learn};
+ghost use Rattle.mama_lane.specs.declared.ahead.TheConstants.{AHEAD};
+ghost use Rattle.mama_lane.specs.Rule.{notes_of};
+ghost use Rattle.mama_lane.specs.Taker.{after_takes};
+ghost use Rattle.mama_lane.specs.Values.{after_learn};
 
 use crate::lane::Lane;
 use crate::note::PutNote;
 use crate::rule::Pass;
 use crate::steps;
 use mama_event::Stream;
+use std::collections::VecDeque;
 use std::marker::Model;
 use std::sync::Wait;
 
-/// The taker's pass, by which single events leave the lane. In a clause it is seen as a taker is.
+/// The taker's pass, by which events leave the lane. In a clause it is seen as a taker is.
 #[derive(Drop)]
 pub struct Looker<E: Stream> {
     pub(crate) pass: Pass<E>,
@@ -32,15 +37,17 @@ impl<E: Stream> Model for Looker<E> {
 }
 
 impl<E: Stream> Looker<E> {
-    /// Takes the first event of the lane, or looks at a lane that holds none.
-    pub fn take<Rt: Wait>(&mut self, rt: &Rt, lane: &Lane<E>) -> Option<(u32, E)>
-        requires { self.old.lane ≡ lane.now.id }
-        ensures some { IfSome result (λ x. self.new ≡ after_take self.old x.0 (E.noted x.1)) }
-        ensures port { IfSome result (λ x. x.0 < self.old.ports) }
-        ensures none { IfNone result (self.new ≡ self.old) }
-        ensures caught_up { IfNone result (All (λ note. IsPrefix note.1 (by_port note.0 self.old.taken)) self.old.learnt) }
+    /// Takes events into an empty buffer, as many as leave the lane in one step, or looks at a lane that holds none.
+    pub fn take<Rt: Wait>(&mut self, rt: &Rt, lane: &Lane<E>, buffer: &mut VecDeque<(u32, E)>)
+        requires lane { self.old.lane ≡ lane.now.id }
+        requires room { AHEAD ≤ deque_capacity buffer.old }
+        requires empty { buffer.old.items ≡ [] }
+        ensures room { deque_capacity buffer.new ≡ deque_capacity buffer.old }
+        ensures taken { self.new ≡ after_takes self.old (notes_of E.noted buffer.new.items) }
+        ensures ports { AllByRecursion (λ x. x.0 < self.old.ports) buffer.new.items }
+        ensures caught_up { buffer.new.items ≡ [] → All (λ note. IsPrefix note.1 (by_port note.0 self.old.taken)) self.old.learnt }
     {
-        steps::take(rt, &lane.queue, &mut self.pass)
+        steps::take(rt, &lane.queue, &mut self.pass, buffer);
     }
 
     /// What was taken from each port is lawful.

@@ -1,13 +1,14 @@
 // The rule of a lane's queue, and what each kind of step does to the view of the pass that makes it.
 ghost use Rattle.std.specs.Prelude.{◌≡◌};
 ghost use Rattle.mama_event.specs.declared.shape.Bounds.{Bounds as BoundsRecord};
-ghost use Rattle.mama_lane.specs.Rule.{IsKept, CameFromPort, IsCaughtUp, AreBegun};
+ghost use Rattle.mama_lane.specs.Rule.{notes_of, IsKept, CameFromPorts, IsCaughtUp, AreBegun};
 ghost use Rattle.mama_lane.specs.Steps.{opener, spent, bound, with_port, next_port, with_put, with_taken, noted_port, with_learnt, with_closed};
 
 use crate::view::View;
-use crossbeam_queue::protocol::{Join, Lesson, Outcome, Protocol, Split};
-use crossbeam_queue::{RuledSegQueue, SegPass};
+use crossbeam_queue::protocol::{Join, Lesson, Outcome, Outcomes, Protocol, Split};
+use crossbeam_queue::{RuledSegQueue, SegBatch, SegPass};
 use mama_event::Stream;
+use std::alloc::Global;
 use std::marker::{Brand, PhantomData};
 
 /// The queue of a lane: events with the numbers of their ports.
@@ -15,6 +16,9 @@ pub type Queue<E> = RuledSegQueue<(u32, E), View<<E as Stream>::Note>, Rule>;
 
 /// The value by which the opener, a port, the taker or a note makes its steps. It has no bytes.
 pub type Pass<E> = SegPass<(u32, E), View<<E as Stream>::Note>>;
+
+/// Events that the taker took in one step, and that lie where they were put.
+pub type Batch<E> = SegBatch<(u32, E), View<<E as Stream>::Note>, Global>;
 
 /// The rule of a lane.
 pub struct Rule;
@@ -61,12 +65,12 @@ impl<E: Stream> Outcome<(u32, E), View<E::Note>> for Put {
     ghost then = { λ v x w. w ≡ with_put v (E.noted x.1) };
 }
 
-/// The step take: the first event leaves the lane, and the taken list grows. Where it finds no event it is an empty
-/// look, which shows that all that was learnt was taken.
+/// The step take: some of the first events leave the lane, and the taken list grows. Where it finds no event it is an
+/// empty look, which shows that all that was learnt was taken.
 pub struct Take;
 
-impl<E: Stream> Outcome<(u32, E), View<E::Note>> for Take {
-    ghost then = { λ v x w. (w ≡ with_taken v x.0 (E.noted x.1)) × CameFromPort E.noted E.lawful v x.0 x.1 w };
+impl<E: Stream> Outcomes<(u32, E), View<E::Note>> for Take {
+    ghost then_all = { λ v xs w. (w ≡ with_taken v (notes_of E.noted xs)) × CameFromPorts E.noted E.lawful v xs w };
 }
 
 impl<E: Stream> Lesson<(u32, E), View<E::Note>> for Take {

@@ -18,11 +18,11 @@ use Rattle.mama_laws_genuine.proofs.Elements.{all_append, all_map, all_filter}
 
 -- the two ways to say that keys are distinct
 
-pub apart : (fs : List FieldData) → are_distinct fs ≡ true → AreDistinct fs
-apart [] same = tt
-apart (f ∷ fs) same =
+pub distinct_apart : (fs : List FieldData) → are_distinct fs ≡ true → AreDistinct fs
+distinct_apart [] same = tt
+distinct_apart (f ∷ fs) same =
     let parts = and_parts (not (has_key (key_of f) fs)) (are_distinct fs) same in
-    (not-true (has_key (key_of f) fs) parts.0, apart fs parts.1)
+    (not-true (has_key (key_of f) fs) parts.0, distinct_apart fs parts.1)
 
 distinct_again : (fs : List FieldData) → AreDistinct fs → are_distinct fs ≡ true
 distinct_again [] d = refl
@@ -54,7 +54,7 @@ applied_message nums m u one two = record {
       all_append (IsField nums) (map (λ f. unwrap_or (with_key (key_of f) u) f) m) (filter (λ f. not (has_key (key_of f) m)) u)
       (all_map (IsField nums) (IsField nums) (λ f. unwrap_or (with_key (key_of f) u) f) (λ f is. found_or (IsField nums) _ u f two.fields is) m one.fields)
       (all_filter (IsField nums) (λ f. not (has_key (key_of f) m)) u two.fields);
-  distinct = distinct_again (apply m u) (AreDistinct-apply m u (apart m one.distinct) (apart u two.distinct));
+  distinct = distinct_again (apply m u) (AreDistinct-apply m u (distinct_apart m one.distinct) (distinct_apart u two.distinct));
 }
 
 -- ---- fields are asked for

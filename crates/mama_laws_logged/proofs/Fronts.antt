@@ -26,7 +26,7 @@ use Rattle.mama_words.specs.Value.{IsValue}
 use Rattle.mama_words.specs.Field.{IsField}
 use Rattle.mama_log_line.specs.Entering.{IsBody, IsBroken}
 use Rattle.mama_laws_genuine.proofs.Elements.{all_weaker}
-use Rattle.mama_laws_logged.proofs.Bodies.{apart}
+use Rattle.mama_laws_logged.proofs.Bodies.{distinct_apart}
 use Rattle.mama_laws_logged.proofs.Fits.{IsSound, IsFront, Arrives, IsAnswered}
 
 -- ---- a body has a spelling
@@ -79,7 +79,7 @@ body_spelled : (nums : Nums) (body : List FieldData) → IsBody nums body → Ha
 body_spelled nums body h = record {
   short = h.few;
   each = all_weaker (IsField nums) payload.IsField (field_spelled nums) body h.message.fields;
-  distinct = apart body h.message.distinct;
+  distinct = distinct_apart body h.message.distinct;
 }
 
 body_bytes : (nums : Nums) (body : List FieldData) → IsBody nums body → list_all is_byte (spelling body) ≡ true

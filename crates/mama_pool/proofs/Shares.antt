@@ -205,8 +205,8 @@ new_hand_is number workers place home opener shares room most a b c =
     }
 
 -- so many shares and one more
-pub one_more : (n : ℕ) (s : ShareValue) → replicate n s ++ s ∷ [] ≡ replicate (n + 1) s
-one_more n s = replicate-append-replicate n 1 s
+pub replicate_more : (n : ℕ) (s : ShareValue) → replicate n s ++ s ∷ [] ≡ replicate (n + 1) s
+replicate_more n s = replicate-append-replicate n 1 s
 
 -- a note of a pass that counts
 pub noted_is : (c n : Count) → n ≡ noted c → IsNote n

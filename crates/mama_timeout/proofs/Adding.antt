@@ -98,9 +98,9 @@ others_none [] = tt
 others_none (r ∷ rs) = (refl, others_none rs)
 
 module _ {T : Type 0} (watches : List Watch) (h : Watch) (places after : IndexMap TimerId ℕ T) where
-  pub one_more : ((t : TimerId) → get same_timer after t ≡ cond (same_timer h.row.timer t) (Some (length watches)) (get same_timer places t))
+  pub begun_more : ((t : TimerId) → get same_timer after t ≡ cond (same_timer h.row.timer t) (Some (length watches)) (get same_timer places t))
       → is_timed h.row.timer watches ≡ false → vec_len h.notes < vec_capacity h.notes → IsBegun watches places → IsBegun (watches ++ h ∷ []) after
-  one_more written none roomy begun = record {
+  begun_more written none roomy begun = record {
     placed = λ t.
         subst (IsPlaceOf t (watches ++ h ∷ [])) (sym (written t))
         (placed_new watches h t (get same_timer places t) (λ same. ap (λ (u : TimerId). is_timed u watches) (sym ((same_timer-Decides h.row.timer t).0 same)) ∙ none) (begun.placed t));

@@ -4,7 +4,7 @@ use Rattle.mama_pool.specs.declared.view.View.{View}
 use Rattle.mama_pool.specs.declared.view.Count.{Count}
 use Rattle.mama_pool.specs.Values.{new_share}
 use Rattle.mama_pool.specs.Steps.{without_share, without_part, view_of, count_of}
-use Rattle.mama_pool.proofs.Shares.{one_more}
+use Rattle.mama_pool.proofs.Shares.{replicate_more}
 use Rattle.mama_pool.proofs.open.make_shares.Goals as goal
 
 pub make_share-requires-clause-home : goal.make_share-requires-clause-home
@@ -20,7 +20,7 @@ loop-preserved g c =
     let less : 65 - c.loop.counter - 1 ≡ 65 - (c.loop.counter + 1) = omega arith in record {
       room = omega (arith, p.capacity, i.room);
       many = omega (arith, p.len, i.many);
-      shares = p.items ∙ ((λ k. i.shares k ++ share k ∷ []) ∙ one_more c.loop.counter (new_share (record { deque = worker_deque c.args.home.now; tally = c.args.tally.now.value.table.shared.table_id })));
+      shares = p.items ∙ ((λ k. i.shares k ++ share k ∷ []) ∙ replicate_more c.loop.counter (new_share (record { deque = worker_deque c.args.home.now; tally = c.args.tally.now.value.table.shared.table_id })));
       home = (e.home.0 ∙ i.home.0, e.home.1, e.home.2 ∙ (ap without_share i.home.2 ∙ ap (λ (n : ℕ). view_of n [] []) less));
       opener = (e.opener.0 ∙ i.opener.0, e.opener.1 ∙ (ap without_part i.opener.1 ∙ ap (λ (n : ℕ). count_of n 0 0 0 0) less));
     }

@@ -7,7 +7,7 @@ use Rattle.mama_group.specs.declared.member.Member.TheVariants as kept
 use Rattle.mama_group.specs.Listener.{told}
 use Rattle.mama_group.specs.Table.{GroupData, has_member, are_distinct, all_members, new_groups}
 use Rattle.mama_group.specs.Kept.{group_of}
-use Rattle.mama_group.proofs.Adding.{IsBegun, members_in, one_more, distinct_next, put_next}
+use Rattle.mama_group.proofs.Adding.{IsBegun, members_in, begun_more, distinct_next, put_next}
 use Rattle.mama_group.proofs.table.GroupTable.new.Goals as goal
 
 pub loop-group-preserved : goal.loop-group-preserved
@@ -39,7 +39,7 @@ loop-group-preserved g c =
     let two = ap length second in
     let three = ap length pushed ∙ length-append done (new ∷ []) in
     record {
-      begun = subst (λ gs. IsBegun gs c.add_places.new.places) (sym pushed) (one_more done new c.loop-group.places c.add_places.new.places behind fresh counts written distinct inv.begun);
+      begun = subst (λ gs. IsBegun gs c.add_places.new.places) (sym pushed) (begun_more done new c.loop-group.places c.add_places.new.places behind fresh counts written distinct inv.begun);
       distinct = ap (λ gs. are_distinct (members_in gs) behind) pushed ∙ distinct_next done new c.loop-group.places c.add_places.new.places behind distinct;
       paired = omega (arith, one, two, inv.paired);
       whole =

@@ -9,7 +9,7 @@ use Rattle.mama_event.specs.Object.{same_timer}
 use Rattle.mama_timeout.specs.declared.table.Watch.{Watch}
 use Rattle.mama_timeout.specs.Table.{AreApart, new_watch}
 use Rattle.mama_timeout.specs.Kept.{watch_of}
-use Rattle.mama_timeout.proofs.Adding.{IsBegun, AreOther, begun_none, others_none, one_more, others_more, put_next}
+use Rattle.mama_timeout.proofs.Adding.{IsBegun, AreOther, begun_none, others_none, begun_more, others_more, put_next}
 use Rattle.mama_timeout.proofs.table.WatchTable.new.Goals as goal
 
 pub loop-numbered-init : goal.loop-numbered-init
@@ -42,7 +42,7 @@ loop-numbered-preserved c =
     let one = ap length first in
     let two = ap length pushed ∙ length-append done (new ∷ []) in
     record {
-      begun = subst (λ (ws : List Watch). IsBegun ws c.insert.new.self) (sym pushed) (one_more done new c.loop-numbered.places c.insert.new.self written others.0 roomy inv.begun);
+      begun = subst (λ (ws : List Watch). IsBegun ws c.insert.new.self) (sym pushed) (begun_more done new c.loop-numbered.places c.insert.new.self written others.0 roomy inv.begun);
       apart = apart.1;
       others = subst (λ (ws : List Watch). AreOther ws rows) (sym pushed) (others_more done new row rows refl apart.0 others.1);
       whole =
