@@ -11,10 +11,10 @@ use Rattle.mama_rules_rounds.specs.Round.{publishers_from}
 use Rattle.mama_lane.specs.Values.{TakerValue, PortValue}
 use Rattle.mama_seats.specs.Sender.{script_of}
 use Rattle.mama_ends.specs.Inlet.{InletValue}
-use Rattle.mama_posts.specs.Service.{ServiceValue, IsTaking}
+use Rattle.mama_posts_services.specs.Service.{ServiceValue, IsTaking}
 use Rattle.mama_laws_legal.proofs.Lists.{by_port-from}
-use Rattle.mama_close.specs.Closed.{IsEdgeOf}
-use Rattle.mama_close.proofs.Lists.{none_past}
+use Rattle.mama_gather.specs.Edge.{IsEdgeOf}
+use Rattle.mama_gather.proofs.Lists.{none_past}
 
 -- an edge by other names of what was taken and put
 pub edge_as : {N : Type 0} (last : N → Bool) (taken put t p : List N) → taken ≡ t → put ≡ p → IsEdge last taken put → IsEdge last t p

@@ -19,16 +19,17 @@ use Rattle.mama_rules_rounds.specs.Client.{Planned}
 use Rattle.mama_plans.specs.Orders.{orders_in}
 use Rattle.mama_dispatch.specs.Hearing.{ArePlanned}
 use Rattle.mama_lane.specs.Values.{PortValue, TakerValue}
-use Rattle.mama_posts.specs.Ports.{lanes_of, ids_of}
-use Rattle.mama_posts.specs.Queue.{IsQueueOf}
+use Rattle.mama_posts_services.specs.Ports.{lanes_of, ids_of}
+use Rattle.mama_posts_clients.specs.Queue.{IsQueueOf}
 use Rattle.mama_crew.specs.Hall.{HallValue, IsLaneAt}
 use Rattle.mama_crew.specs.Seat.{IsClientIn, IsPublisherIn, IsQueueIn}
 use Rattle.mama_close.specs.Kinds.{Kinds, AreKindsOf}
-use Rattle.mama_close.specs.Closed.{AreClosed, IsEdgeOf}
+use Rattle.mama_gather.specs.Edge.{IsEdgeOf}
+use Rattle.mama_close.specs.Closed.{AreClosed}
 use Rattle.mama_close.specs.Apart.{AreParts, BelongTo, AreEdgesOf}
 use Rattle.mama_close.specs.declared.apart.Apart.{Apart}
-use Rattle.mama_close.proofs.Lists.{numbered_len}
-use Rattle.mama_close.proofs.LaneEnds.{ports_lane, takers_lanes, edges_seen, pairs_seen}
+use Rattle.mama_gather.proofs.Lists.{numbered_len}
+use Rattle.mama_close.proofs.LaneSeats.{ports_lane, takers_lanes, edges_seen, pairs_seen}
 
 module _ (script : ScriptData) (hall : HallValue) (kinds : Kinds) (crew : AreKindsOf script hall kinds) where
   pub clients_on_bridge : (ports : List (PortValue BridgeNote)) → ports ≡ map (λ s. s.1.post.ports.to_bridge) kinds.clients → All (λ (p : PortValue BridgeNote). p.lane ≡ hall.to_bridge.id) ports

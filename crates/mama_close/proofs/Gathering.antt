@@ -40,24 +40,26 @@ use Rattle.mama_laws_gather.specs.Gathered.{AreGathered, HaveEnded, GatheredIsLe
 use Rattle.mama_laws_gather.specs.Done.{HaveDoneLines, GatheredDoLines}
 use Rattle.mama_plans.specs.Lists.{watch_row}
 use Rattle.mama_seats.specs.Sender.{sender_of, script_of, steps_in, steps_after}
-use Rattle.mama_posts.specs.Client.{HasDoneAll}
-use Rattle.mama_posts.specs.Client as client
-use Rattle.mama_posts.specs.Publisher.{PublisherPostValue, IsPublisherOf}
-use Rattle.mama_posts.specs.Publisher as publisher
-use Rattle.mama_posts.specs.Queue.{QueuePostValue, HasServedAll, rows_of_watches, served_puts}
-use Rattle.mama_posts.specs.Queue as queue
-use Rattle.mama_posts.specs.Bridge as bridge
-use Rattle.mama_posts.specs.Timers as timers
-use Rattle.mama_posts.specs.Timers.{timers_ports}
-use Rattle.mama_posts.specs.Byes.{BridgesEndByByes, TimersEndByByes}
-use Rattle.mama_posts.proofs.ClientLemmas.{done_all}
-use Rattle.mama_posts.proofs.QueueLemmas.{served_all}
+use Rattle.mama_posts_clients.specs.Client.{HasDoneAll}
+use Rattle.mama_posts_clients.specs.Client as client
+use Rattle.mama_posts_services.specs.Publisher.{PublisherPostValue, IsPublisherOf}
+use Rattle.mama_posts_services.specs.Publisher as publisher
+use Rattle.mama_posts_clients.specs.Queue.{QueuePostValue, HasServedAll, rows_of_watches, served_puts}
+use Rattle.mama_posts_clients.specs.Queue as queue
+use Rattle.mama_posts_services.specs.Bridge as bridge
+use Rattle.mama_posts_services.specs.Timers as timers
+use Rattle.mama_posts_services.specs.Timers.{timers_ports}
+use Rattle.mama_posts_services.specs.Byes.{BridgesEndByByes, TimersEndByByes}
+use Rattle.mama_posts_clients.proofs.ClientLemmas.{done_all}
+use Rattle.mama_posts_clients.proofs.QueueLemmas.{served_all}
 use Rattle.mama_crew.specs.Client.{ClientSeatValue}
 use Rattle.mama_crew.specs.Hall.{HallValue}
 use Rattle.mama_crew.specs.Seat.{IsClientIn, IsPublisherIn, IsQueueIn}
-use Rattle.mama_close.specs.Kinds.{Kinds, AreKindsOf, read_by, entries_by, events_by, record_of}
-use Rattle.mama_close.specs.Closed.{AreClosed, IsEdgeOf}
-use Rattle.mama_close.proofs.Lists.{found_at, all_at, map_at, map_get, get_same, zip_at, numbered_len, numbered_at, none_past, same_lists}
+use Rattle.mama_gather.specs.Left.{events_by}
+use Rattle.mama_close.specs.Kinds.{Kinds, AreKindsOf, read_by, entries_by, record_of}
+use Rattle.mama_gather.specs.Edge.{IsEdgeOf}
+use Rattle.mama_close.specs.Closed.{AreClosed}
+use Rattle.mama_gather.proofs.Lists.{found_at, all_at, map_at, map_get, get_same, zip_at, numbered_len, numbered_at, none_past, same_lists}
 use Rattle.mama_close.proofs.Edges.{edge_as, edge_by, edge_of_none, put_whole, taken_whole, service_taken, service_none, one_port, section_at}
 
 -- the rows of watches without their numbers

@@ -1,12 +1,10 @@
-pub mod Lists
+pub mod LaneSeats
+pub mod Listing
 pub mod Edges
 pub mod Gathering
 pub mod Sorting
-pub mod Placing
-pub mod LaneEnds
 pub mod Ends
-pub mod Parting
 pub mod Record
 pub mod Noted
 pub mod Whole
-pub mod Imaging
+pub mod Keeping

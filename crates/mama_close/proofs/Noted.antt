@@ -2,10 +2,9 @@
 use Rattle.std.specs.Prelude.{slice_index_or}
 use Rattle.std.specs.Global.{Vec}
 use Rattle.std.specs.List.{All, flat_map}
-use Rattle.std.proofs.Common.{◌≡◌, ℕ, zero, suc, ◌≤◌, ◌==◌, Bool, true, false, cond, List, [], ◌∷◌, ◌++◌, length, map, filter, refl, sym, ◌∙◌, ap, subst, append-nil, append_assoc, arith}
+use Rattle.std.proofs.Common.{◌≡◌, ℕ, zero, suc, ◌≤◌, ◌==◌, Bool, true, false, cond, List, [], ◌∷◌, ◌++◌, length, map, filter, refl, sym, ◌∙◌, ap, subst, append_assoc, arith}
 use Rattle.std.proofs.lemmas.Bool.{eqb-true}
-use Rattle.std.proofs.lemmas.List.{length-map, map-append}
-use Rattle.std.proofs.lemmas.List.Concat.{flat_map-append}
+use Rattle.std.proofs.lemmas.List.{length-map}
 use Rattle.std.proofs.lemmas.List.Elements.{All-head}
 use Rattle.mama_journal.specs.Journal.{numbers_below}
 use Rattle.mama_event.specs.declared.ids.ObjectId.{ObjectId}
@@ -23,14 +22,15 @@ use Rattle.mama_rules_rounds.specs.World.{Watched, is_on, orders_by}
 use Rattle.mama_rules_rounds.specs.Round.{setting_of, watch_told}
 use Rattle.mama_plans.specs.Orders.{orders_in}
 use Rattle.mama_plans.specs.Lists.{watch_row, watches_on}
-use Rattle.mama_plans.specs.Numbered.{numbered, list_put, lists_put}
-use Rattle.mama_plans.proofs.NumberedLemmas.{put_more, put_by_number, no_watch, watches_numbered, watches_count}
+use Rattle.mama_plans.specs.Numbered.{numbered, lists_put}
+use Rattle.mama_plans.proofs.NumberedLemmas.{put_by_number, no_watch, watches_numbered, watches_count}
 use Rattle.mama_timeout.specs.Table.{watch_by, part_of}
-use Rattle.mama_posts.specs.Queue.{QueuePostValue}
+use Rattle.mama_posts_clients.specs.Queue.{QueuePostValue}
 use Rattle.mama_crew.specs.Hall.{HallValue}
 use Rattle.mama_crew.specs.Seat.{IsQueueIn}
-use Rattle.mama_close.specs.Kinds.{Kinds, AreKindsOf, events_by, noted_by, none_noted, record_of}
-use Rattle.mama_close.proofs.Lists.{all_back, numbered_len, numbered_here}
+use Rattle.mama_gather.specs.Left.{events_by, noted_by, none_noted}
+use Rattle.mama_close.specs.Kinds.{Kinds, AreKindsOf, record_of}
+use Rattle.mama_gather.proofs.Lists.{all_back, numbered_len, numbered_here}
 
 -- what a watch notes by the journal of its queue
 abbrev told_by : (ObjectId → ℕ → List Order) → List (List (ℕ × QueueNote)) → Watched → List WatchNote
@@ -69,28 +69,6 @@ past_all (j ∷ js) (suc q) past = past_all js q (omega arith)
 seen : (noted : List (ℕ × Vec WatchNote)) → watches_of noted ≡ map as_notes (numbered noted)
 seen [] = refl
 seen (n ∷ noted) = ap (λ (ns : List WatchNotes). as_notes (n.0, n.1.items) ∷ ns) (seen noted)
-
--- ---- lists that are put one after another
-
-abbrev numbered_one : ℕ × Vec WatchNote → ℕ × List WatchNote
-numbered_one e = (e.0, e.1.items)
-
--- one list more is put
-pub list_more : (xs : List (ℕ × Vec WatchNote)) (x : ℕ × Vec WatchNote) (old now new : List (ℕ × Vec WatchNote)) → numbered new ≡ list_put x.0 x.1.items (numbered now)
-    → numbered now ≡ lists_put (numbered xs) (numbered old) → numbered new ≡ lists_put (numbered (xs ++ x ∷ [])) (numbered old)
-list_more xs x old now new put were =
-    put ∙ ap (list_put x.0 x.1.items) were
-    ∙ sym (ap (λ (es : List (ℕ × List WatchNote)). lists_put es (numbered old)) (map-append numbered_one xs (x ∷ []))
-    ∙ put_more (numbered xs) (numbered_one x ∷ []) (numbered old))
-
--- those of one queue more are put
-pub queue_more : (seats : List (ℕ × QueuePostValue)) (s : ℕ × QueuePostValue) (first old new : List (ℕ × List WatchNote)) → new ≡ lists_put (noted_by s) old → old ≡ lists_put (flat_map noted_by seats) first
-    → new ≡ lists_put (flat_map noted_by (seats ++ s ∷ [])) first
-queue_more seats s first old new put were =
-    put ∙ ap (lists_put (noted_by s)) were
-    ∙ sym (ap (λ (es : List (ℕ × List WatchNote)). lists_put es first)
-    (flat_map-append noted_by seats (s ∷ []) ∙ ap (λ (es : List (ℕ × List WatchNote)). flat_map noted_by seats ++ es) (append-nil (noted_by s)))
-    ∙ put_more (flat_map noted_by seats) (noted_by s) first)
 
 -- ---- what they noted
 

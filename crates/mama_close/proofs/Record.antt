@@ -12,9 +12,10 @@ use Rattle.mama_record.specs.RunData.{RunData, ObjectCalls, LastImage, GroupNote
 use Rattle.mama_rules_rounds.specs.Client.{Planned}
 use Rattle.mama_rules_rounds.specs.World.{Setting}
 use Rattle.mama_rules_rounds.specs.Round.{setting_of, object_calls, last_image, group_told, watch_told}
-use Rattle.mama_close.specs.Kinds.{Kinds, read_by, entries_by, events_by, record_of}
-use Rattle.mama_close.specs.Places.{calls_on, images_by}
-use Rattle.mama_close.proofs.Placing.{told_of}
+use Rattle.mama_gather.specs.Left.{events_by}
+use Rattle.mama_close.specs.Kinds.{Kinds, read_by, entries_by, record_of}
+use Rattle.mama_gather.specs.Places.{calls_on, images_by}
+use Rattle.mama_close.proofs.Listing.{told_of}
 
 image_same : (setting : Setting) (queues : List (List (ℕ × QueueNote))) (p : Planned) → images_by setting.objects queues p ≡ last_image setting queues p
 image_same setting queues p =

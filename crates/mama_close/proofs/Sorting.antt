@@ -10,25 +10,26 @@ use Rattle.mama_edge.specs.declared.gate.GateActor.TheVariants as gate
 use Rattle.mama_event.specs.declared.shape.Shape.{Shape}
 use Rattle.mama_event.specs.Ports.{clients_of, publishers_of, queues_of}
 use Rattle.mama_script.specs.Script.{ScriptData}
-use Rattle.mama_posts.specs.Client as client
-use Rattle.mama_posts.specs.Publisher.{PublisherPostValue}
-use Rattle.mama_posts.specs.Publisher as publisher
-use Rattle.mama_posts.specs.Bridge.{BridgePostValue}
-use Rattle.mama_posts.specs.Bridge as bridge
-use Rattle.mama_posts.specs.Timers.{TimersPostValue}
-use Rattle.mama_posts.specs.Timers as timers
-use Rattle.mama_posts.specs.Service as service
-use Rattle.mama_posts.specs.Queue.{QueuePostValue}
-use Rattle.mama_posts.specs.Queue as queue
+use Rattle.mama_posts_clients.specs.Client as client
+use Rattle.mama_posts_services.specs.Publisher.{PublisherPostValue}
+use Rattle.mama_posts_services.specs.Publisher as publisher
+use Rattle.mama_posts_services.specs.Bridge.{BridgePostValue}
+use Rattle.mama_posts_services.specs.Bridge as bridge
+use Rattle.mama_posts_services.specs.Timers.{TimersPostValue}
+use Rattle.mama_posts_services.specs.Timers as timers
+use Rattle.mama_posts_services.specs.Service as service
+use Rattle.mama_posts_clients.specs.Queue.{QueuePostValue}
+use Rattle.mama_posts_clients.specs.Queue as queue
 use Rattle.mama_crew.specs.Client.{ClientSeatValue}
 use Rattle.mama_crew.specs.Hall.{HallValue}
 use Rattle.mama_crew.specs.Crew.{IsCrew, actors_of, client_actors, publisher_actors, queue_actors}
 use Rattle.mama_crew.specs.Seat.{actor_of, IsSeatOf, HasEnded, IsClientIn, IsPublisherIn, IsBridgeIn, IsTimersIn, IsQueueIn}
 use Rattle.mama_crew.specs.declared.seat.Seat.{Seat}
 use Rattle.mama_crew.specs.declared.seat.Seat.TheVariants.{Client, Publisher, Bridge, Timers, Queue}
-use Rattle.mama_close.specs.Journals as journals
-use Rattle.mama_close.specs.Journals.{AreJournalsOf}
-use Rattle.mama_close.specs.Kinds.{client_in, publisher_in, bridge_in, timers_in, queue_in, read_by, entries_by, events_by, Kinds, AreKindsOf, record_of}
+use Rattle.mama_crew.specs.Journals as journals
+use Rattle.mama_crew.specs.Journals.{AreJournalsOf}
+use Rattle.mama_gather.specs.Left.{events_by}
+use Rattle.mama_close.specs.Kinds.{client_in, publisher_in, bridge_in, timers_in, queue_in, read_by, entries_by, Kinds, AreKindsOf, record_of}
 
 -- ---- lists of lists
 
@@ -280,6 +281,25 @@ module _ {L : Type 0} where
   timers_over (Bridge post) over = All-nil TimersEnded
   timers_over (Timers post) over = All-cons TimersEnded post [] over (All-nil TimersEnded)
   timers_over (Queue q post) over = All-nil TimersEnded
+
+  -- ---- a crew has one bridge and one timer service
+
+  module _ (script : ScriptData) (hall : HallValue) (seats : List (Seat L)) (crew : IsCrew script hall seats) where
+    pub bridge_there : (bridges : List BridgePostValue) → bridges ≡ flat_map bridge_in seats → bridges ≡ [] → ⊥
+    bridge_there bridges are none =
+        let one : map (λ (x : BridgePostValue). 0) (flat_map bridge_in seats) ≡ 0 ∷ [] =
+        numbers (λ (x : BridgePostValue). 0) bridge_in bridge_number bridge_own seats (actors_of script.shape) (0 ∷ []) crew.actors (shape_bridge script.shape) in
+        let zero : List ℕ = 0 ∷ [] in
+        let here : map (λ (x : BridgePostValue). 0) [] ≡ zero = subst (λ (xs : List BridgePostValue). map (λ (x : BridgePostValue). 0) xs ≡ zero) (sym are ∙ none) one in
+        cc here
+
+    pub service_there : (services : List TimersPostValue) → services ≡ flat_map timers_in seats → services ≡ [] → ⊥
+    service_there services are none =
+        let one : map (λ (x : TimersPostValue). 0) (flat_map timers_in seats) ≡ 0 ∷ [] =
+        numbers (λ (x : TimersPostValue). 0) timers_in timers_number timers_own seats (actors_of script.shape) (0 ∷ []) crew.actors (shape_timers script.shape) in
+        let zero : List ℕ = 0 ∷ [] in
+        let here : map (λ (x : TimersPostValue). 0) [] ≡ zero = subst (λ (xs : List TimersPostValue). map (λ (x : TimersPostValue). 0) xs ≡ zero) (sym are ∙ none) one in
+        cc here
 
   -- ---- a crew whose seats have ended
 

@@ -22,13 +22,14 @@ use Rattle.mama_record.specs.RunView.{moments_of, entries_of, events_of, calls_o
 use Rattle.mama_rules_rounds.specs.Client.{Planned}
 use Rattle.mama_rules_rounds.specs.Round.{setting_of}
 use Rattle.mama_close.specs.Back.{AreBack}
-use Rattle.mama_close.specs.Kinds.{Kinds, events_by, record_of}
-use Rattle.mama_close.specs.Places.{calls_on, images_by, AreCallsFound, AreListenersFound}
+use Rattle.mama_gather.specs.Left.{events_by}
+use Rattle.mama_close.specs.Kinds.{Kinds, record_of}
+use Rattle.mama_gather.specs.Places.{calls_on, images_by, AreCallsFound, AreListenersFound}
 use Rattle.mama_close.specs.Apart.{AreParts}
 use Rattle.mama_close.specs.Made.{IsMade}
 use Rattle.mama_close.specs.declared.apart.Apart.{Apart}
 use Rattle.mama_close.specs.declared.apart.Gathered.{Gathered}
-use Rattle.mama_close.proofs.Placing.{told_of, calls_listed, listeners_listed}
+use Rattle.mama_close.proofs.Listing.{told_of, calls_listed, listeners_listed}
 use Rattle.mama_close.proofs.Record.{record_is}
 
 -- the callbacks of the objects, in their order

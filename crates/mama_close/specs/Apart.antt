@@ -9,9 +9,10 @@ use Rattle.mama_event.specs.ToPublisher as publisher
 use Rattle.mama_event.specs.ToQueue as queue
 use Rattle.mama_record.specs.RunView.{moments_of, entries_of, events_of}
 use Rattle.mama_lane.specs.Values.{LaneValue, PortValue}
-use Rattle.mama_posts.specs.Ports.{lanes_of, ids_of}
-use Rattle.mama_close.specs.Kinds.{Kinds, read_by, entries_by, events_by}
-use Rattle.mama_close.specs.Closed.{IsEdgeOf}
+use Rattle.mama_posts_services.specs.Ports.{lanes_of, ids_of}
+use Rattle.mama_gather.specs.Left.{events_by}
+use Rattle.mama_close.specs.Kinds.{Kinds, read_by, entries_by}
+use Rattle.mama_gather.specs.Edge.{IsEdgeOf}
 use Rattle.mama_close.specs.declared.apart.Apart.{Apart}
 
 -- The ends of the lanes and the journals are those of these seats.

@@ -1,19 +1,13 @@
 -- inner: What the closing of all lanes of a crew tells.
-use Rattle.std.specs.Prelude.{Bool, List}
 use Rattle.std.specs.List.{All, AllZip}
-use Rattle.mama_journal.specs.Lane.{by_port, IsEdge}
 use Rattle.mama_event.specs.ToBridge as bridge
 use Rattle.mama_event.specs.ToTimers as timers
 use Rattle.mama_event.specs.ToPublisher as publisher
 use Rattle.mama_event.specs.ToQueue as queue
-use Rattle.mama_lane.specs.Values.{PortValue, TakerValue}
+use Rattle.mama_gather.specs.Edge.{IsEdgeOf}
 use Rattle.mama_close.specs.Kinds.{Kinds}
 
--- What was taken from a port begins what the port put, and is all of it where its last event was taken.
-abbrev pub IsEdgeOf : {N : Type 0} → (N → Bool) → TakerValue N → PortValue N → Type 0
-IsEdgeOf is_last taker port = IsEdge is_last (by_port port.number taker.taken) port.put
-
--- So it is with each port of each lane.
+-- Of each port of each lane, what was taken begins what was put, and is all of it where the last event was taken.
 pub record AreClosed (kinds : Kinds) : Type 0 where
   pub clients_bridge : All (λ s. IsEdgeOf bridge.is_last kinds.bridge.service.inlet.taker s.1.post.ports.to_bridge) kinds.clients
   pub publishers_bridge : All (λ s. IsEdgeOf bridge.is_last kinds.bridge.service.inlet.taker s.1.port) kinds.publishers

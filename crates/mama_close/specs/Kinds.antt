@@ -3,23 +3,21 @@ use Rattle.std.specs.Prelude.{◌≡◌, ℕ, List, [], ◌∷◌, map}
 use Rattle.std.specs.List.{All, flat_map}
 use Rattle.mama_journal.specs.Journal.{numbers_below}
 use Rattle.mama_event.specs.declared.publisher_entry.PublisherEntry.{PublisherEntry}
-use Rattle.mama_event.specs.declared.to_queue.QueueNote.{QueueNote}
-use Rattle.mama_event.specs.declared.watch.WatchNote.{WatchNote}
-use Rattle.mama_timeout.specs.Table.{part_of}
 use Rattle.mama_event.specs.Ports.{clients_of, publishers_of, queues_of}
 use Rattle.mama_script.specs.Script.{ScriptData}
 use Rattle.mama_record.specs.RunData.{RunData}
 use Rattle.mama_rules_rounds.specs.Round.{setting_of, object_calls, last_image, group_told, watch_told}
-use Rattle.mama_posts.specs.Client as client
-use Rattle.mama_posts.specs.Publisher.{PublisherPostValue}
-use Rattle.mama_posts.specs.Publisher as publisher
-use Rattle.mama_posts.specs.Bridge.{BridgePostValue}
-use Rattle.mama_posts.specs.Bridge as bridging
-use Rattle.mama_posts.specs.Timers.{TimersPostValue}
-use Rattle.mama_posts.specs.Timers as timing
-use Rattle.mama_posts.specs.Service as service
-use Rattle.mama_posts.specs.Queue.{QueuePostValue}
-use Rattle.mama_posts.specs.Queue as queue
+use Rattle.mama_posts_clients.specs.Client as client
+use Rattle.mama_posts_services.specs.Publisher.{PublisherPostValue}
+use Rattle.mama_posts_services.specs.Publisher as publisher
+use Rattle.mama_posts_services.specs.Bridge.{BridgePostValue}
+use Rattle.mama_posts_services.specs.Bridge as bridging
+use Rattle.mama_posts_services.specs.Timers.{TimersPostValue}
+use Rattle.mama_posts_services.specs.Timers as timing
+use Rattle.mama_posts_services.specs.Service as service
+use Rattle.mama_posts_clients.specs.Queue.{QueuePostValue}
+use Rattle.mama_posts_clients.specs.Queue as queue
+use Rattle.mama_gather.specs.Left.{events_by}
 use Rattle.mama_crew.specs.Client.{ClientSeatValue}
 use Rattle.mama_crew.specs.Hall.{HallValue, IsHallOf}
 use Rattle.mama_crew.specs.Seat.{IsClientIn, IsPublisherIn, IsBridgeIn, IsTimersIn, IsQueueIn}
@@ -47,23 +45,12 @@ abbrev pub queue_in : {L : Type 0} → Seat L → List (ℕ × QueuePostValue)
 queue_in (Queue q post) = (q, post) ∷ []
 queue_in _ = []
 
--- what a client has read, and the journals of a publisher and of a queue
+-- what a client has read, and the journal of a publisher
 abbrev pub read_by : ℕ × ClientSeatValue → List ℕ
 read_by s = s.1.post.walk.read
 
 abbrev pub entries_by : ℕ × PublisherPostValue → List PublisherEntry
 entries_by s = s.1.progress.journal
-
-abbrev pub events_by : ℕ × QueuePostValue → List (ℕ × QueueNote)
-events_by s = s.1.served.journal
-
--- what the watches of a queue noted, each list with its number
-abbrev pub noted_by : ℕ × QueuePostValue → List (ℕ × List WatchNote)
-noted_by s = map part_of s.1.watches
-
--- nothing that the watch of a number noted
-abbrev pub none_noted : ℕ → ℕ × List WatchNote
-none_noted n = (n, [])
 
 -- all seats of a crew, by kind, in the order of their numbers
 pub record Kinds : Type 0 where

@@ -1,8 +1,6 @@
-pub mod Journals
 pub mod Back
 pub mod Kinds
 pub mod Closed
-pub mod Places
 pub mod InKinds
 pub mod Apart
 pub mod Made

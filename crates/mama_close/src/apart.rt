@@ -2,28 +2,28 @@ ghost use Rattle.std.specs.Prelude.{◌≡◌, ◌<◌, ◌^◌, ℕ, List, leng
 ghost use Rattle.std.specs.List.{All, flat_map};
 ghost use Rattle.mama_journal.specs.Journal.{numbers_below};
 ghost use Rattle.mama_event.specs.Listener.{told};
-ghost use Rattle.mama_posts.specs.Queue.{IsQueueOf};
+ghost use Rattle.mama_posts_clients.specs.Queue.{IsQueueOf};
 ghost use Rattle.mama_record.specs.RunView.{moments_of, entries_of};
 ghost use Rattle.mama_plans.specs.Numbered.{numbered, lists_put};
-ghost use Rattle.mama_close.specs.Kinds.{read_by, entries_by, events_by, noted_by, none_noted};
+ghost use Rattle.mama_gather.specs.Left.{events_by, noted_by, none_noted};
+ghost use Rattle.mama_close.specs.Kinds.{read_by, entries_by};
 ghost use Rattle.mama_close.specs.InKinds.{kinds_in};
-ghost use Rattle.mama_close.specs.Places.{calls_on, AreCallsFound, AreListenersFound};
+ghost use Rattle.mama_gather.specs.Places.{calls_on, AreCallsFound, AreListenersFound};
 ghost use Rattle.mama_close.specs.Apart.{AreParts, BelongTo, AreEdgesOf};
 
 use crate::clients::ClientEnds;
 use crate::kinds::SeatsByKind;
-use crate::lanes::{close_each, close_pairs, close_service};
 use crate::publishers::PublisherEnds;
-use crate::queues::QueueEnds;
 use mama_carry::{Carried, Listener, ToBridge, ToQueue, ToTimers};
 use mama_crew::{BridgeSeat, ClientSeat, PublisherSeat, TimersSeat};
 use mama_event::{
     BridgeNote, CallNote, PublisherEntry, QueueNote, TimersNote, ToPublisher, WatchNote,
 };
+use mama_gather::{QueueEnds, close_each, close_pairs, close_service};
 use mama_lane::Lane;
 use mama_memory::OutOfMemory;
 use mama_plans::Plans;
-use mama_posts::{BridgeParts, TimersParts};
+use mama_posts_services::{BridgeParts, TimersParts};
 use std::alloc::Global;
 use std::sync::Wait;
 

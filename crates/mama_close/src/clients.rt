@@ -6,7 +6,7 @@ use mama_carry::{Carried, Listener, ToBridge, ToTimers};
 use mama_crew::ClientSeat;
 use mama_lane::Port;
 use mama_memory::OutOfMemory;
-use mama_posts::ClientParts;
+use mama_posts_clients::ClientParts;
 use std::alloc::Global;
 
 /// The clients' ports on the lanes of both services, and the moments that each client has read.

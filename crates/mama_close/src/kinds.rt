@@ -1,15 +1,15 @@
-ghost use Rattle.std.specs.Prelude.{◌≡◌, [], ◌++◌, OnOk, IfOk};
+ghost use Rattle.std.specs.Prelude.{◌≡◌, [], ◌++◌, IsOk, OnOk, IfOk};
 ghost use Rattle.std.specs.List.{All, flat_map};
 ghost use Rattle.mama_crew.specs.Crew.{IsCrew};
 ghost use Rattle.mama_crew.specs.Seat.{HasEnded};
-ghost use Rattle.mama_close.specs.Journals.{AreJournalsOf};
+ghost use Rattle.mama_crew.specs.Journals.{AreJournalsOf};
 ghost use Rattle.mama_close.specs.Kinds.{client_in, publisher_in, bridge_in, timers_in, queue_in, AreKindsOf, record_of};
 ghost use Rattle.mama_close.specs.InKinds.{kinds_in};
 
 use mama_carry::Listener;
 use mama_crew::{BridgeSeat, ClientSeat, Hall, PublisherSeat, Script, Seat, TimersSeat};
 use mama_memory::OutOfMemory;
-use mama_posts::QueuePost;
+use mama_posts_clients::QueuePost;
 use std::alloc::Global;
 
 /// The seats of a crew, kind by kind, those of clients, publishers and queues with their numbers.
@@ -52,10 +52,10 @@ pub(crate) fn by_kind<L: Listener>(
         queues,
     } = sort_seats(alloc, seats)?;
     let Some(bridge) = bridges.pop() else {
-        return Err(OutOfMemory);
+        unreachable!()
     };
     let Some(timers) = services.pop() else {
-        return Err(OutOfMemory);
+        unreachable!()
     };
     Ok(SeatsByKind {
         clients,
@@ -75,10 +75,19 @@ fn sort_seats<L: Listener>(alloc: Global, seats: Vec<Seat<L>>) -> Result<Sorted<
     ensures queues { IfOk result (λ r. r.queues.items ≡ flat_map queue_in seats.items) }
 {
     let mut kinds = Sorted::none(alloc);
-    for seat in seats {
-        kinds.add(seat)?;
+    let added = kinds.add_all(seats);
+    if_done(kinds, added)
+}
+
+// A value, if what was to be done to it was done. It is let go here alone, where its type is any.
+fn if_done<T: Drop>(value: T, done: Result<(), OutOfMemory>) -> Result<T, OutOfMemory>
+    ensures value { IfOk result (λ r. r ≡ value) }
+    ensures done { OnOk result (IsOk done) }
+{
+    match done {
+        Ok(()) => Ok(value),
+        Err(OutOfMemory) => Err(OutOfMemory),
     }
-    Ok(kinds)
 }
 
 impl<L: Listener> Sorted<L> {
@@ -99,8 +108,27 @@ impl<L: Listener> Sorted<L> {
         }
     }
 
+    // Adds seats, each to those of its kind, where there were none.
+    fn add_all(&mut self, seats: Vec<Seat<L>>) -> Result<(), OutOfMemory>
+        requires clients { self.old.clients.items ≡ [] }
+        requires publishers { self.old.publishers.items ≡ [] }
+        requires bridges { self.old.bridges.items ≡ [] }
+        requires services { self.old.services.items ≡ [] }
+        requires queues { self.old.queues.items ≡ [] }
+        ensures clients { OnOk result (self.new.clients.items ≡ flat_map client_in seats.items) }
+        ensures publishers { OnOk result (self.new.publishers.items ≡ flat_map publisher_in seats.items) }
+        ensures bridges { OnOk result (self.new.bridges.items ≡ flat_map bridge_in seats.items) }
+        ensures services { OnOk result (self.new.services.items ≡ flat_map timers_in seats.items) }
+        ensures queues { OnOk result (self.new.queues.items ≡ flat_map queue_in seats.items) }
+    {
+        for seat in seats {
+            self.add(seat)?;
+        }
+        Ok(())
+    }
+
     // Adds a seat to those of its kind, behind the others.
-    #[tactic(auto, using(crate::proofs::Lists::append_none))]
+    #[tactic(auto, using(mama_gather::proofs::Lists::append_none))]
     fn add(&mut self, seat: Seat<L>) -> Result<(), OutOfMemory>
         ensures clients { OnOk result (self.new.clients.items ≡ self.old.clients.items ++ client_in seat) }
         ensures publishers { OnOk result (self.new.publishers.items ≡ self.old.publishers.items ++ publisher_in seat) }

@@ -7,7 +7,7 @@ use mama_crew::PublisherSeat;
 use mama_event::{PublisherEntry, ToPublisher};
 use mama_lane::{Port, Taker};
 use mama_memory::OutOfMemory;
-use mama_posts::PublisherParts;
+use mama_posts_services::PublisherParts;
 use std::alloc::Global;
 
 /// The publishers' takers, their ports on the bridge's lane, and the journal of each.

@@ -10,13 +10,13 @@ use Rattle.mama_script.specs.declared.publisher.PublisherPart.{PublisherPart}
 use Rattle.mama_script.specs.Script.{ScriptData}
 use Rattle.mama_lane.specs.Values.{LaneValue, PortValue, NoteValue, note_of_port}
 use Rattle.mama_ends.specs.Inlet.{InletValue}
-use Rattle.mama_posts.specs.Ports.{lanes_of, ids_of}
-use Rattle.mama_posts.specs.Publisher.{PublisherPostValue, IsPublisherOf}
-use Rattle.mama_posts.specs.Publisher as publisher
-use Rattle.mama_posts.specs.Service.{ServiceValue, HasEnded}
-use Rattle.mama_posts.specs.Bridge.{BridgePostValue, IsBridgeOf}
-use Rattle.mama_posts.specs.Timers.{TimersPostValue, IsTimersOf}
-use Rattle.mama_posts.specs.Queue.{QueuePostValue, rows_of_watches, IsQueueOf}
+use Rattle.mama_posts_services.specs.Ports.{lanes_of, ids_of}
+use Rattle.mama_posts_services.specs.Publisher.{PublisherPostValue, IsPublisherOf}
+use Rattle.mama_posts_services.specs.Publisher as publisher
+use Rattle.mama_posts_services.specs.Service.{ServiceValue, HasEnded}
+use Rattle.mama_posts_services.specs.Bridge.{BridgePostValue, IsBridgeOf}
+use Rattle.mama_posts_services.specs.Timers.{TimersPostValue, IsTimersOf}
+use Rattle.mama_posts_clients.specs.Queue.{QueuePostValue, rows_of_watches, IsQueueOf}
 use Rattle.mama_crew.specs.Hall.{HallValue, IsLaneAt}
 use Rattle.mama_crew.specs.declared.seat.Seat.{Seat}
 use Rattle.mama_crew.specs.declared.seat.Seat.TheVariants.{Client, Publisher, Bridge, Timers, Queue}

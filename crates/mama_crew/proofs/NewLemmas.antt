@@ -16,20 +16,20 @@ use Rattle.mama_dispatch.specs.Served.{Served}
 use Rattle.mama_lane.specs.Values.{LaneValue, PortValue, TakerValue, new_port, new_taker}
 use Rattle.mama_ends.specs.Inlet.{InletValue}
 use Rattle.mama_hall.specs.Ends.{IsLaneOf}
-use Rattle.mama_posts.specs.Ports.{lanes_of, IsPutting}
-use Rattle.mama_posts.specs.Outlets.{OutletsValue}
-use Rattle.mama_posts.specs.Client.{ClientPostValue, walk_at_first}
-use Rattle.mama_posts.specs.Publisher.{PublisherPostValue, IsPublisherOf}
-use Rattle.mama_posts.specs.Service.{IsNewTaker}
-use Rattle.mama_posts.specs.Bridge.{BridgePostValue, IsBridgeOf}
-use Rattle.mama_posts.specs.Timers.{TimersPostValue, IsTimersOf}
+use Rattle.mama_posts_services.specs.Ports.{lanes_of, IsPutting}
+use Rattle.mama_posts_clients.specs.Outlets.{OutletsValue}
+use Rattle.mama_posts_clients.specs.Client.{ClientPostValue, walk_at_first}
+use Rattle.mama_posts_services.specs.Publisher.{PublisherPostValue, IsPublisherOf}
+use Rattle.mama_posts_services.specs.Service.{IsNewTaker}
+use Rattle.mama_posts_services.specs.Bridge.{BridgePostValue, IsBridgeOf}
+use Rattle.mama_posts_services.specs.Timers.{TimersPostValue, IsTimersOf}
 use Rattle.std.specs.List.{All, AllByRecursion}
 use Rattle.std.proofs.lemmas.List.Elements.{All-from_recursion}
 use Rattle.mama_event.specs.declared.watch.WatchRow.{WatchRow}
 use Rattle.mama_rules_rounds.specs.Round.{setting_of}
 use Rattle.mama_plans.specs.Lists.{watches_on}
 use Rattle.mama_timeout.specs.Table.{WatchData, new_watch}
-use Rattle.mama_posts.specs.Queue.{QueuePostValue, rows_of_watches, IsQueueOf}
+use Rattle.mama_posts_clients.specs.Queue.{QueuePostValue, rows_of_watches, IsQueueOf}
 use Rattle.mama_crew.specs.Hall.{HallValue, IsPortAt, IsLaneAt}
 use Rattle.mama_crew.specs.Seat.{IsPublisherIn, IsBridgeIn, IsTimersIn, IsQueueIn, HasNotWalked}
 use Rattle.mama_crew.specs.New.{HasTakenNothing, HasNotSent, HasNotBridged, HasNotFired, HasNotDispatched}

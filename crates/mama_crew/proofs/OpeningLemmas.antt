@@ -10,7 +10,7 @@ use Rattle.mama_event.specs.Ports.{publishers_of, queues_of, bridge_ports, timer
 use Rattle.mama_rules_rounds.specs.Client.{Planned}
 use Rattle.mama_lane.specs.Values.{LaneValue, PortValue, TakerValue, new_port, new_taker}
 use Rattle.mama_hall.specs.Ends.{ports_from, IsLaneOf}
-use Rattle.mama_posts.specs.Ports.{lanes_of, ids_of, ArePutting}
+use Rattle.mama_posts_services.specs.Ports.{lanes_of, ids_of, ArePutting}
 use Rattle.mama_crew.specs.Hall.{HallValue, IsLaneAt, AreLanesOf}
 use Rattle.mama_crew.specs.New.{HavePutNothing}
 

@@ -11,16 +11,16 @@ use Rattle.mama_event.specs.declared.shape.Shape.{Shape}
 use Rattle.mama_script.specs.declared.publisher.PublisherPart.{PublisherPart}
 use Rattle.mama_script.specs.Script.{ScriptData}
 use Rattle.mama_lane.specs.Values.{LaneId, LaneValue, PortValue, TakerValue}
-use Rattle.mama_posts.specs.declared.pace.Pace.{Pace}
-use Rattle.mama_posts.specs.declared.pace.Pace.TheVariants.{Moved, Waiting, Ended}
-use Rattle.mama_posts.specs.Ports.{place_of}
-use Rattle.mama_posts.specs.Outlets.{OutletsValue, with_put}
-use Rattle.mama_posts.specs.Client.{ClientPostValue, IsClientOf}
-use Rattle.mama_posts.specs.Publisher.{PublisherPostValue, IsPublisherOf}
-use Rattle.mama_posts.specs.Bridge.{BridgePostValue, IsBridgeOf, StayPlaced}
-use Rattle.mama_posts.specs.Timers.{TimersPostValue, IsTimersOf}
-use Rattle.mama_posts.specs.Queue.{QueuePostValue, rows_of_watches, IsQueueOf}
-use Rattle.mama_posts.proofs.PortsLemmas.{lanes_stay}
+use Rattle.mama_ends.specs.declared.pace.Pace.{Pace}
+use Rattle.mama_ends.specs.declared.pace.Pace.TheVariants.{Moved, Waiting, Ended}
+use Rattle.mama_posts_services.specs.Ports.{place_of}
+use Rattle.mama_posts_clients.specs.Outlets.{OutletsValue, with_put}
+use Rattle.mama_posts_clients.specs.Client.{ClientPostValue, IsClientOf}
+use Rattle.mama_posts_services.specs.Publisher.{PublisherPostValue, IsPublisherOf}
+use Rattle.mama_posts_services.specs.Bridge.{BridgePostValue, IsBridgeOf, StayPlaced}
+use Rattle.mama_posts_services.specs.Timers.{TimersPostValue, IsTimersOf}
+use Rattle.mama_posts_clients.specs.Queue.{QueuePostValue, rows_of_watches, IsQueueOf}
+use Rattle.mama_posts_services.proofs.PortsLemmas.{lanes_stay}
 use Rattle.mama_crew.specs.Hall.{HallValue, IsLaneAt}
 use Rattle.mama_crew.specs.Client.{ClientSeatValue, is_clear, reads_now}
 use Rattle.mama_crew.specs.Seat.{IsClientIn, IsPublisherIn, IsBridgeIn, IsTimersIn, IsQueueIn}

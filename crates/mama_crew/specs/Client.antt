@@ -3,7 +3,7 @@ use Rattle.std.specs.Prelude.{ℕ, Bool, true, false, ◌&&◌, List, [], ◌∷
 use Rattle.mama_rules_queue.specs.Queue.{QueuePut}
 use Rattle.mama_script.specs.Script.{ScriptData}
 use Rattle.mama_seats.specs.Stand.{reads_next}
-use Rattle.mama_posts.specs.Client.{ClientPostValue, stand_at}
+use Rattle.mama_posts_clients.specs.Client.{ClientPostValue, stand_at}
 
 -- a client's post, and whether its next step reads the clock
 pub record ClientSeatValue : Type 0 where

@@ -8,7 +8,7 @@ use Rattle.mama_rules_rounds.specs.Client.{Planned}
 use Rattle.mama_rules_rounds.specs.Round.{setting_of}
 use Rattle.mama_hall.specs.Ends.{IsLaneOf}
 use Rattle.mama_lane.specs.Values.{LaneId, LaneValue, PortValue}
-use Rattle.mama_posts.specs.Ports.{ids_of}
+use Rattle.mama_posts_services.specs.Ports.{ids_of}
 
 -- the objects with their plans, and the lanes: the bridge's, the timer service's, and those of publishers and queues in order
 pub record HallValue : Type 0 where

@@ -8,10 +8,10 @@ use Rattle.mama_event.specs.declared.to_timers.TimersNote.{TimersNote}
 use Rattle.mama_script.specs.Script.{ScriptData}
 use Rattle.mama_lane.specs.Values.{NoteValue, note_of_port, after_learn}
 use Rattle.mama_ends.specs.Inlet.{InletValue}
-use Rattle.mama_posts.specs.Publisher.{PublisherPostValue}
-use Rattle.mama_posts.specs.Bridge.{BridgePostValue}
-use Rattle.mama_posts.specs.Timers.{TimersPostValue}
-use Rattle.mama_posts.specs.Queue.{QueuePostValue}
+use Rattle.mama_posts_services.specs.Publisher.{PublisherPostValue}
+use Rattle.mama_posts_services.specs.Bridge.{BridgePostValue}
+use Rattle.mama_posts_services.specs.Timers.{TimersPostValue}
+use Rattle.mama_posts_clients.specs.Queue.{QueuePostValue}
 use Rattle.mama_crew.specs.Hall.{HallValue}
 use Rattle.mama_crew.specs.declared.seat.Seat.{Seat}
 use Rattle.mama_crew.specs.declared.seat.Seat.TheVariants.{Client, Publisher, Bridge, Timers, Queue}

@@ -5,3 +5,4 @@ pub mod Crew
 pub mod New
 pub mod Informed
 pub mod Placed
+pub mod Journals

@@ -1,6 +1,6 @@
 -- inner: That the ends of a seat are ends of the lanes of a hall, whatever the script.
 use Rattle.std.specs.Prelude.{◌≡◌}
-use Rattle.mama_posts.specs.Ports.{lanes_of, ids_of}
+use Rattle.mama_posts_services.specs.Ports.{lanes_of, ids_of}
 use Rattle.mama_crew.specs.Hall.{HallValue}
 use Rattle.mama_crew.specs.declared.seat.Seat.{Seat}
 use Rattle.mama_crew.specs.declared.seat.Seat.TheVariants.{Client, Publisher, Bridge, Timers, Queue}

@@ -11,18 +11,18 @@ use Rattle.mama_script.specs.Script.{ScriptData}
 use Rattle.mama_rules_rounds.specs.Round.{setting_of}
 use Rattle.mama_plans.specs.Lists.{watches_on}
 use Rattle.mama_seats.specs.Stand.{reads_next}
-use Rattle.mama_posts.specs.Ports.{lanes_of, ids_of}
-use Rattle.mama_posts.specs.Client.{ClientPostValue, IsClientOf, stand_at}
-use Rattle.mama_posts.specs.Client as client
-use Rattle.mama_posts.specs.Publisher.{PublisherPostValue, IsPublisherOf}
-use Rattle.mama_posts.specs.Publisher as publisher
-use Rattle.mama_posts.specs.Bridge.{BridgePostValue, IsBridgeOf}
-use Rattle.mama_posts.specs.Bridge as bridge
-use Rattle.mama_posts.specs.Timers.{TimersPostValue, IsTimersOf}
-use Rattle.mama_posts.specs.Timers as timers
-use Rattle.mama_posts.specs.Service as service
-use Rattle.mama_posts.specs.Queue.{QueuePostValue, rows_of_watches, IsQueueOf}
-use Rattle.mama_posts.specs.Queue as queue
+use Rattle.mama_posts_services.specs.Ports.{lanes_of, ids_of}
+use Rattle.mama_posts_clients.specs.Client.{ClientPostValue, IsClientOf, stand_at}
+use Rattle.mama_posts_clients.specs.Client as client
+use Rattle.mama_posts_services.specs.Publisher.{PublisherPostValue, IsPublisherOf}
+use Rattle.mama_posts_services.specs.Publisher as publisher
+use Rattle.mama_posts_services.specs.Bridge.{BridgePostValue, IsBridgeOf}
+use Rattle.mama_posts_services.specs.Bridge as bridge
+use Rattle.mama_posts_services.specs.Timers.{TimersPostValue, IsTimersOf}
+use Rattle.mama_posts_services.specs.Timers as timers
+use Rattle.mama_posts_services.specs.Service as service
+use Rattle.mama_posts_clients.specs.Queue.{QueuePostValue, rows_of_watches, IsQueueOf}
+use Rattle.mama_posts_clients.specs.Queue as queue
 use Rattle.mama_crew.specs.Hall.{HallValue, IsPortAt, IsLaneAt}
 use Rattle.mama_crew.specs.declared.seat.Seat.{Seat}
 use Rattle.mama_crew.specs.declared.seat.Seat.TheVariants.{Client, Publisher, Bridge, Timers, Queue}

@@ -4,9 +4,9 @@ ghost use mathlib.Core.List.{IsPrefix};
 ghost use Rattle.mama_event.specs.Ports.{timers_port_of_bridge, queue_port_of_bridge};
 ghost use Rattle.mama_script.specs.Script.{ScriptData};
 ghost use Rattle.mama_lane.specs.Values.{new_port, new_taker, note_of_port};
-ghost use Rattle.mama_posts.specs.Ports.{lanes_of, ids_of};
-ghost use Rattle.mama_posts.specs.Bridge.{is_over};
-ghost use Rattle.mama_posts.specs.Service.{HasEnded, IsIdle, MadeStep};
+ghost use Rattle.mama_posts_services.specs.Ports.{lanes_of, ids_of};
+ghost use Rattle.mama_posts_services.specs.Bridge.{is_over};
+ghost use Rattle.mama_posts_services.specs.Service.{HasEnded, IsIdle, MadeStep};
 ghost use Rattle.mama_crew.specs.Hall.{AreLanesOf};
 ghost use Rattle.mama_crew.specs.Seat.{IsBridgeIn};
 ghost use Rattle.mama_crew.specs.New.{HasNotBridged};
@@ -15,10 +15,10 @@ ghost use Rattle.mama_crew.specs.Informed.{bridge_told};
 use crate::ends::BridgeEnds;
 use crate::hall::Hall;
 use mama_carry::{Carried, Listener, ToBridge, ToQueue, ToTimers};
-use mama_ends::PutNote;
+use mama_ends::{Pace, PutNote};
 use mama_event::ToPublisher;
 use mama_memory::OutOfMemory;
-use mama_posts::{BridgePost, Pace};
+use mama_posts_services::BridgePost;
 use mama_script::Script;
 use std::alloc::Global;
 use std::marker::Model;
@@ -34,8 +34,8 @@ pub struct BridgeSeat<L: Listener> {
 
 impl<L: Listener> Model for BridgeSeat<L> {
     ghost use Rattle.std.specs.Prelude.{◌≡◌, ◌↔◌, true};
-    ghost use Rattle.mama_posts.specs.Bridge.{BridgePostValue, is_over};
-    ghost use Rattle.mama_posts.specs.Service.{HasEnded};
+    ghost use Rattle.mama_posts_services.specs.Bridge.{BridgePostValue, is_over};
+    ghost use Rattle.mama_posts_services.specs.Service.{HasEnded};
 
     ghost Value = { BridgePostValue };
 

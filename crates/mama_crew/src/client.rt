@@ -2,16 +2,16 @@ ghost use Rattle.std.specs.Prelude.{◌≡◌, ◌↔◌, ◌<◌, true, [], Ok,
 ghost use mathlib.Core.List.{IsPrefix};
 ghost use Rattle.mama_event.specs.Ports.{clients_of, bridge_port_of_client, timers_port_of_client};
 ghost use Rattle.mama_lane.specs.Values.{new_port, note_of_port};
-ghost use Rattle.mama_posts.specs.Client.{HasEnded, MadeStep};
+ghost use Rattle.mama_posts_clients.specs.Client.{HasEnded, MadeStep};
 ghost use Rattle.mama_crew.specs.Client.{reads_now};
 ghost use Rattle.mama_crew.specs.Hall.{AreLanesOf};
 ghost use Rattle.mama_crew.specs.Seat.{IsClientIn, HasNotWalked};
 
 use crate::hall::Hall;
 use mama_carry::{Carried, Listener, ToBridge, ToTimers};
-use mama_ends::{Port, PutNote};
+use mama_ends::{Pace, Port, PutNote};
 use mama_memory::OutOfMemory;
-use mama_posts::{ClientListeners, ClientPost, Pace};
+use mama_posts_clients::{ClientListeners, ClientPost};
 use mama_script::Script;
 use std::alloc::Global;
 use std::marker::Model;

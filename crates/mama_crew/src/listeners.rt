@@ -3,7 +3,7 @@ ghost use Rattle.std.specs.Prelude.{◌≡◌, length, IfOk};
 use mama_carry::{Carried, Listener, Maker, ObjectId, carry};
 use mama_memory::OutOfMemory;
 use mama_plans::Plans;
-use mama_posts::ClientListeners;
+use mama_posts_clients::ClientListeners;
 use std::alloc::Global;
 use std::collections::VecDeque;
 

@@ -24,7 +24,7 @@ use crate::timers::TimersSeat;
 use mama_carry::Listener;
 use mama_event::WatchRow;
 use mama_memory::OutOfMemory;
-use mama_posts::ClientListeners;
+use mama_posts_clients::ClientListeners;
 use mama_script::Script;
 use std::alloc::Global;
 use std::vec::IntoIter;

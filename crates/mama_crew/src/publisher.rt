@@ -5,7 +5,7 @@ ghost use Rattle.mama_event.specs.Ports.{publishers_of, bridge_port_of_publisher
 ghost use Rattle.mama_lane.specs.Values.{new_port, new_taker, note_of_port};
 ghost use Rattle.mama_script.specs.Script.{ScriptData};
 ghost use Rattle.mama_script.specs.declared.publisher.PublisherPart.{PublisherPart as PublisherPartData};
-ghost use Rattle.mama_posts.specs.Publisher.{HasEnded, MadeStep, IsCaughtUp};
+ghost use Rattle.mama_posts_services.specs.Publisher.{HasEnded, MadeStep, IsCaughtUp};
 ghost use Rattle.mama_crew.specs.Hall.{AreLanesOf, IsLaneAt};
 ghost use Rattle.mama_crew.specs.Seat.{IsPublisherIn};
 ghost use Rattle.mama_crew.specs.New.{HasNotSent};
@@ -13,10 +13,10 @@ ghost use Rattle.mama_crew.specs.Informed.{publisher_told};
 
 use crate::hall::Hall;
 use mama_carry::{Carried, Listener, ToBridge};
-use mama_ends::{Port, PutNote, Taker};
+use mama_ends::{Pace, Port, PutNote, Taker};
 use mama_event::ToPublisher;
 use mama_memory::OutOfMemory;
-use mama_posts::{Pace, PublisherPost};
+use mama_posts_services::PublisherPost;
 use mama_script::{PublisherPart, Script};
 use std::alloc::Global;
 use std::marker::Model;
@@ -32,7 +32,7 @@ pub struct PublisherSeat<L: Listener> {
 
 impl<L: Listener> Model for PublisherSeat<L> {
     ghost use Rattle.std.specs.Prelude.{◌≡◌, ◌↔◌, true};
-    ghost use Rattle.mama_posts.specs.Publisher.{PublisherPostValue, HasEnded};
+    ghost use Rattle.mama_posts_services.specs.Publisher.{PublisherPostValue, HasEnded};
 
     ghost Value = { PublisherPostValue };
 

@@ -11,8 +11,9 @@ use crate::queue::turn_queue;
 use crate::timers::TimersSeat;
 use mama_carry::Listener;
 use mama_edge::GateActor;
+use mama_ends::Pace;
 use mama_memory::OutOfMemory;
-use mama_posts::{Pace, QueuePost};
+use mama_posts_clients::QueuePost;
 use mama_script::Script;
 use std::sync::Wait;
 

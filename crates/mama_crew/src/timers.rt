@@ -4,9 +4,9 @@ ghost use mathlib.Core.List.{IsPrefix};
 ghost use Rattle.mama_event.specs.Ports.{queue_port_of_timers};
 ghost use Rattle.mama_script.specs.Script.{ScriptData};
 ghost use Rattle.mama_lane.specs.Values.{new_port, new_taker, note_of_port};
-ghost use Rattle.mama_posts.specs.Ports.{lanes_of, ids_of};
-ghost use Rattle.mama_posts.specs.Timers.{is_over};
-ghost use Rattle.mama_posts.specs.Service.{HasEnded, IsIdle, MadeStep};
+ghost use Rattle.mama_posts_services.specs.Ports.{lanes_of, ids_of};
+ghost use Rattle.mama_posts_services.specs.Timers.{is_over};
+ghost use Rattle.mama_posts_services.specs.Service.{HasEnded, IsIdle, MadeStep};
 ghost use Rattle.mama_crew.specs.Hall.{AreLanesOf};
 ghost use Rattle.mama_crew.specs.Seat.{IsTimersIn};
 ghost use Rattle.mama_crew.specs.New.{HasNotFired};
@@ -15,9 +15,9 @@ ghost use Rattle.mama_crew.specs.Informed.{timers_told};
 use crate::ends::TimersEnds;
 use crate::hall::Hall;
 use mama_carry::{Carried, Listener, ToQueue, ToTimers};
-use mama_ends::PutNote;
+use mama_ends::{Pace, PutNote};
 use mama_memory::OutOfMemory;
-use mama_posts::{Pace, TimersPost};
+use mama_posts_services::TimersPost;
 use mama_script::Script;
 use std::alloc::Global;
 use std::marker::Model;
@@ -33,8 +33,8 @@ pub struct TimersSeat<L: Listener> {
 
 impl<L: Listener> Model for TimersSeat<L> {
     ghost use Rattle.std.specs.Prelude.{◌≡◌, ◌↔◌, true};
-    ghost use Rattle.mama_posts.specs.Timers.{TimersPostValue, is_over};
-    ghost use Rattle.mama_posts.specs.Service.{HasEnded};
+    ghost use Rattle.mama_posts_services.specs.Timers.{TimersPostValue, is_over};
+    ghost use Rattle.mama_posts_services.specs.Service.{HasEnded};
 
     ghost Value = { TimersPostValue };
 

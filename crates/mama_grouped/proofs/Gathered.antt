@@ -35,7 +35,7 @@ use Rattle.mama_crew.specs.Seat as crew
 use Rattle.mama_crew.specs.Seat.{journal_in}
 use Rattle.mama_crew.specs.declared.seat.Seat.{Seat}
 use Rattle.mama_crew.specs.declared.seat.Seat.TheVariants.{Client, Publisher, Bridge, Timers, Queue}
-use Rattle.mama_close.specs.Journals.{events_in}
+use Rattle.mama_crew.specs.Journals.{events_in}
 use Rattle.mama_grouped.specs.Back.{IsBack}
 use Rattle.mama_grouped.specs.Closing.{IsBy, AreFound, AreInOrder}
 use Rattle.mama_grouped.specs.Seat.{own_groups, HasHeard, IsHearing}

@@ -5,3 +5,4 @@ pub mod Grouping
 pub mod Opening
 pub mod Gathered
 pub mod GatheredSeats
+pub mod NewSeats

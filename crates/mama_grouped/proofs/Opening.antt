@@ -1,7 +1,7 @@
 -- The seats of a new crew with the groups of their queues, which have heard nothing.
-use Rattle.std.specs.Prelude.{IfSome}
+use Rattle.std.specs.Prelude.{IfSome, OnOk}
 use Rattle.std.specs.List.{All, AllByRecursion, flat_map}
-use Rattle.std.proofs.Common.{◌≡◌, ℕ, List, [], ◌∷◌, ◌++◌, true, length, map, take, Option, None, Some, refl, sym, ap, subst, ◌∙◌, arith}
+use Rattle.std.proofs.Common.{◌≡◌, ℕ, List, [], ◌∷◌, ◌++◌, true, length, map, take, Option, None, Some, Result, Ok, Err, refl, sym, ap, subst, ◌∙◌, arith}
 use Rattle.std.proofs.lemmas.List.Concat.{flat_map-append}
 use Rattle.std.proofs.lemmas.List.Elements.{All-from_recursion}
 use Rattle.mama_journal.specs.Journal.{numbers_below}
@@ -143,3 +143,10 @@ unheard H script hall groups (Client c seat) is = tt
 unheard H script hall groups (Publisher p post) is = tt
 unheard H script hall groups (Bridge post) is = tt
 unheard H script hall groups (Timers post) is = tt
+
+-- ---- answers
+
+-- what holds whatever the answer is
+pub on_ok_always : {T E P : Type 0} (r : Result T E) → P → OnOk r P
+on_ok_always (Ok x) p = p
+on_ok_always (Err e) p = tt

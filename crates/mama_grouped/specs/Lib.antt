@@ -3,3 +3,4 @@ pub mod Crew
 pub mod Back
 pub mod Opening
 pub mod Closing
+pub mod New

@@ -2,6 +2,7 @@
 ghost use Rattle.std.specs.Prelude.{◌≤◌, ◌<◌, IfOk, OnOk};
 ghost use Rattle.std.specs.List.{All};
 ghost use Rattle.mama_grouped.specs.Seat.{IsSeatOf};
+ghost use Rattle.mama_play.specs.Adding.{IsAdded};
 
 use mama_carry::Listener;
 use mama_crew::{GateActor, Hall, Script};
@@ -72,8 +73,15 @@ fn add_to_group<L: Listener, H: GroupListener>(
     requires seat { IsSeatOf _script.now _hall.now seat }
     ensures seats { OnOk result (All (λ group. All (IsSeatOf _script.now _hall.now) group.items) groups.new.items) }
 {
-    match groups.get_mut(number) {
-        Some(group) => group.push(seat)?,
+    add_to(groups, number, seat)
+}
+
+// Adds an item to the list of this number. The items are of any type, so that one that finds no list is let go of here alone.
+fn add_to<T: Drop>(lists: &mut Vec<Vec<T>>, number: usize, item: T) -> Result<(), OutOfMemory>
+    ensures { OnOk result (IsAdded number item lists.old.items lists.new.items) }
+{
+    match lists.get_mut(number) {
+        Some(list) => list.push(item)?,
         None => return Err(OutOfMemory),
     }
     Ok(())

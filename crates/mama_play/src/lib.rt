@@ -1,14 +1,16 @@
 //! A script played on threads: `play`, and `play_groups` with listeners of its groups.
 //!
 //! [`play`] opens the crew of a script, gives its seats to threads in groups ([`groups`]), and when all have ended sets them in
-//! the order of their actors again ([`order`]) and closes the crew. Whatever the threads did in whichever order, the record is
+//! the order of their actors again ([`order`]) and closes the crew ([`close_grouped`]). Whatever the threads did in whichever order, the record is
 //! legal for the script.
 #![tactic(auto)]
 
+mod closing;
 mod groups;
 mod order;
 mod playing;
 
+pub use closing::close_grouped;
 pub use mama_carry::{Listener, Maker};
 pub use mama_crew::Script;
 pub use mama_edge::{Clock, Gate, GateActor};

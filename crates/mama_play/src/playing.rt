@@ -9,6 +9,7 @@ ghost use Rattle.mama_grouped.specs.Seat.{actor_of, IsSeatOf, HasEnded};
 ghost use Rattle.mama_grouped.specs.Back.{HaveHeard};
 ghost use Rattle.mama_close.specs.Back.{AreBack};
 
+use crate::closing::close_grouped;
 use crate::groups::{Groups, in_groups, queue_threads};
 use crate::order::in_order;
 use mama_carry::{Listener, Maker};
@@ -17,7 +18,7 @@ use mama_crew::{Hall, Script};
 use mama_edge::{Clock, Gate};
 use mama_event::ObjectId;
 use mama_grouped::{
-    GroupListener, GroupMaker, GroupedCrew, GroupedSeat, SilentGroups, close_grouped, open_grouped,
+    GroupListener, GroupMaker, GroupedCrew, GroupedSeat, SilentGroups, open_grouped,
 };
 use mama_memory::OutOfMemory;
 use mama_record::RunRecord;

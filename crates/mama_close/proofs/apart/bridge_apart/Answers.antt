@@ -1,5 +1,5 @@
 use Rattle.std.proofs.Common.{ap, ◌∙◌}
-use Rattle.mama_posts.specs.Bridge.{BridgePostValue}
+use Rattle.mama_posts_services.specs.Bridge.{BridgePostValue}
 use Rattle.mama_close.proofs.apart.bridge_apart.Goals as goal
 
 pub returns : goal.returns

@@ -1,9 +1,9 @@
 use Rattle.std.specs.List.{All}
 use Rattle.std.proofs.Common.{subst}
 use Rattle.mama_event.specs.ToTimers.{is_last}
-use Rattle.mama_close.specs.Closed.{IsEdgeOf}
+use Rattle.mama_gather.specs.Edge.{IsEdgeOf}
 use Rattle.mama_close.specs.Apart.{IsOn}
-use Rattle.mama_close.proofs.LaneEnds.{alone_is, alone_holds}
+use Rattle.mama_gather.proofs.LaneEnds.{alone_is, alone_holds}
 use Rattle.mama_close.proofs.apart.close_lanes.Goals as goal
 
 pub close_service-requires : goal.close_service-requires

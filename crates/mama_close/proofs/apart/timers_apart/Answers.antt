@@ -1,5 +1,5 @@
 use Rattle.std.proofs.Common.{ap, ◌∙◌}
-use Rattle.mama_posts.specs.Timers.{TimersPostValue}
+use Rattle.mama_posts_services.specs.Timers.{TimersPostValue}
 use Rattle.mama_close.proofs.apart.timers_apart.Goals as goal
 
 pub returns : goal.returns

@@ -3,7 +3,7 @@ use Rattle.std.specs.List.{flat_map}
 use Rattle.mama_event.specs.declared.group.GroupRow.{GroupRow}
 use Rattle.mama_record.specs.RunView.{groups_of}
 use Rattle.mama_rules_rounds.specs.Round.{setting_of, groups_from, planned_in, group_told}
-use Rattle.mama_close.specs.Journals.{events_in}
+use Rattle.mama_crew.specs.Journals.{events_in}
 use Rattle.mama_close.proofs.closing.close_crew.Goals as goal
 
 pub close_heard-requires-clause-groups : goal.close_heard-requires-clause-groups

@@ -4,7 +4,7 @@ use Rattle.mama_event.specs.declared.to_queue.QueueNote.{QueueNote}
 use Rattle.mama_record.specs.RunData.{RunData}
 use Rattle.mama_record.specs.RunView.{groups_of}
 use Rattle.mama_rules_rounds.specs.Round.{setting_of, group_told}
-use Rattle.mama_close.specs.Journals.{AreJournalsOf}
+use Rattle.mama_crew.specs.Journals.{AreJournalsOf}
 use Rattle.mama_close.specs.Kinds.{record_of}
 use Rattle.mama_close.specs.InKinds.{kinds_in}
 use Rattle.mama_close.proofs.closing.close_heard.Goals as goal

@@ -2,11 +2,12 @@ use Rattle.std.proofs.Common.{refl, sym, ◌∙◌, ap, map, List, ℕ, subst}
 use Rattle.std.specs.List.{All, flat_map}
 use Rattle.mama_plans.specs.Orders.{orders_in}
 use Rattle.mama_dispatch.specs.Hearing.{ArePlanned}
-use Rattle.mama_posts.specs.Queue.{QueuePostValue}
+use Rattle.mama_posts_clients.specs.Queue.{QueuePostValue}
 use Rattle.mama_crew.specs.Hall.{HallValue}
-use Rattle.mama_close.specs.Kinds.{Kinds, AreKindsOf, events_by}
+use Rattle.mama_gather.specs.Left.{events_by}
+use Rattle.mama_close.specs.Kinds.{Kinds, AreKindsOf}
 use Rattle.mama_close.specs.InKinds.{kinds_in}
-use Rattle.mama_close.specs.Places.{images_by}
+use Rattle.mama_gather.specs.Places.{images_by}
 use Rattle.mama_close.proofs.Ends.{queues_planned}
 use Rattle.mama_close.proofs.closing.close_kinds.Goals as goal
 

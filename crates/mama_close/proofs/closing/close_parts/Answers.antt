@@ -9,7 +9,8 @@ use Rattle.mama_rules_rounds.specs.Client.{Planned}
 use Rattle.mama_rules_legal.specs.Legal.{IsLegal}
 use Rattle.mama_crew.specs.Hall.{HallValue}
 use Rattle.mama_close.specs.Back.{AreBack}
-use Rattle.mama_close.specs.Kinds.{Kinds, noted_by, none_noted, record_of}
+use Rattle.mama_gather.specs.Left.{noted_by, none_noted}
+use Rattle.mama_close.specs.Kinds.{Kinds, record_of}
 use Rattle.mama_close.specs.InKinds.{kinds_in}
 use Rattle.mama_close.specs.Made.{IsClosed}
 use Rattle.mama_close.proofs.Ends.{belong_to, closed_of, queues_keep, queues_numbered}

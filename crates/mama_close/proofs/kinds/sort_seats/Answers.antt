@@ -1,56 +1,25 @@
-use Rattle.std.proofs.Common.{◌≡◌, [], ◌∷◌, ap, ◌∙◌, rules, arith}
-use Rattle.std.proofs.lemmas.Grind.{common_steps}
-use Rattle.std.proofs.lemmas.List.{nil_from_length}
+use Rattle.std.proofs.Common.{◌≡◌}
 use Rattle.std.specs.List.{flat_map}
 use Rattle.mama_close.specs.Kinds.{client_in, publisher_in, bridge_in, timers_in, queue_in}
-use Rattle.mama_close.proofs.Lists.{flat_more, whole_more, whole_all}
+use Rattle.mama_close.proofs.Keeping.{kept_so}
 use Rattle.mama_close.proofs.kinds.sort_seats.Goals as goal
-
-pub loop-seat-init : goal.loop-seat-init
-loop-seat-init g c = record {
-  whole = first_of (search rules, grind (arith, common_steps));
-  clients = c.none-kinds.ensures.clients;
-  publishers = c.none-kinds.ensures.publishers;
-  bridges = c.none-kinds.ensures.bridges;
-  services = c.none-kinds.ensures.services;
-  queues = c.none-kinds.ensures.queues;
-}
-
-pub loop-seat-preserved : goal.loop-seat-preserved
-loop-seat-preserved g c =
-    let i = c.loop-seat.invariant in
-    let e = c.in_ok-add.ensures in
-    let first : c.loop-seat.seat-iterator.rest.items ≡ c.in-Some.seat ∷ c.next.new.self.rest.items = search rules in
-    record {
-      whole = whole_more c.loop-seat.yielded c.in-Some.seat c.loop-seat.seat-iterator.rest.items c.next.new.self.rest.items c.args.seats.items first i.whole;
-      clients = flat_more client_in c.loop-seat.yielded c.in-Some.seat c.loop-seat.kinds.clients.items c.add.new.self.clients.items e.clients i.clients;
-      publishers = flat_more publisher_in c.loop-seat.yielded c.in-Some.seat c.loop-seat.kinds.publishers.items c.add.new.self.publishers.items e.publishers i.publishers;
-      bridges = flat_more bridge_in c.loop-seat.yielded c.in-Some.seat c.loop-seat.kinds.bridges.items c.add.new.self.bridges.items e.bridges i.bridges;
-      services = flat_more timers_in c.loop-seat.yielded c.in-Some.seat c.loop-seat.kinds.services.items c.add.new.self.services.items e.services i.services;
-      queues = flat_more queue_in c.loop-seat.yielded c.in-Some.seat c.loop-seat.kinds.queues.items c.add.new.self.queues.items e.queues i.queues;
-    }
 
 pub returns-clause-clients : goal.returns-clause-clients
 returns-clause-clients g c =
-    let none : c.loop-seat.seat-iterator.rest.items ≡ [] = nil_from_length c.loop-seat.seat-iterator.rest.items (omega (arith, c.in-None.ensures.steps.0, c.loop-seat.seat-iterator.rest.ok.0)) in
-    c.loop-seat.invariant.clients ∙ ap (flat_map client_in) (whole_all c.loop-seat.yielded c.loop-seat.seat-iterator.rest.items c.args.seats.items none c.loop-seat.invariant.whole)
+    kept_so (λ r. r.clients.items ≡ flat_map client_in c.args.seats.items) c.add_all-added.new.self c.if_done.result c.add_all-added.result c.if_done.ensures.value c.if_done.ensures.done c.add_all-added.ensures.clients
 
 pub returns-clause-publishers : goal.returns-clause-publishers
 returns-clause-publishers g c =
-    let none : c.loop-seat.seat-iterator.rest.items ≡ [] = nil_from_length c.loop-seat.seat-iterator.rest.items (omega (arith, c.in-None.ensures.steps.0, c.loop-seat.seat-iterator.rest.ok.0)) in
-    c.loop-seat.invariant.publishers ∙ ap (flat_map publisher_in) (whole_all c.loop-seat.yielded c.loop-seat.seat-iterator.rest.items c.args.seats.items none c.loop-seat.invariant.whole)
+    kept_so (λ r. r.publishers.items ≡ flat_map publisher_in c.args.seats.items) c.add_all-added.new.self c.if_done.result c.add_all-added.result c.if_done.ensures.value c.if_done.ensures.done c.add_all-added.ensures.publishers
 
 pub returns-clause-bridges : goal.returns-clause-bridges
 returns-clause-bridges g c =
-    let none : c.loop-seat.seat-iterator.rest.items ≡ [] = nil_from_length c.loop-seat.seat-iterator.rest.items (omega (arith, c.in-None.ensures.steps.0, c.loop-seat.seat-iterator.rest.ok.0)) in
-    c.loop-seat.invariant.bridges ∙ ap (flat_map bridge_in) (whole_all c.loop-seat.yielded c.loop-seat.seat-iterator.rest.items c.args.seats.items none c.loop-seat.invariant.whole)
+    kept_so (λ r. r.bridges.items ≡ flat_map bridge_in c.args.seats.items) c.add_all-added.new.self c.if_done.result c.add_all-added.result c.if_done.ensures.value c.if_done.ensures.done c.add_all-added.ensures.bridges
 
 pub returns-clause-services : goal.returns-clause-services
 returns-clause-services g c =
-    let none : c.loop-seat.seat-iterator.rest.items ≡ [] = nil_from_length c.loop-seat.seat-iterator.rest.items (omega (arith, c.in-None.ensures.steps.0, c.loop-seat.seat-iterator.rest.ok.0)) in
-    c.loop-seat.invariant.services ∙ ap (flat_map timers_in) (whole_all c.loop-seat.yielded c.loop-seat.seat-iterator.rest.items c.args.seats.items none c.loop-seat.invariant.whole)
+    kept_so (λ r. r.services.items ≡ flat_map timers_in c.args.seats.items) c.add_all-added.new.self c.if_done.result c.add_all-added.result c.if_done.ensures.value c.if_done.ensures.done c.add_all-added.ensures.services
 
 pub returns-clause-queues : goal.returns-clause-queues
 returns-clause-queues g c =
-    let none : c.loop-seat.seat-iterator.rest.items ≡ [] = nil_from_length c.loop-seat.seat-iterator.rest.items (omega (arith, c.in-None.ensures.steps.0, c.loop-seat.seat-iterator.rest.ok.0)) in
-    c.loop-seat.invariant.queues ∙ ap (flat_map queue_in) (whole_all c.loop-seat.yielded c.loop-seat.seat-iterator.rest.items c.args.seats.items none c.loop-seat.invariant.whole)
+    kept_so (λ r. r.queues.items ≡ flat_map queue_in c.args.seats.items) c.add_all-added.new.self c.if_done.result c.add_all-added.result c.if_done.ensures.value c.if_done.ensures.done c.add_all-added.ensures.queues

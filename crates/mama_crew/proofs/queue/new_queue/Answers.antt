@@ -3,7 +3,7 @@ use Rattle.mama_event.specs.declared.to_bridge.BridgeNote.{BridgeNote}
 use Rattle.mama_event.specs.declared.to_queue.QueueNote.{QueueNote}
 use Rattle.mama_event.specs.declared.to_timers.TimersNote.{TimersNote}
 use Rattle.mama_timeout.specs.Table.{AreApart}
-use Rattle.mama_posts.specs.Queue.{rows_of_watches}
+use Rattle.mama_posts_clients.specs.Queue.{rows_of_watches}
 use Rattle.mama_lane.specs.Values.{PortValue, TakerValue}
 use Rattle.mama_hall.specs.Ends.{IsLaneOf}
 use Rattle.mama_crew.proofs.OpeningLemmas.{taker_at, holds_at}

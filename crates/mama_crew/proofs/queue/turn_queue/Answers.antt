@@ -2,7 +2,7 @@ use Rattle.std.proofs.Common.{◌∙◌, ap, sym, subst}
 use Rattle.mama_lane.specs.Values.{LaneValue}
 use Rattle.mama_rules_rounds.specs.Client.{Planned}
 use Rattle.std.proofs.Common.{List}
-use Rattle.mama_posts.specs.Queue.{IsQueueOf}
+use Rattle.mama_posts_clients.specs.Queue.{IsQueueOf}
 use Rattle.mama_crew.proofs.SeatLemmas.{queue_turned, lane_there, lane_is}
 use Rattle.mama_crew.proofs.queue.turn_queue.Goals as goal
 

@@ -2,7 +2,7 @@ use Rattle.std.proofs.Common.{◌≡◌, ◌+◌, ◌++◌, ◌∷◌, ℕ, [], 
 use Rattle.std.proofs.lemmas.List.{take_more, map-append}
 use Rattle.mama_event.specs.declared.group.GroupRow.{GroupRow}
 use Rattle.mama_group.specs.Listener.{GroupListenerData, IsNew, told}
-use Rattle.mama_close.proofs.LaneEnds.{zip_more}
+use Rattle.mama_gather.proofs.LaneEnds.{zip_more}
 use Rattle.mama_grouped.specs.Opening.{AreNew}
 use Rattle.mama_grouped.proofs.crew.listeners_for.Goals as goal
 

@@ -2,7 +2,7 @@ use Rattle.std.proofs.Common.{ℕ}
 use Rattle.mama_crew.specs.Client.{ClientSeatValue}
 use Rattle.mama_record.specs.RunView.{moments_of}
 use Rattle.mama_close.specs.Kinds.{read_by}
-use Rattle.mama_close.proofs.Lists.{mapped_more}
+use Rattle.mama_gather.proofs.Lists.{mapped_more}
 use Rattle.mama_close.proofs.clients.ClientEnds.of.Goals as goal
 
 pub loop-seat-preserved : goal.loop-seat-preserved

@@ -1,8 +1,8 @@
 use Rattle.std.proofs.Common.{ℕ}
-use Rattle.mama_posts.specs.Publisher.{PublisherPostValue}
+use Rattle.mama_posts_services.specs.Publisher.{PublisherPostValue}
 use Rattle.mama_record.specs.RunView.{entries_of}
 use Rattle.mama_close.specs.Kinds.{entries_by}
-use Rattle.mama_close.proofs.Lists.{mapped_more}
+use Rattle.mama_gather.proofs.Lists.{mapped_more}
 use Rattle.mama_close.proofs.publishers.PublisherEnds.of.Goals as goal
 
 pub loop-seat-preserved : goal.loop-seat-preserved

@@ -1,8 +1,8 @@
 use Rattle.std.proofs.Common.{◌≡◌, ◌↔◌, true, Option, Some, ◌∙◌, ap, sym, subst}
 use Rattle.mama_event.specs.declared.to_bridge.BridgeNote.{BridgeNote}
 use Rattle.mama_lane.specs.Values.{LaneValue, NoteValue}
-use Rattle.mama_posts.specs.Bridge.{BridgePostValue, IsBridgeOf, is_over}
-use Rattle.mama_posts.specs.Service.{HasEnded}
+use Rattle.mama_posts_services.specs.Bridge.{BridgePostValue, IsBridgeOf, is_over}
+use Rattle.mama_posts_services.specs.Service.{HasEnded}
 use Rattle.mama_crew.specs.Informed.{bridge_told}
 use Rattle.mama_crew.proofs.InformingLemmas.{ended_told, bridge_informed}
 use Rattle.mama_crew.proofs.bridge.BridgeSeat.learn.Goals as goal

@@ -1,8 +1,8 @@
 use Rattle.std.proofs.Common.{◌≡◌, ◌↔◌, true, ◌∙◌, sym, subst}
 use Rattle.mama_event.specs.declared.shape.Shape.{Shape}
 use Rattle.mama_event.specs.Ports.{bridge_ports, timers_port_of_bridge, queue_port_of_bridge}
-use Rattle.mama_posts.specs.Bridge.{BridgePostValue, IsBridgeOf, is_over}
-use Rattle.mama_posts.specs.Service.{HasEnded}
+use Rattle.mama_posts_services.specs.Bridge.{BridgePostValue, IsBridgeOf, is_over}
+use Rattle.mama_posts_services.specs.Service.{HasEnded}
 use Rattle.mama_crew.specs.Hall.{AreLanesOf}
 use Rattle.mama_crew.proofs.OpeningLemmas.{are_putting_as}
 use Rattle.mama_crew.proofs.NewLemmas.{is_new_taker, timers_putting, bridge_in, bridge_unused}

@@ -1,10 +1,10 @@
 use Rattle.std.proofs.Common.{◌≡◌, ◌↔◌, true, Some, length, map, ◌∙◌, ap, sym, subst, arith}
 use Rattle.std.specs.List.{slice_get}
 use Rattle.mama_lane.specs.Values.{note_of_port}
-use Rattle.mama_posts.specs.Ports.{lanes_of, ids_of}
-use Rattle.mama_posts.specs.Bridge.{BridgePostValue, is_over}
-use Rattle.mama_posts.specs.Service.{HasEnded}
-use Rattle.mama_posts.proofs.PortsLemmas.{if_ok}
+use Rattle.mama_posts_services.specs.Ports.{lanes_of, ids_of}
+use Rattle.mama_posts_services.specs.Bridge.{BridgePostValue, is_over}
+use Rattle.mama_posts_services.specs.Service.{HasEnded}
+use Rattle.mama_ends.proofs.Answered.{if_ok}
 use Rattle.mama_crew.proofs.InformingLemmas.{as_many_lanes}
 use Rattle.mama_crew.proofs.bridge.BridgeSeat.tell_queue.Goals as goal
 

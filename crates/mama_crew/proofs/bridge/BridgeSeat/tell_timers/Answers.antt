@@ -1,8 +1,8 @@
 use Rattle.std.proofs.Common.{◌≡◌, ◌↔◌, true, ◌∙◌, ap, sym, subst}
 use Rattle.mama_lane.specs.Values.{LaneValue, note_of_port}
-use Rattle.mama_posts.specs.Bridge.{BridgePostValue, is_over}
-use Rattle.mama_posts.specs.Service.{HasEnded}
-use Rattle.mama_posts.proofs.PortsLemmas.{if_ok}
+use Rattle.mama_posts_services.specs.Bridge.{BridgePostValue, is_over}
+use Rattle.mama_posts_services.specs.Service.{HasEnded}
+use Rattle.mama_ends.proofs.Answered.{if_ok}
 use Rattle.mama_crew.proofs.bridge.BridgeSeat.tell_timers.Goals as goal
 
 pub tell_timers-requires : goal.tell_timers-requires

@@ -2,9 +2,9 @@ use mathlib.Core.List.{IsPrefix}
 use Rattle.std.specs.Prelude.{[]}
 use Rattle.std.proofs.Common.{◌≡◌, ◌∙◌, ap, sym, subst}
 use Rattle.mama_lane.specs.Values.{LaneValue}
-use Rattle.mama_posts.specs.Bridge.{BridgePostValue, is_over}
-use Rattle.mama_posts.specs.Ports.{lanes_of, ids_of}
-use Rattle.mama_posts.specs.Service.{HasEnded, IsIdle, MadeStep}
+use Rattle.mama_posts_services.specs.Bridge.{BridgePostValue, is_over}
+use Rattle.mama_posts_services.specs.Ports.{lanes_of, ids_of}
+use Rattle.mama_posts_services.specs.Service.{HasEnded, IsIdle, MadeStep}
 use Rattle.mama_crew.specs.Seat.{IsBridgeIn}
 use Rattle.mama_crew.proofs.SeatLemmas.{bridge_turned, bridge_own, seen}
 use Rattle.mama_crew.proofs.bridge.BridgeSeat.turn.Goals as goal

@@ -3,7 +3,7 @@ use Rattle.mama_event.specs.declared.to_bridge.BridgeNote.{BridgeNote}
 use Rattle.mama_event.specs.declared.to_timers.TimersNote.{TimersNote}
 use Rattle.mama_event.specs.Ports.{queues_of, bridge_port_of_client, timers_port_of_client}
 use Rattle.mama_lane.specs.Values.{PortValue}
-use Rattle.mama_posts.specs.Outlets.{OutletsValue}
+use Rattle.mama_posts_clients.specs.Outlets.{OutletsValue}
 use Rattle.mama_crew.proofs.NewLemmas.{port_in, client_unused}
 use Rattle.mama_crew.proofs.client.ClientSeat.new.Goals as goal
 

@@ -1,7 +1,7 @@
 use Rattle.std.proofs.Common.{◌≡◌, ◌∙◌, ap, sym}
 use Rattle.mama_lane.specs.Values.{LaneValue, note_of_port}
-use Rattle.mama_posts.specs.Client.{ClientPostValue}
-use Rattle.mama_posts.proofs.PortsLemmas.{if_ok}
+use Rattle.mama_posts_clients.specs.Client.{ClientPostValue}
+use Rattle.mama_ends.proofs.Answered.{if_ok}
 use Rattle.mama_crew.specs.Client.{ClientSeatValue}
 use Rattle.mama_crew.proofs.client.ClientSeat.tell_timers.Goals as goal
 

@@ -2,7 +2,7 @@ use mathlib.Core.List.{IsPrefix}
 use Rattle.std.specs.Prelude.{[]}
 use Rattle.std.proofs.Common.{◌≡◌, ◌∙◌, ap, sym, subst}
 use Rattle.mama_lane.specs.Values.{LaneValue}
-use Rattle.mama_posts.specs.Client.{IsClientOf, HasEnded, MadeStep}
+use Rattle.mama_posts_clients.specs.Client.{IsClientOf, HasEnded, MadeStep}
 use Rattle.mama_crew.specs.Client.{ClientSeatValue}
 use Rattle.mama_crew.proofs.SeatLemmas.{client_turned, client_same}
 use Rattle.mama_crew.proofs.client.ClientSeat.turn.Goals as goal

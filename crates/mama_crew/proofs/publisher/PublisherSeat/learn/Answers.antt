@@ -1,7 +1,7 @@
 use Rattle.std.proofs.Common.{◌≡◌, ◌↔◌, true, Option, Some, IfSome, ◌∙◌, ap, sym, subst}
 use Rattle.mama_event.specs.declared.to_publisher.PublisherNote.{PublisherNote}
 use Rattle.mama_lane.specs.Values.{NoteValue}
-use Rattle.mama_posts.specs.Publisher.{PublisherPostValue, IsPublisherOf, HasEnded}
+use Rattle.mama_posts_services.specs.Publisher.{PublisherPostValue, IsPublisherOf, HasEnded}
 use Rattle.mama_crew.specs.Hall.{IsLaneAt}
 use Rattle.mama_crew.specs.Informed.{publisher_told}
 use Rattle.mama_crew.proofs.SeatLemmas.{lane_there, lane_is}

@@ -3,7 +3,7 @@ use Rattle.mama_event.specs.declared.to_bridge.BridgeNote.{BridgeNote}
 use Rattle.mama_event.specs.declared.to_publisher.PublisherNote.{PublisherNote}
 use Rattle.mama_event.specs.Ports.{bridge_port_of_publisher}
 use Rattle.mama_lane.specs.Values.{PortValue, TakerValue}
-use Rattle.mama_posts.specs.Publisher.{PublisherPostValue, IsPublisherOf, HasEnded}
+use Rattle.mama_posts_services.specs.Publisher.{PublisherPostValue, IsPublisherOf, HasEnded}
 use Rattle.mama_crew.proofs.OpeningLemmas.{taker_at}
 use Rattle.mama_crew.proofs.NewLemmas.{publishers_count, base_small, publisher_in, publisher_unused}
 use Rattle.mama_crew.proofs.publisher.PublisherSeat.new.Goals as goal

@@ -1,7 +1,7 @@
 use Rattle.std.proofs.Common.{◌≡◌, ◌↔◌, true, ◌∙◌, ap, sym, subst}
 use Rattle.mama_lane.specs.Values.{LaneValue, note_of_port}
-use Rattle.mama_posts.specs.Publisher.{PublisherPostValue, HasEnded}
-use Rattle.mama_posts.proofs.PortsLemmas.{if_ok}
+use Rattle.mama_posts_services.specs.Publisher.{PublisherPostValue, HasEnded}
+use Rattle.mama_ends.proofs.Answered.{if_ok}
 use Rattle.mama_crew.proofs.publisher.PublisherSeat.tell_bridge.Goals as goal
 
 pub tell_bridge-requires : goal.tell_bridge-requires

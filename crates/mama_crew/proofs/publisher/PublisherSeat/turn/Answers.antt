@@ -4,7 +4,7 @@ use Rattle.std.specs.List.{slice_get}
 use Rattle.std.proofs.Common.{◌≡◌, ◌∙◌, Some, ap, sym, subst}
 use Rattle.mama_lane.specs.Values.{LaneValue}
 use Rattle.mama_script.specs.declared.publisher.PublisherPart.{PublisherPart}
-use Rattle.mama_posts.specs.Publisher.{PublisherPostValue, HasEnded, MadeStep, IsCaughtUp}
+use Rattle.mama_posts_services.specs.Publisher.{PublisherPostValue, HasEnded, MadeStep, IsCaughtUp}
 use Rattle.mama_crew.specs.Seat.{IsPublisherIn}
 use Rattle.mama_crew.proofs.SeatLemmas.{publisher_turned, lane_there, lane_is, only_one, seen}
 use Rattle.mama_crew.proofs.publisher.PublisherSeat.turn.Goals as goal

@@ -4,10 +4,10 @@ use Rattle.mama_event.specs.declared.to_publisher.PublisherNote.{PublisherNote}
 use Rattle.mama_event.specs.declared.to_queue.QueueNote.{QueueNote}
 use Rattle.mama_event.specs.declared.to_timers.TimersNote.{TimersNote}
 use Rattle.mama_lane.specs.Values.{NoteValue}
-use Rattle.mama_posts.specs.Publisher.{PublisherPostValue}
-use Rattle.mama_posts.specs.Bridge.{BridgePostValue}
-use Rattle.mama_posts.specs.Timers.{TimersPostValue}
-use Rattle.mama_posts.specs.Queue.{QueuePostValue}
+use Rattle.mama_posts_services.specs.Publisher.{PublisherPostValue}
+use Rattle.mama_posts_services.specs.Bridge.{BridgePostValue}
+use Rattle.mama_posts_services.specs.Timers.{TimersPostValue}
+use Rattle.mama_posts_clients.specs.Queue.{QueuePostValue}
 use Rattle.mama_crew.specs.declared.seat.Seat.{Seat}
 use Rattle.mama_crew.specs.declared.seat.Seat.TheVariants.{Publisher, Bridge, Timers, Queue}
 use Rattle.mama_crew.specs.Seat.{IsSeatOf}

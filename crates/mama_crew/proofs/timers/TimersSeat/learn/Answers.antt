@@ -1,8 +1,8 @@
 use Rattle.std.proofs.Common.{◌≡◌, ◌↔◌, true, Option, Some, ◌∙◌, ap, sym, subst}
 use Rattle.mama_event.specs.declared.to_timers.TimersNote.{TimersNote}
 use Rattle.mama_lane.specs.Values.{LaneValue, NoteValue}
-use Rattle.mama_posts.specs.Timers.{TimersPostValue, IsTimersOf, is_over}
-use Rattle.mama_posts.specs.Service.{HasEnded}
+use Rattle.mama_posts_services.specs.Timers.{TimersPostValue, IsTimersOf, is_over}
+use Rattle.mama_posts_services.specs.Service.{HasEnded}
 use Rattle.mama_crew.specs.Informed.{timers_told}
 use Rattle.mama_crew.proofs.InformingLemmas.{ended_told, timers_informed}
 use Rattle.mama_crew.proofs.timers.TimersSeat.learn.Goals as goal

@@ -2,9 +2,9 @@ use mathlib.Core.List.{IsPrefix}
 use Rattle.std.specs.Prelude.{[]}
 use Rattle.std.proofs.Common.{◌≡◌, ◌∙◌, ap, sym, subst}
 use Rattle.mama_lane.specs.Values.{LaneValue}
-use Rattle.mama_posts.specs.Timers.{TimersPostValue, is_over}
-use Rattle.mama_posts.specs.Ports.{lanes_of, ids_of}
-use Rattle.mama_posts.specs.Service.{HasEnded, IsIdle, MadeStep}
+use Rattle.mama_posts_services.specs.Timers.{TimersPostValue, is_over}
+use Rattle.mama_posts_services.specs.Ports.{lanes_of, ids_of}
+use Rattle.mama_posts_services.specs.Service.{HasEnded, IsIdle, MadeStep}
 use Rattle.mama_crew.specs.Seat.{IsTimersIn}
 use Rattle.mama_crew.proofs.SeatLemmas.{timers_turned, timers_own, seen}
 use Rattle.mama_crew.proofs.timers.TimersSeat.turn.Goals as goal

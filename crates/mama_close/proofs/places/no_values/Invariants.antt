@@ -1,6 +1,0 @@
-use Rattle.std.proofs.Common.{◌≡◌, None}
-use Rattle.std.specs.List.{All}
-use Rattle.mama_close.proofs.places.no_values.Given as goal
-
-abbrev pub invariant-loop : goal.invariant-loop
-invariant-loop g l = All (λ value. value ≡ None) l.found.items

@@ -1,5 +1,0 @@
-use Rattle.mama_posts.proofs.ByesLemmas.{bridge_byes}
-use Rattle.mama_posts.proofs.laws.bridges_end_by_byes.Goals as goal
-
-pub returns : goal.returns
-returns c = bridge_byes

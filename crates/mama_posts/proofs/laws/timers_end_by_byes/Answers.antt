@@ -1,5 +1,0 @@
-use Rattle.mama_posts.proofs.ByesLemmas.{timers_byes}
-use Rattle.mama_posts.proofs.laws.timers_end_by_byes.Goals as goal
-
-pub returns : goal.returns
-returns c = timers_byes

@@ -1,0 +1,4 @@
+pub mod ClientLemmas
+pub mod OutletLemmas
+pub mod QueueLemmas
+pub mod ReturnLemmas

@@ -1,0 +1,18 @@
+use Rattle.std.proofs.Common.{sym, ◌∙◌, ap}
+use Rattle.mama_timer.specs.Service.{Service}
+use Rattle.mama_event.specs.declared.to_timers.TimersNote.{TimersNote}
+use Rattle.mama_ends.specs.Inlet.{InletValue}
+use Rattle.mama_posts_services.specs.Timers.{is_over}
+use Rattle.mama_posts_services.proofs.ServiceLemmas.{none_below, lays_none, new_inlet}
+use Rattle.mama_posts_services.proofs.TimersLemmas.{new_seat}
+use Rattle.mama_posts_services.proofs.timers.TimersPost.new.Goals as goal
+
+pub invariant_of-result : goal.invariant_of-result
+invariant_of-result g c = none_below c.args.shape.now.bounds.queues ∙ sym (ap (λ (r : Service). is_over r.shape r.journal) c.in_ok-new.ensures)
+
+pub returns-clause-seat : goal.returns-clause-seat
+returns-clause-seat g c =
+    new_seat c.args.shape.now c.in_ok-new.field-0 c.new-2.result _ _ c.in_ok-new.ensures (ap (λ (i : InletValue TimersNote). i.kept) c.new-2.ensures)
+    (lays_none _ c.all.result c.new-3.result.items c.all.ensures c.new-3.ensures)
+    (new_inlet c.new-2.result c.args.taker c.new-2.ensures c.requires.taker)
+    (c.requires.queues)
