@@ -164,7 +164,7 @@ fn look_until<R: Copy>(
 }
 
 // Learns, and looks until it found two images, each of which it tells. It answers the last updates in them, and whether
-// an image ever was older than the one before.
+// an image ever was older than the one before, or the first look showed none of what was learnt.
 fn look_on<R: Copy>(
     rt: R,
     mut reader: ImageReader,
@@ -175,11 +175,13 @@ fn look_on<R: Copy>(
     ensures { IfOk result (λ r. r.0.queue ≡ reader.queue) }
 {
     reader.learn(told);
+    let learnt = last_of(rt, &mut reader, SUB)?;
     let (first, back) = look_until(rt, &mut reader, 1)?;
     seen.store(1, Ordering::SeqCst);
     let (second, again) = look_until(rt, &mut reader, 2)?;
     seen.store(2, Ordering::SeqCst);
-    Ok((reader, first, second, back || again || second < first))
+    let back = back || again || second < first || learnt < 1;
+    Ok((reader, first, second, back))
 }
 
 // The writer in one thread, and the reader in another.

@@ -166,7 +166,13 @@ const TIMER: ObjectId = ObjectId::Timer(TimerId {
 });
 
 fn heard(alloc: Global, line: &str) -> Result<Option<Callback>, OutOfMemory> {
-    call_in(alloc, Nums::Unknown, TIMER, line.as_bytes())
+    call_in(
+        alloc,
+        Nums::Unknown,
+        TIMER,
+        &mut Vec::new(alloc),
+        line.as_bytes(),
+    )
 }
 
 fn call_of(alloc: Global, line: &str) -> Result<CallNote, Fail> {
@@ -223,7 +229,7 @@ fn yes(holds: bool) -> &'static str {
 type Image = (SubId, ImageHead, Msg);
 
 fn read_image(alloc: Global, names: &Names, line: &str) -> Result<Option<Image>, OutOfMemory> {
-    image_in(alloc, names, line.as_bytes())
+    image_in(alloc, names, &mut Vec::new(alloc), line.as_bytes())
 }
 
 fn image_of(alloc: Global, names: &Names, line: &str) -> Result<Image, Fail> {

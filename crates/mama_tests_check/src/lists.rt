@@ -53,7 +53,7 @@ fn read_bridge(
     names: &Names,
     line: &str,
 ) -> Result<Option<(u32, BridgeNote)>, OutOfMemory> {
-    bridge_entry_in(alloc, names, line.as_bytes())
+    bridge_entry_in(alloc, names, &mut Vec::new(alloc), line.as_bytes())
 }
 
 fn bridge_entry(alloc: Global, names: &Names, line: &str) -> Result<(u32, BridgeNote), Fail> {
@@ -93,7 +93,7 @@ fn read_timers(
     names: &Names,
     line: &str,
 ) -> Result<Option<(u32, TimersNote)>, OutOfMemory> {
-    timers_entry_in(alloc, names, line.as_bytes())
+    timers_entry_in(names, &mut Vec::new(alloc), line.as_bytes())
 }
 
 fn timers_entry(alloc: Global, names: &Names, line: &str) -> Result<(u32, TimersNote), Fail> {
@@ -133,7 +133,7 @@ fn read_queue(
     names: &Names,
     line: &str,
 ) -> Result<Option<(u32, QueueNote)>, OutOfMemory> {
-    queue_entry_in(alloc, names, line.as_bytes())
+    queue_entry_in(alloc, names, &mut Vec::new(alloc), line.as_bytes())
 }
 
 fn queue_entry(alloc: Global, names: &Names, line: &str) -> Result<(u32, QueueNote), Fail> {
@@ -173,7 +173,7 @@ fn read_publisher(
     names: &Names,
     line: &str,
 ) -> Result<Option<PublisherEntry>, OutOfMemory> {
-    publisher_entry_in(alloc, names, line.as_bytes())
+    publisher_entry_in(names, &mut Vec::new(alloc), line.as_bytes())
 }
 
 fn publisher_entry(alloc: Global, names: &Names, line: &str) -> Result<PublisherEntry, Fail> {

@@ -6,7 +6,7 @@ use mama_event::{
     BridgeNote, CallNote, ImageHead, ObjectId, PublisherEntry, QueueNote, SubId, TimersNote,
 };
 use mama_log_line::Names;
-use mama_memory::OutOfMemory;
+use mama_memory::{Duplicate, OutOfMemory};
 use mama_msg::Msg;
 use mama_plans::{Plans, plans_of};
 use mama_record::{RunRecord, print_log};
@@ -36,25 +36,30 @@ type Calls = Vec<(ObjectId, Vec<CallNote>)>;
 
 type Images = Vec<(SubId, ImageHead, Msg)>;
 
-fn calls_of(queue: &ServedQueue, object: ObjectId) -> Result<Vec<CallNote>, OutOfMemory> {
-    queue.calls(&object)
-}
-
-fn image_of(queue: &ServedQueue, sub: SubId) -> Result<Option<(ImageHead, Msg)>, OutOfMemory> {
-    queue.image(sub)
+fn calls_of(
+    alloc: Global,
+    queue: &ServedQueue,
+    object: ObjectId,
+) -> Result<Vec<CallNote>, OutOfMemory> {
+    let mut copies = Vec::new(alloc);
+    for note in queue.calls(&object) {
+        copies.push(note.try_clone()?)?;
+    }
+    Ok(copies)
 }
 
 // Adds what an object left to what those before it did.
 fn add_left(
+    alloc: Global,
     queue: &ServedQueue,
     object: ObjectId,
     calls: &mut Calls,
     images: &mut Images,
 ) -> Result<(), Fail> {
-    calls.push((object, calls_of(queue, object)?))?;
+    calls.push((object, calls_of(alloc, queue, object)?))?;
     if let ObjectId::Sub(sub) = object {
-        if let Some((head, body)) = image_of(queue, sub)? {
-            images.push((sub, head, body))?;
+        if let Some(image) = queue.image(sub) {
+            images.push((sub, image.head, image.body.try_clone()?))?;
         }
     }
     Ok(())
@@ -94,7 +99,7 @@ fn left(alloc: Global, plans: &Plans, queue: &ServedQueue) -> Result<RunRecord, 
     let mut calls = Vec::new(alloc);
     let mut images = Vec::new(alloc);
     for planned in plans.objects() {
-        add_left(queue, planned.object, &mut calls, &mut images)?;
+        add_left(alloc, queue, planned.object, &mut calls, &mut images)?;
     }
     Ok(record_of(alloc, calls, images))
 }

@@ -366,7 +366,7 @@ fn event_of(alloc: Global, note: BridgeNote) -> Result<ToBridge<ObjectId>, Fail>
 type Entry = Option<(u32, BridgeNote)>;
 
 fn read(alloc: Global, names: &Names, line: &str) -> Result<Entry, OutOfMemory> {
-    bridge_entry_in(alloc, names, line.as_bytes())
+    bridge_entry_in(alloc, names, &mut Vec::new(alloc), line.as_bytes())
 }
 
 // The entry of a line with another first word.

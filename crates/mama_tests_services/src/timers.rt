@@ -141,7 +141,7 @@ fn event_of(note: TimersNote) -> ToTimers<ObjectId> {
 type Entry = Option<(u32, TimersNote)>;
 
 fn read(alloc: Global, names: &Names, line: &str) -> Result<Entry, OutOfMemory> {
-    timers_entry_in(alloc, names, line.as_bytes())
+    timers_entry_in(names, &mut Vec::new(alloc), line.as_bytes())
 }
 
 // The entry of a line with another first word.

@@ -56,9 +56,10 @@ fn entries_of_publishers(rt: HostRuntime) -> Result<(), Fail> {
     // The proof asks that the function names each type that an entry can have in it.
     let _note: Option<PublisherNote> = None;
     let names = names_of(rt.alloc())?;
+    let mut words = Vec::new(rt.alloc());
     for row in PUBLISHERS.lines() {
         let (wanted, line) = numbered(row);
-        let found = publisher_entry_in(rt.alloc(), &names, line.as_bytes())?.is_some();
+        let found = publisher_entry_in(&names, &mut words, line.as_bytes())?.is_some();
         assert_eq!(rt; fits(found), wanted, "{row}");
     }
     Ok(())
@@ -103,9 +104,10 @@ const BRIDGE: &str = r#"1 c0 join s1.0
 
 // Whether each row says rightly whether its line is an entry of the bridge.
 fn bridge_entries_fit(alloc: Global, names: &Names, rows: &str) -> Result<bool, OutOfMemory> {
+    let mut words = Vec::new(alloc);
     for row in rows.lines() {
         let (wanted, line) = numbered(row);
-        let found = bridge_entry_in(alloc, names, line.as_bytes())?.is_some();
+        let found = bridge_entry_in(alloc, names, &mut words, line.as_bytes())?.is_some();
         if fits(found) != wanted {
             return Ok(false);
         }
@@ -143,7 +145,8 @@ fn is_first_join(entry: &Option<(u32, BridgeNote)>) -> bool {
 #[test]
 fn a_join_has_the_terms_of_the_script(rt: HostRuntime) -> Result<(), Fail> {
     let names = names_of(rt.alloc())?;
-    let entry = bridge_entry_in(rt.alloc(), &names, b"c0 join s0.0")?;
+    let mut words = Vec::new(rt.alloc());
+    let entry = bridge_entry_in(rt.alloc(), &names, &mut words, b"c0 join s0.0")?;
     assert!(rt; is_first_join(&entry));
     Ok(())
 }
@@ -151,7 +154,8 @@ fn a_join_has_the_terms_of_the_script(rt: HostRuntime) -> Result<(), Fail> {
 #[test]
 fn a_bye_comes_by_the_port_of_its_queue(rt: HostRuntime) -> Result<(), Fail> {
     let names = names_of(rt.alloc())?;
-    let entry = bridge_entry_in(rt.alloc(), &names, b"q1 bye")?;
+    let mut words = Vec::new(rt.alloc());
+    let entry = bridge_entry_in(rt.alloc(), &names, &mut words, b"q1 bye")?;
     assert!(rt; entry == Some((4, BridgeNote::Bye)));
     Ok(())
 }
@@ -173,9 +177,10 @@ const TIMERS: &str = "1 c1 arm t0.0
 
 // Whether each row says rightly whether its line is an entry of the timer service.
 fn timers_entries_fit(alloc: Global, names: &Names, rows: &str) -> Result<bool, OutOfMemory> {
+    let mut words = Vec::new(alloc);
     for row in rows.lines() {
         let (wanted, line) = numbered(row);
-        let found = timers_entry_in(alloc, names, line.as_bytes())?.is_some();
+        let found = timers_entry_in(names, &mut words, line.as_bytes())?.is_some();
         if fits(found) != wanted {
             return Ok(false);
         }
@@ -203,9 +208,10 @@ fn timers_are_armed_with_the_terms_of_the_script(rt: HostRuntime) -> Result<(), 
         tag: ObjectId::Timer(timer),
     };
     let names = names_of(rt.alloc())?;
-    let armed = timers_entry_in(rt.alloc(), &names, b"c1 arm t0.0")?;
+    let mut words = Vec::new(rt.alloc());
+    let armed = timers_entry_in(&names, &mut words, b"c1 arm t0.0")?;
     assert!(rt; armed == Some((1, arm)));
-    let ended = timers_entry_in(rt.alloc(), &names, b"b fin")?;
+    let ended = timers_entry_in(&names, &mut words, b"b fin")?;
     assert!(rt; ended == Some((4, TimersNote::Fin)));
     Ok(())
 }
@@ -245,9 +251,10 @@ const QUEUES: &str = "1 b create 0 s0.0
 
 // Whether each row says rightly whether its line is an entry of a queue.
 fn queue_entries_fit(alloc: Global, names: &Names, rows: &str) -> Result<bool, OutOfMemory> {
+    let mut words = Vec::new(alloc);
     for row in rows.lines() {
         let (wanted, line) = numbered(row);
-        let found = queue_entry_in(alloc, names, line.as_bytes())?.is_some();
+        let found = queue_entry_in(alloc, names, &mut words, line.as_bytes())?.is_some();
         if fits(found) != wanted {
             return Ok(false);
         }
@@ -275,7 +282,8 @@ fn a_create_has_its_slot_and_its_object(rt: HostRuntime) -> Result<(), Fail> {
         tag: object,
     };
     let names = names_of(rt.alloc())?;
-    let entry = queue_entry_in(rt.alloc(), &names, b"b create 3 i1.0")?;
+    let mut words = Vec::new(rt.alloc());
+    let entry = queue_entry_in(rt.alloc(), &names, &mut words, b"b create 3 i1.0")?;
     assert!(rt; entry == Some((0, create)));
     Ok(())
 }
@@ -305,9 +313,10 @@ const INBOX_CALLS: &str = "1 reply
 
 // Whether each row says rightly whether the object may hear the call.
 fn calls_fit(alloc: Global, object: ObjectId, rows: &str) -> Result<bool, OutOfMemory> {
+    let mut words = Vec::new(alloc);
     for row in rows.lines() {
         let (wanted, line) = numbered(row);
-        let found = call_in(alloc, Nums::Known, object, line.as_bytes())?.is_some();
+        let found = call_in(alloc, Nums::Known, object, &mut words, line.as_bytes())?.is_some();
         if fits(found) != wanted {
             return Ok(false);
         }
@@ -357,9 +366,10 @@ const IMAGES: &str = "1 s0.0 ok 1 4 22:bid:u32:102 25:ask:u32:104
 
 // Whether each row says rightly whether its line is an order in a callback.
 fn orders_fit(alloc: Global, names: &Names, rows: &str) -> Result<bool, OutOfMemory> {
+    let mut words = Vec::new(alloc);
     for row in rows.lines() {
         let (wanted, line) = numbered(row);
-        let found = order_line_in(alloc, names, line.as_bytes())?.is_some();
+        let found = order_line_in(names, &mut words, line.as_bytes())?.is_some();
         if fits(found) != wanted {
             return Ok(false);
         }
@@ -369,9 +379,10 @@ fn orders_fit(alloc: Global, names: &Names, rows: &str) -> Result<bool, OutOfMem
 
 // Whether each row says rightly whether its line is an image.
 fn images_fit(alloc: Global, names: &Names, rows: &str) -> Result<bool, OutOfMemory> {
+    let mut words = Vec::new(alloc);
     for row in rows.lines() {
         let (wanted, line) = numbered(row);
-        let found = image_in(alloc, names, line.as_bytes())?.is_some();
+        let found = image_in(alloc, names, &mut words, line.as_bytes())?.is_some();
         if fits(found) != wanted {
             return Ok(false);
         }
@@ -389,9 +400,10 @@ fn orders_and_images(rt: HostRuntime) -> Result<(), Fail> {
 
 #[test]
 fn moments(rt: HostRuntime) -> Result<(), Fail> {
+    let mut words = Vec::new(rt.alloc());
     for row in MOMENTS.lines() {
         let (wanted, line) = numbered(row);
-        let found = clock_in(rt.alloc(), line.as_bytes())?;
+        let found = clock_in(&mut words, line.as_bytes())?;
         assert_eq!(rt; fits(found == Some(7)), wanted, "{row}");
     }
     Ok(())
@@ -439,9 +451,10 @@ const WATCHES: &str = "1 retry 1 10
 
 // Whether each row says rightly whether its line is what a group may hear.
 fn group_notes_fit(alloc: Global, names: &Names, rows: &str) -> Result<bool, OutOfMemory> {
+    let mut words = Vec::new(alloc);
     for row in rows.lines() {
         let (wanted, line) = numbered(row);
-        let found = group_note_in(alloc, names, line.as_bytes())?.is_some();
+        let found = group_note_in(alloc, names, &mut words, line.as_bytes())?.is_some();
         if fits(found) != wanted {
             return Ok(false);
         }
@@ -451,9 +464,10 @@ fn group_notes_fit(alloc: Global, names: &Names, rows: &str) -> Result<bool, Out
 
 // Whether each row says rightly whether its line is what a watch may note.
 fn watch_notes_fit(alloc: Global, rows: &str) -> Result<bool, OutOfMemory> {
+    let mut words = Vec::new(alloc);
     for row in rows.lines() {
         let (wanted, line) = numbered(row);
-        let found = watch_note_in(alloc, line.as_bytes())?.is_some();
+        let found = watch_note_in(&mut words, line.as_bytes())?.is_some();
         if fits(found) != wanted {
             return Ok(false);
         }
@@ -466,7 +480,8 @@ fn notes_of_groups_and_watches(rt: HostRuntime) -> Result<(), Fail> {
     let names = names_of(rt.alloc())?;
     assert!(rt; group_notes_fit(rt.alloc(), &names, GROUPS)?);
     assert!(rt; watch_notes_fit(rt.alloc(), WATCHES)?);
-    let retry = watch_note_in(rt.alloc(), b"retry 3 40")?;
+    let mut words = Vec::new(rt.alloc());
+    let retry = watch_note_in(&mut words, b"retry 3 40")?;
     assert!(rt;
         retry
             == Some(WatchNote::Retry {
