@@ -1,12 +1,12 @@
 #!/bin/sh
 # What the gate costs: runs `rt ci` at the top of the repository and prints a table of processor minutes by crate, for proof,
 # tests and edits, the wall time and the machine. It looks every two seconds at which checks run, and changes nothing of the
-# gate; what ends between two looks is missed. What an earlier run kept costs nothing here: run it on a machine that kept
-# nothing, or with the word --anew, to see the whole. It ends with the gate's status.
+# gate; what ends between two looks is missed. Of a kit that keeps what its gate proved it shows only what was proved anew. It
+# ends with the gate's status.
 #
-#   bench/gate.sh [--anew]
+#   bench/gate.sh
 cd "$(dirname "$0")/.." || exit 2
-exec python3 - "$@" <<'PROGRAM'
+exec python3 - <<'PROGRAM'
 import os, re, subprocess, sys, time
 
 TICK = os.sysconf("SC_CLK_TCK")
@@ -31,7 +31,7 @@ def look():
 
 
 began = time.time()
-gate = subprocess.Popen(["rt", "ci", *sys.argv[1:]])
+gate = subprocess.Popen(["rt", "ci"])
 while gate.poll() is None:
     look()
     time.sleep(2)
