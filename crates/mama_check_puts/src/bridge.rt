@@ -6,7 +6,7 @@ ghost use Rattle.mama_check_puts.specs.Puts.{AreLists, bridge_put_to_publisher, 
 ghost use Rattle.mama_check_puts.specs.Dealing.{own_tag};
 ghost use Rattle.mama_check_puts.specs.Bridge.{GrowByOne, GrowByAll};
 
-use crate::dealing::{deal, empty_lists};
+use crate::dealing::{deal, empty_lists, if_taken};
 use crate::notes::{bridge_event, publisher_note, queue_note, timers_note};
 use mama_bridge::{Bridge, BridgeOut, MemoryBridge};
 use mama_event::{BridgeNote, ObjectId, PublisherNote, QueueNote, Shape, TimersNote};
@@ -58,11 +58,8 @@ fn taken(
 {
     let event = bridge_event(alloc, note)?;
     let mut out = Outbox::new(alloc);
-    match bridge.take(port, event, &mut out) {
-        Ok(_) => Ok(out),
-        // An event is given back for want of memory alone.
-        Err(_event) => Err(OutOfMemory),
-    }
+    let answer = bridge.take(port, event, &mut out);
+    if_taken(out, answer)
 }
 
 /// Deals one event that an entry put to the list that it goes to.

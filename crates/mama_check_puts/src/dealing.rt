@@ -1,4 +1,4 @@
-ghost use Rattle.std.specs.Prelude.{◌≡◌, [], map, IfOk, OnOk};
+ghost use Rattle.std.specs.Prelude.{◌≡◌, [], map, IsOk, IfOk, OnOk};
 ghost use Rattle.mama_check_order.specs.Numbered.{from_entry};
 ghost use Rattle.mama_check_puts.specs.Puts.{AreLists, one_for};
 ghost use Rattle.mama_check_puts.specs.Dealing.{Grow};
@@ -34,4 +34,19 @@ pub(crate) fn deal<N: Drop>(
         list.push((entry, note))?;
     }
     Ok(())
+}
+
+/// What an entry put, if its event was taken: it is given back for want of memory alone. Both are let go here alone, where
+/// their types are any.
+pub(crate) fn if_taken<T: Drop, A: Drop, E: Drop>(
+    put: T,
+    answer: Result<A, E>,
+) -> Result<T, OutOfMemory>
+    ensures put { IfOk result (λ r. r ≡ put) }
+    ensures taken { OnOk result (IsOk answer) }
+{
+    match answer {
+        Ok(_) => Ok(put),
+        Err(_) => Err(OutOfMemory),
+    }
 }

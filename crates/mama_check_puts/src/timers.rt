@@ -7,7 +7,7 @@ ghost use Rattle.mama_timer.specs.Out.{out_note};
 ghost use Rattle.mama_check_puts.specs.Puts.{AreLists, tick_part, timers_put_to};
 ghost use Rattle.mama_check_puts.specs.Dealing.{Grow, own_tag};
 
-use crate::dealing::{deal, empty_lists};
+use crate::dealing::{deal, empty_lists, if_taken};
 use crate::notes::{queue_note, timers_event};
 use mama_event::{ObjectId, QueueNote, Shape, TimersNote};
 use mama_memory::{OutOfMemory, Outbox};
@@ -43,11 +43,8 @@ fn taken(
     ensures puts { IfOk result (λ out. map (out_note own_tag) out.items ≡ timers_puts_at timers.old.shape timers.old.journal (port, note)) }
 {
     let mut out = Outbox::new(alloc);
-    match timers.take(port, timers_event(note), &mut out) {
-        Ok(_) => Ok(out),
-        // An event is given back for want of memory alone.
-        Err(_event) => Err(OutOfMemory),
-    }
+    let answer = timers.take(port, timers_event(note), &mut out);
+    if_taken(out, answer)
 }
 
 /// Deals what an entry put to the lists of the queues.
