@@ -21,7 +21,7 @@ image_same : (setting : Setting) (queues : List (List (ℕ × QueueNote))) (p : 
 image_same setting queues p =
     elim p.object as (λ o. images_by setting.objects queues (record p { object = o }) ≡ last_image setting queues (record p { object = o })) [ Sub s ↦ refl | Timer t ↦ refl | Inbox i ↦ refl ]
 
-images_same : (setting : Setting) (queues : List (List (ℕ × QueueNote))) (ps : List Planned) → flat_map (images_by setting.objects queues) ps ≡ flat_map (last_image setting queues) ps
+pub images_same : (setting : Setting) (queues : List (List (ℕ × QueueNote))) (ps : List Planned) → flat_map (images_by setting.objects queues) ps ≡ flat_map (last_image setting queues) ps
 images_same setting queues [] = refl
 images_same setting queues (p ∷ ps) =
     ap (λ (is : List LastImage). is ++ flat_map (images_by setting.objects queues) ps) (image_same setting queues p) ∙ ap (λ (is : List LastImage). last_image setting queues p ++ is) (images_same setting queues ps)

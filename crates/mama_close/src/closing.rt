@@ -12,7 +12,7 @@ ghost use Rattle.mama_crew.specs.Seat.{HasEnded};
 ghost use Rattle.mama_crew.specs.Journals.{AreJournalsOf, events_in};
 ghost use Rattle.mama_close.specs.Back.{AreBack};
 ghost use Rattle.mama_record.specs.RunView.{images_of, groups_of};
-ghost use Rattle.mama_rules_rounds.specs.Round.{setting_of, group_told};
+ghost use Rattle.mama_rules_rounds.specs.Round.{setting_of, group_told, last_image};
 ghost use Rattle.mama_close.specs.Apart.{BelongTo};
 ghost use Rattle.mama_gather.specs.Left.{events_by};
 ghost use Rattle.mama_close.specs.Kinds.{AreKindsOf, record_of};
@@ -58,28 +58,34 @@ pub fn close_crew<L: Listener, Rt: Wait + Copy>(
     ensures legal { IfOk result (λ r. IsLegal script.now r.0) }
     ensures listeners { IfOk result (λ r. AreBack (told L.tagged L.calls L.heard L.given L.plan) r.0.calls r.1.items) }
 {
-    close_heard(rt, alloc, script, hall, seats, Vec::new(alloc))
+    let seats = by_kind(alloc, script, &hall, seats)?;
+    close_kinds(rt, alloc, script, hall, seats, Vec::new(alloc))
 }
 
-/// Closes a crew in the same way where each group heard this: what it hears by the journal of its queue.
-pub fn close_heard<L: Listener, Rt: Wait + Copy>(
+/// Closes a crew in the same way where each group heard this, and these are the last images: what the journals of the queues give.
+/// No image is taken from the seats.
+pub fn close_imaged<L: Listener, Rt: Wait + Copy>(
     rt: Rt,
     alloc: Global,
     script: &Script,
     hall: Hall<L>,
     seats: Vec<Seat<L>>,
     groups: Vec<(u32, Vec<GroupNote>)>,
+    images: Vec<(SubId, ImageHead, Msg)>,
 ) -> Result<(RunRecord, Vec<(ObjectId, L)>), OutOfMemory>
     requires crew { IsCrew script.now hall seats.items }
     requires ended { All HasEnded seats.items }
     requires groups { groups_of groups.items ≡ map (group_told (setting_of script.now) (flat_map events_in seats.items)) (setting_of script.now).groups }
+    requires images { images_of images.items ≡ flat_map (last_image (setting_of script.now) (flat_map events_in seats.items)) (setting_of script.now).objects }
     ensures journals { IfOk result (λ r. AreJournalsOf seats.items r.0) }
     ensures legal { IfOk result (λ r. IsLegal script.now r.0) }
     ensures groups { IfOk result (λ r. r.0.groups ≡ groups_of groups.items) }
+    ensures images { IfOk result (λ r. r.0.images ≡ images_of images.items) }
     ensures listeners { IfOk result (λ r. AreBack (told L.tagged L.calls L.heard L.given L.plan) r.0.calls r.1.items) }
 {
     let seats = by_kind(alloc, script, &hall, seats)?;
-    close_kinds(rt, alloc, script, hall, seats, groups)
+    let parts = hall.into_parts();
+    close_parts(rt, alloc, script, parts, seats, images, groups)
 }
 
 // The same of the seats kind by kind.

@@ -36,7 +36,13 @@ use std::thread::Threads;
 /// At `Ok` of `soak SEED W` the counts are those of a legal record of the seed's script: `IsSoak`. Both hold whichever thread
 /// turned which actor when. That it returns is not promised of these two; of the other commands it always does. The gate is called before each turn of an actor, which no clause says; the moments of such a record are the
 /// clock's, and no clause says that either. No clause ties want of memory to its cause.
-pub fn run<S: Source, K: Sink, C: Clock + Send, G: Gate + Sync, Rt: Threads + Wait + Copy + Sync>(
+pub fn run<
+    S: Source,
+    K: Sink,
+    C: Clock + Send,
+    G: Gate + Sync,
+    Rt: Threads + Wait + Copy + Drop + Send + Sync,
+>(
     rt: &Rt,
     alloc: Global,
     words: &[String],

@@ -23,7 +23,7 @@ pub(crate) fn play_input<
     K: Sink,
     C: Clock + Send,
     G: Gate + Sync,
-    Rt: Threads + Wait + Copy + Sync,
+    Rt: Threads + Wait + Copy + Drop + Send + Sync,
 >(
     rt: &Rt,
     alloc: Global,
@@ -94,7 +94,7 @@ fn read_script(alloc: Global, text: &[u8]) -> Result<Script, Status>
 }
 
 /// The log of a run of the script on threads. The error is want of memory.
-fn log_of<C: Clock + Send, G: Gate + Sync, Rt: Threads + Wait + Copy + Sync>(
+fn log_of<C: Clock + Send, G: Gate + Sync, Rt: Threads + Wait + Copy + Drop + Send + Sync>(
     rt: &Rt,
     alloc: Global,
     script: &Script,
@@ -115,7 +115,7 @@ fn log_of<C: Clock + Send, G: Gate + Sync, Rt: Threads + Wait + Copy + Sync>(
 }
 
 /// Plays the script on threads. A log of the script can tell the record, which keeps the promises.
-fn play<C: Clock + Send, G: Gate + Sync, Rt: Threads + Wait + Copy + Sync>(
+fn play<C: Clock + Send, G: Gate + Sync, Rt: Threads + Wait + Copy + Drop + Send + Sync>(
     rt: &Rt,
     alloc: Global,
     script: &Script,

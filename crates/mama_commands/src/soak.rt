@@ -13,7 +13,7 @@ use std::sync::Wait;
 use std::thread::Threads;
 
 /// Plays the script of a seed on threads, and writes what its legal record counts.
-pub(crate) fn write_soak<K: Sink, G: Gate + Sync, Rt: Threads + Wait + Copy + Sync>(
+pub(crate) fn write_soak<K: Sink, G: Gate + Sync, Rt: Threads + Wait + Copy + Drop + Send + Sync>(
     rt: &Rt,
     alloc: Global,
     seed: u64,

@@ -34,8 +34,8 @@ pub struct QueueEnds<L: Listener> {
 }
 
 impl<L: Listener> QueueEnds<L> {
-    /// Takes the seats of the queues apart; there are so many watches. The error is want of memory, or an object that came to
-    /// another queue than its own, which no crew has.
+    /// Takes the seats of the queues apart; there are so many watches. That an object's place is filled no clause says. The error is
+    /// want of memory, or an object that came to another queue than its own, or twice, which no crew has.
     pub fn of(
         alloc: Global,
         plans: &Plans,

@@ -27,7 +27,8 @@ pub struct Heard<L: Listener, H: GroupListener> {
 }
 
 impl<L: Listener, H: GroupListener> Heard<L, H> {
-    /// Takes so many groups from the seats. The error is want of memory; then the seats are dropped.
+    /// Takes so many groups from the seats. That a place is filled no clause says: [`listeners_in_order`] answers the error where one
+    /// is empty. A listener whose number is not below the count is let go. The error is want of memory; then the seats are dropped.
     pub fn of(
         alloc: Global,
         count: usize,

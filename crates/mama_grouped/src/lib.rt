@@ -20,4 +20,5 @@ pub use heard::{Heard, listeners_in_order};
 pub use hearing::Hearing;
 pub use mama_crew::{GateActor, Hall, Listener, Maker, OutOfMemory, Pace, Script};
 pub use mama_group::{GroupListener, GroupMaker, SilentGroup, SilentGroups};
+pub use queries::journal_of;
 pub use seat::GroupedSeat;

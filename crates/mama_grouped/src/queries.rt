@@ -13,8 +13,8 @@ use mama_carry::Listener;
 use mama_crew::Seat;
 use mama_event::{CallNote, ObjectId, QueueNote, SubId};
 
-/// What a queue took so far; nothing where the seat is no queue's.
-pub(crate) fn journal_of<L: Listener>(seat: &Seat<L>) -> &[(u32, QueueNote)]
+/// What the queue of this seat took so far, each event with its port; nothing for the seat of another actor.
+pub fn journal_of<L: Listener>(seat: &Seat<L>) -> &[(u32, QueueNote)]
     ensures { result.now ≡ journal_in seat.now }
 {
     match seat {

@@ -29,6 +29,13 @@ impl<L: Listener, H: GroupListener> GroupedSeat<L, H> {
         self.seat.actor()
     }
 
+    /// The seat alone, without the groups.
+    pub fn crew_seat(&self) -> &Seat<L>
+        ensures { result.now ≡ self.now.seat }
+    {
+        &self.seat
+    }
+
     /// Whether it has ended: all is done and told.
     pub fn ended(&self) -> bool
         ensures { (result ≡ true) ↔ HasEnded self.now }

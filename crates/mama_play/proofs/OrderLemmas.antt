@@ -10,9 +10,9 @@ numbers_more f n = let one : n + 1 ≡ suc n = omega arith in ap (λ k. map f (n
 
 module _ {S B : Type 0} (who : S → B) (f : ℕ → B) where
   -- one seat more, which is that of the next number
-  pub one_more : (xs : List S) (i : ℕ) (x : S) → i < length xs → x ≡ get_or xs i x → map who (take i xs) ≡ map f (numbers_below i) → who x ≡ f i
+  pub row_more : (xs : List S) (i : ℕ) (x : S) → i < length xs → x ≡ get_or xs i x → map who (take i xs) ≡ map f (numbers_below i) → who x ≡ f i
       → map who (take (i + 1) xs) ≡ map f (numbers_below (i + 1))
-  one_more xs i x within is before at =
+  row_more xs i x within is before at =
       let next : take (i + 1) xs ≡ take i xs ++ x ∷ [] = take_more xs i x within ∙ ap (λ (y : S). take i xs ++ y ∷ []) (sym is) in
       ap (map who) next ∙ map-append who (take i xs) (x ∷ []) ∙ ap (λ (ys : List B). ys ++ who x ∷ []) before
       ∙ ap (λ (b : B). map f (numbers_below i) ++ b ∷ []) at ∙ sym (numbers_more f i)
@@ -37,5 +37,5 @@ row u v (suc n) = v
 -- the actors of two seats
 pub two_are : {S B : Type 0} (who : S → B) (xs : List S) (a b : S) (u v : B) → length xs ≡ 2 → a ≡ get_or xs 0 a → b ≡ get_or xs 1 b → who a ≡ u → who b ≡ v → map who xs ≡ u ∷ v ∷ []
 two_are who xs a b u v len first second one two =
-    whole_row who (row u v) xs 2 (sym len) (one_more who (row u v) xs 1 b (omega (arith, len)) second (one_more who (row u v) xs 0 a (omega (arith, len)) first refl one) two)
+    whole_row who (row u v) xs 2 (sym len) (row_more who (row u v) xs 1 b (omega (arith, len)) second (row_more who (row u v) xs 0 a (omega (arith, len)) first refl one) two)
     ∙ ap (λ (n : ℕ). map (row u v) (numbers_below n)) len

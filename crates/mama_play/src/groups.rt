@@ -1,15 +1,16 @@
 //! The groups of seats that are turned by one thread each, and the seats of queues, which move among threads.
 ghost use Rattle.std.specs.Prelude.{◌≤◌, ◌<◌, IfOk, OnOk};
 ghost use Rattle.std.specs.List.{All};
-ghost use Rattle.mama_grouped.specs.Seat.{IsSeatOf};
+ghost use Rattle.mama_shown.specs.Seat.{IsSeatOf};
 ghost use Rattle.mama_play.specs.Adding.{IsAdded};
 
 use mama_carry::Listener;
 use mama_crew::{GateActor, Hall, Script};
 use mama_event::Shape;
-use mama_grouped::{GroupListener, GroupedSeat};
 use mama_memory::OutOfMemory;
+use mama_shown::{GroupListener, ShownSeat};
 use std::alloc::Global;
+use std::sync::Wait;
 
 /// How many threads there are for queues: at most `workers`, no more than there are queues, and at least one.
 pub fn queue_threads(shape: &Shape, workers: u32) -> u32
@@ -40,18 +41,18 @@ fn group_of(others: u32, actor: GateActor) -> Option<usize> {
 
 /// The seats of a crew in groups, for one thread each, and the seats of its queues.
 #[derive(Drop)]
-pub struct Groups<L: Listener, H: GroupListener> {
-    pub groups: Vec<Vec<GroupedSeat<L, H>>>,
-    pub queues: Vec<GroupedSeat<L, H>>,
+pub struct Groups<L: Listener, H: GroupListener, Rt: Wait + Drop> {
+    pub groups: Vec<Vec<ShownSeat<L, H, Rt>>>,
+    pub queues: Vec<ShownSeat<L, H, Rt>>,
 }
 
 // So many groups without seats.
-fn empty_groups<L: Listener, H: GroupListener>(
+fn empty_groups<L: Listener, H: GroupListener, Rt: Wait + Drop>(
     alloc: Global,
     _script: &Script,
     _hall: &Hall<L>,
     number: usize,
-) -> Result<Vec<Vec<GroupedSeat<L, H>>>, OutOfMemory>
+) -> Result<Vec<Vec<ShownSeat<L, H, Rt>>>, OutOfMemory>
     ensures seats { IfOk result (λ groups. All (λ group. All (IsSeatOf _script.now _hall.now) group.items) groups.items) }
 {
     let mut groups = Vec::with_capacity(alloc, number)?;
@@ -62,12 +63,12 @@ fn empty_groups<L: Listener, H: GroupListener>(
 }
 
 // Adds a seat to its group.
-fn add_to_group<L: Listener, H: GroupListener>(
+fn add_to_group<L: Listener, H: GroupListener, Rt: Wait + Drop>(
     _script: &Script,
     _hall: &Hall<L>,
-    groups: &mut Vec<Vec<GroupedSeat<L, H>>>,
+    groups: &mut Vec<Vec<ShownSeat<L, H, Rt>>>,
     number: usize,
-    seat: GroupedSeat<L, H>,
+    seat: ShownSeat<L, H, Rt>,
 ) -> Result<(), OutOfMemory>
     requires seats { All (λ group. All (IsSeatOf _script.now _hall.now) group.items) groups.old.items }
     requires seat { IsSeatOf _script.now _hall.now seat }
@@ -88,11 +89,11 @@ fn add_to<T: Drop>(lists: &mut Vec<Vec<T>>, number: usize, item: T) -> Result<()
 }
 
 // Adds the seat of a queue.
-fn add_to_queues<L: Listener, H: GroupListener>(
+fn add_to_queues<L: Listener, H: GroupListener, Rt: Wait + Drop>(
     _script: &Script,
     _hall: &Hall<L>,
-    queues: &mut Vec<GroupedSeat<L, H>>,
-    seat: GroupedSeat<L, H>,
+    queues: &mut Vec<ShownSeat<L, H, Rt>>,
+    seat: ShownSeat<L, H, Rt>,
 ) -> Result<(), OutOfMemory>
     requires seats { All (IsSeatOf _script.now _hall.now) queues.old.items }
     requires seat { IsSeatOf _script.now _hall.now seat }
@@ -103,12 +104,12 @@ fn add_to_queues<L: Listener, H: GroupListener>(
 }
 
 // Adds a seat to the group of this number, or to the queues.
-fn add<L: Listener, H: GroupListener>(
+fn add<L: Listener, H: GroupListener, Rt: Wait + Drop>(
     script: &Script,
     hall: &Hall<L>,
-    made: &mut Groups<L, H>,
+    made: &mut Groups<L, H, Rt>,
     number: Option<usize>,
-    seat: GroupedSeat<L, H>,
+    seat: ShownSeat<L, H, Rt>,
 ) -> Result<(), OutOfMemory>
     requires groups { All (λ group. All (IsSeatOf script.now hall.now) group.items) made.old.groups.items }
     requires queues { All (IsSeatOf script.now hall.now) made.old.queues.items }
@@ -124,13 +125,13 @@ fn add<L: Listener, H: GroupListener>(
 
 /// The seats of a crew in groups, for one thread each: the bridge's, the timer service's, and those of clients and publishers by
 /// their numbers modulo the number of threads for them; and apart from these the seats of the queues. The error is want of memory.
-pub fn in_groups<L: Listener, H: GroupListener>(
+pub fn in_groups<L: Listener, H: GroupListener, Rt: Wait + Drop>(
     alloc: Global,
     script: &Script,
     hall: &Hall<L>,
     workers: u32,
-    seats: Vec<GroupedSeat<L, H>>,
-) -> Result<Groups<L, H>, OutOfMemory>
+    seats: Vec<ShownSeat<L, H, Rt>>,
+) -> Result<Groups<L, H, Rt>, OutOfMemory>
     requires { All (IsSeatOf script.now hall.now) seats.items }
     ensures groups { IfOk result (λ r. All (λ group. All (IsSeatOf script.now hall.now) group.items) r.groups.items) }
     ensures queues { IfOk result (λ r. All (IsSeatOf script.now hall.now) r.queues.items) }

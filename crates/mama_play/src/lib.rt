@@ -1,16 +1,17 @@
-//! A script played on threads: `play`, and `play_groups` with listeners of its groups.
+//! A script played on threads: `play`, `play_groups` with listeners of its groups, and `play_observed` with an observer beside
+//! these, who reads images while it goes on.
 //!
 //! [`play`] opens the crew of a script, gives its seats to threads in groups ([`groups`]), and when all have ended sets them in
-//! the order of their actors again ([`order`]) and closes the crew ([`close_grouped`]). Whatever the threads did in whichever order, the record is
+//! the order of their actors again ([`order`]) and closes the crew. Whatever the threads did in whichever order, the record is
 //! legal for the script.
 #![tactic(auto)]
 
-mod closing;
 mod groups;
+mod observer;
 mod order;
 mod playing;
 
-pub use closing::close_grouped;
+pub use mama_board::ImageReader;
 pub use mama_carry::{Listener, Maker};
 pub use mama_crew::Script;
 pub use mama_edge::{Clock, Gate, GateActor};
@@ -18,4 +19,5 @@ pub use mama_event::ObjectId;
 pub use mama_group::{GroupListener, GroupMaker, SilentGroup, SilentGroups};
 pub use mama_memory::OutOfMemory;
 pub use mama_record::RunRecord;
-pub use playing::{play, play_groups};
+pub use observer::{NoObserver, Observer};
+pub use playing::{play, play_groups, play_observed};

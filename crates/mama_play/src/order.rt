@@ -3,15 +3,16 @@ ghost use Rattle.std.specs.Prelude.{◌≡◌, ◌∷◌, [], length, map, true,
 ghost use Rattle.std.specs.List.{All};
 ghost use Rattle.mama_journal.specs.Journal.{numbers_below};
 ghost use Rattle.mama_edge.specs.declared.gate.GateActor.TheVariants as gate;
-ghost use Rattle.mama_grouped.specs.Seat.{actor_of, IsSeatOf, HasEnded};
+ghost use Rattle.mama_shown.specs.Seat.{actor_of, IsSeatOf, HasEnded};
 ghost use Rattle.mama_crew.specs.Crew.{actors_of};
 ghost use Rattle.mama_play.specs.Kinds.{numbered};
 
 use mama_carry::Listener;
 use mama_crew::{GateActor, Hall, Script};
 use mama_event::Shape;
-use mama_grouped::{GroupListener, GroupedSeat};
 use mama_memory::OutOfMemory;
+use mama_shown::{GroupListener, ShownSeat};
+use std::sync::Wait;
 
 /// The kinds of actors that have numbers.
 #[derive(Clone, Copy)]
@@ -45,7 +46,10 @@ fn is_numbered(actor: GateActor, kind: Kind, number: usize) -> bool
 }
 
 // Whether these are the seats of the actors of a kind, in the order of their numbers from 0 on.
-fn are_numbered<L: Listener, H: GroupListener>(kind: Kind, seats: &[GroupedSeat<L, H>]) -> bool
+fn are_numbered<L: Listener, H: GroupListener, Rt: Wait + Drop>(
+    kind: Kind,
+    seats: &[ShownSeat<L, H, Rt>],
+) -> bool
     ensures { result ≡ true → map actor_of seats.now ≡ map (numbered kind) (numbers_below (length seats.now)) }
 {
     for i in 0..seats.len() {
@@ -69,7 +73,9 @@ fn is_timers(actor: GateActor) -> bool
 }
 
 // Whether these are the seats of the bridge and the timer service.
-fn are_services<L: Listener, H: GroupListener>(seats: &[GroupedSeat<L, H>]) -> bool
+fn are_services<L: Listener, H: GroupListener, Rt: Wait + Drop>(
+    seats: &[ShownSeat<L, H, Rt>],
+) -> bool
     ensures { result ≡ true → map actor_of seats.now ≡ gate.Bridge ∷ gate.Timers ∷ [] }
 {
     if seats.len() != 2 {
@@ -82,7 +88,10 @@ fn are_services<L: Listener, H: GroupListener>(seats: &[GroupedSeat<L, H>]) -> b
 }
 
 // Whether these are the seats of all actors of a shape, in the order of the actors.
-fn are_all<L: Listener, H: GroupListener>(shape: &Shape, seats: &[GroupedSeat<L, H>]) -> bool
+fn are_all<L: Listener, H: GroupListener, Rt: Wait + Drop>(
+    shape: &Shape,
+    seats: &[ShownSeat<L, H, Rt>],
+) -> bool
     ensures { result ≡ true → map actor_of seats.now ≡ actors_of shape.now }
 {
     let Some((clients, rest)) = seats.split_at_checked(shape.clients as usize) else {
@@ -111,11 +120,11 @@ fn are_all<L: Listener, H: GroupListener>(shape: &Shape, seats: &[GroupedSeat<L,
 
 /// The seats of a crew in the order of their actors. The error is that some actor's seat is not there, or there twice, which no
 /// crew has that was opened and turned.
-pub fn in_order<L: Listener, H: GroupListener>(
+pub fn in_order<L: Listener, H: GroupListener, Rt: Wait + Drop>(
     script: &Script,
     _hall: &Hall<L>,
-    mut seats: Vec<GroupedSeat<L, H>>,
-) -> Result<Vec<GroupedSeat<L, H>>, OutOfMemory>
+    mut seats: Vec<ShownSeat<L, H, Rt>>,
+) -> Result<Vec<ShownSeat<L, H, Rt>>, OutOfMemory>
     requires seats { All (IsSeatOf script.now _hall.now) seats.items }
     requires ended { All HasEnded seats.items }
     ensures actors { IfOk result (λ r. map actor_of r.items ≡ actors_of script.now.shape) }

@@ -23,7 +23,7 @@ use std::thread::Threads;
 ///
 /// The counts are those of the record that was played, which is legal: `IsSoak`. That they are the same whichever thread
 /// turned which actor when is not promised, and not that it returns. The error is want of memory, or a count of 2^64.
-pub fn soak<G: Gate + Sync, Rt: Threads + Wait + Copy + Sync>(
+pub fn soak<G: Gate + Sync, Rt: Threads + Wait + Copy + Drop + Send + Sync>(
     rt: &Rt,
     alloc: Global,
     seed: u64,
@@ -42,7 +42,7 @@ pub fn soak<G: Gate + Sync, Rt: Threads + Wait + Copy + Sync>(
 }
 
 /// Plays the script. No script of a seed reads the clock, so this one has no moments.
-fn played<G: Gate + Sync, Rt: Threads + Wait + Copy + Sync>(
+fn played<G: Gate + Sync, Rt: Threads + Wait + Copy + Drop + Send + Sync>(
     rt: &Rt,
     alloc: Global,
     script: &Script,

@@ -1,4 +1,4 @@
-use Rattle.mama_grouped.specs.Seat.{IsSeatOf}
+use Rattle.mama_shown.specs.Seat.{IsSeatOf}
 use Rattle.mama_ends.proofs.Answered.{on_ok}
 use Rattle.mama_play.proofs.AddingLemmas.{all_added}
 use Rattle.mama_play.proofs.groups.add_to_group.Goals as goal

@@ -1,5 +1,5 @@
 use Rattle.std.proofs.lemmas.List.Elements.{All-push, All-same}
-use Rattle.mama_grouped.specs.Seat.{IsSeatOf}
+use Rattle.mama_shown.specs.Seat.{IsSeatOf}
 use Rattle.mama_play.proofs.groups.add_to_queues.Goals as goal
 
 pub returns : goal.returns

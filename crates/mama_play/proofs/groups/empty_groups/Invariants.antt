@@ -1,5 +1,5 @@
 use Rattle.std.specs.List.{All}
-use Rattle.mama_grouped.specs.Seat.{IsSeatOf}
+use Rattle.mama_shown.specs.Seat.{IsSeatOf}
 use Rattle.mama_play.proofs.groups.empty_groups.Given as goal
 
 abbrev pub invariant-loop : goal.invariant-loop

@@ -1,7 +1,7 @@
 use Rattle.std.specs.List.{All}
 use Rattle.std.proofs.Common.{◌≡◌, ◌∷◌, rules, sym, subst}
 use Rattle.std.proofs.lemmas.List.Elements.{All-head, All-tail, All-nil, All-same}
-use Rattle.mama_grouped.specs.Seat.{IsSeatOf}
+use Rattle.mama_shown.specs.Seat.{IsSeatOf}
 use Rattle.mama_play.proofs.groups.in_groups.Goals as goal
 
 pub loop-seat-init : goal.loop-seat-init

@@ -1,7 +1,7 @@
 use Rattle.std.proofs.Common.{ℕ, map, ap, ◌∙◌}
 use Rattle.mama_journal.specs.Journal.{numbers_below}
 use Rattle.mama_edge.specs.declared.gate.GateActor.TheVariants as gate
-use Rattle.mama_grouped.specs.Seat.{actor_of}
+use Rattle.mama_shown.specs.Seat.{actor_of}
 use Rattle.mama_play.proofs.OrderLemmas.{parted}
 use Rattle.mama_play.proofs.order.are_all.Goals as goal
 

@@ -1,6 +1,6 @@
 use Rattle.std.proofs.Common.{◌≡◌, map, take}
 use Rattle.mama_journal.specs.Journal.{numbers_below}
-use Rattle.mama_grouped.specs.Seat.{actor_of}
+use Rattle.mama_shown.specs.Seat.{actor_of}
 use Rattle.mama_play.specs.Kinds.{numbered}
 use Rattle.mama_play.proofs.order.are_numbered.Given as goal
 

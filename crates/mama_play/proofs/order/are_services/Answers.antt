@@ -1,6 +1,6 @@
 use Rattle.std.proofs.Common.{sym, ◌∙◌, arith}
 use Rattle.mama_edge.specs.declared.gate.GateActor.TheVariants as gate
-use Rattle.mama_grouped.specs.Seat.{actor_of}
+use Rattle.mama_shown.specs.Seat.{actor_of}
 use Rattle.mama_play.proofs.OrderLemmas.{two_are}
 use Rattle.mama_play.proofs.order.are_services.Goals as goal
 

@@ -1,7 +1,7 @@
 use Rattle.std.proofs.Common.{map, sym, ◌∙◌, ap}
 use Rattle.std.proofs.lemmas.List.Sorted.{All-permutation}
 use Rattle.mama_crew.specs.Crew.{actors_of}
-use Rattle.mama_grouped.specs.Seat.{actor_of, IsSeatOf, HasEnded}
+use Rattle.mama_shown.specs.Seat.{actor_of, IsSeatOf, HasEnded}
 use Rattle.mama_play.proofs.order.in_order.Goals as goal
 
 pub returns-then-are_all-clause-seats : goal.returns-then-are_all-clause-seats

@@ -1,6 +1,6 @@
 use Rattle.std.proofs.Common.{rules}
 use Rattle.std.proofs.lemmas.List.Elements.{All-append, All-same}
-use Rattle.mama_grouped.specs.Seat.{IsSeatOf, HasEnded}
+use Rattle.mama_shown.specs.Seat.{IsSeatOf, HasEnded}
 use Rattle.mama_play.proofs.playing.all_turned.Goals as goal
 
 pub in_order-requires-clause-seats : goal.in_order-requires-clause-seats

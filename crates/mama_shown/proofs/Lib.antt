@@ -1,0 +1,10 @@
+pub mod Closed
+pub mod Contexts
+pub mod Imaging
+pub mod Informing
+pub mod Lasts
+pub mod NewSeats
+pub mod Queues
+pub mod Shown
+pub mod Turns
+pub mod Onward
