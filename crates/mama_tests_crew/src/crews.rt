@@ -1,4 +1,5 @@
 use crate::played::{are_back, ends_so, judged, play, script_of};
+use crate::shown::play_shown;
 use mama_carry::ObjectId;
 use mama_check::Verdict;
 use mama_crew::Pace;
@@ -72,5 +73,23 @@ fn seats_are_turned_the_other_way(rt: HostRuntime) -> Result<(), Fail> {
     let verdict = judged(alloc, &script, &played.run)?;
     assert!(rt; matches!(verdict, Verdict::Legal { causal: true }));
     assert!(rt; are_back(&played, &[SUB, TIMER]));
+    Ok(())
+}
+
+#[test]
+fn a_reader_sees_the_last_image(rt: HostRuntime) -> Result<(), Fail> {
+    let alloc = rt.alloc();
+    let script = script_of(alloc, ONE)?;
+    let shown = play_shown(rt, alloc, &script, &[0, 1, 2, 3, 4]);
+    assert_eq!(rt; shown.before, 0);
+    assert_eq!(rt; shown.after, 3);
+    assert!(rt;
+        ends_so(
+            alloc,
+            &script,
+            &shown.run,
+            "images\ns0.0 ok 1 3 22:bid:u32:102 25:ask:u32:103\nend\n"
+        )?
+    );
     Ok(())
 }

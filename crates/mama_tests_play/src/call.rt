@@ -1,17 +1,19 @@
-//! `play` and `play_groups`, with two workers.
+//! `play`, `play_groups` and `play_observed`, with two workers.
 
 ghost use Rattle.std.specs.Prelude.{IfOk};
 ghost use Rattle.mama_rules_legal.specs.Form.{IsFormed};
 
 use crate::keeper::{Keeper, Keepers};
 use crate::meeting::{Host, Meeting};
-use crate::scripts::{FIRST, GROUPED, TWO_QUEUES};
+use crate::scripts::{FIRST, GROUPED, TWO_QUEUES, TWO_TOPICS};
+use crate::watching::Watch;
 use mama_carry::{Maker, PlanListener, PlanMaker};
 use mama_check::{Verdict, check, legal_records_are_formed};
 use mama_edge::{MemoryClock, OpenGate};
 use mama_event::{CallNote, Listener, ObjectId, SubId};
 use mama_memory::OutOfMemory;
-use mama_play::{GroupListener, GroupMaker, play, play_groups};
+use mama_msg::Name;
+use mama_play::{GroupListener, GroupMaker, SilentGroups, play, play_groups, play_observed};
 use mama_record::RunRecord;
 use mama_script::{Script, ScriptFault, parse};
 use std::alloc::Global;
@@ -24,7 +26,7 @@ fn parsed(alloc: Global, text: &str) -> Result<Script, ScriptFault> {
     parse(alloc, text.as_bytes())
 }
 
-fn played<L: Listener + Send, M: Maker<L>, R: Threads + Wait + Copy + Sync>(
+fn played<L: Listener + Send, M: Maker<L>, R: Threads + Wait + Copy + Drop + Send + Sync>(
     rt: &R,
     alloc: Global,
     script: &Script,
@@ -42,7 +44,7 @@ fn played_in_groups<
     H: GroupListener + Send,
     M: Maker<L>,
     N: GroupMaker<H>,
-    R: Threads + Wait + Copy + Sync,
+    R: Threads + Wait + Copy + Drop + Send + Sync,
 >(
     rt: &R,
     alloc: Global,
@@ -142,5 +144,51 @@ fn callbacks_of_two_queues_run_at_the_same_time(rt: HostRuntime) -> Result<(), F
     let (run, _listeners) = played(&rt, rt.alloc(), &script, &mut host)?;
     assert!(rt; is_causal(rt.alloc(), &script, &run));
     assert!(rt; meeting.is_held());
+    Ok(())
+}
+
+// Plays with two workers, while an observer watches that is the gate too.
+fn watched<R: Threads + Wait + Copy + Drop + Send + Sync>(
+    rt: &R,
+    alloc: Global,
+    script: &Script,
+    watch: &Watch,
+) -> Result<RunRecord, OutOfMemory>
+    ensures { IfOk result (λ run. IsFormed script.now run) }
+{
+    legal_records_are_formed();
+    let mut maker = PlanMaker::new();
+    let mut groups = SilentGroups::new();
+    let mut clock = MemoryClock::new(Vec::new(alloc));
+    let (run, _listeners, _groups) = play_observed(
+        rt,
+        alloc,
+        script,
+        &mut maker,
+        &mut groups,
+        &mut clock,
+        watch,
+        watch,
+        2,
+    )?;
+    Ok(run)
+}
+
+// The number of the first field of the first image, or 0.
+fn first_number(run: &RunRecord) -> u32 {
+    match run.images().first() {
+        Some((_, _, body)) => body.get_u32(&Name::default(), 22).unwrap_or(0),
+        None => 0,
+    }
+}
+
+#[test]
+fn an_image_is_read_while_the_client_goes_on(rt: HostRuntime) -> Result<(), Fail> {
+    let script = parsed(rt.alloc(), TWO_TOPICS)?;
+    let watch = Watch::new();
+    let run = watched(&rt, rt.alloc(), &script, &watch)?;
+    assert!(rt; is_causal(rt.alloc(), &script, &run));
+    assert!(rt; watch.is_kept());
+    assert_eq!(rt; (run.images().len(), first_number(&run)), (1, 200));
     Ok(())
 }

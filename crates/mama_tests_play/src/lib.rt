@@ -18,4 +18,6 @@ mod soaks;
 #[cfg(test)]
 mod storm;
 #[cfg(test)]
+mod watching;
+#[cfg(test)]
 mod words;

@@ -93,7 +93,7 @@ fn gaps_in(log: &[u8]) -> Result<u64, Fail> {
 }
 
 // How often the log of the morning by these words says that messages are missing. It is found legal.
-fn gaps_by<R: Threads + Wait + Copy + Sync>(
+fn gaps_by<R: Threads + Wait + Copy + Drop + Send + Sync>(
     rt: &R,
     alloc: Global,
     words: &str,

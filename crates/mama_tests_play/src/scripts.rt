@@ -58,3 +58,14 @@ sub 1 market 0 10 1000
 sub 0 market 2 10 1000
 sub 1 market 2 10 1000
 "#;
+
+/// A topic whose publisher no one hears, and one with a subscription, of publishers without updates.
+pub const TWO_TOPICS: &str = r#"mama script 1
+queues 1
+topic "EQ.ABC"
+topic "EQ.DEF"
+publisher 0 22:bid:u32:100
+publisher 1 22:bid:u32:200
+client
+sub 1 market 0 10 1000
+"#;

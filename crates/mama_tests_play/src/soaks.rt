@@ -11,7 +11,7 @@ use std::thread::Threads;
 const LINES: &str = "sends 4000\nsubscriptions 64\nnotices 64\nlegal\n";
 
 // Whether a soak by these words tells the lines of every seed, and turned each actor.
-fn is_soaked<R: Threads + Wait + Copy + Sync>(
+fn is_soaked<R: Threads + Wait + Copy + Drop + Send + Sync>(
     rt: &R,
     alloc: Global,
     words: &str,

@@ -35,7 +35,7 @@ fn notices(log: &[u8]) -> Result<usize, Fail> {
 }
 
 // Whether the storm's log by these words has the notice of each subscription, and a verdict that begins so.
-fn is_weathered<R: Threads + Wait + Copy + Sync>(
+fn is_weathered<R: Threads + Wait + Copy + Drop + Send + Sync>(
     rt: &R,
     alloc: Global,
     words: &str,

@@ -26,7 +26,7 @@ fn words_of(alloc: Global, text: &str) -> Result<Vec<String>, AllocError> {
 }
 
 // The top call, of which no proof here needs a clause.
-fn run_once<G: Gate + Sync, R: Threads + Wait + Copy + Sync>(
+fn run_once<G: Gate + Sync, R: Threads + Wait + Copy + Drop + Send + Sync>(
     rt: &R,
     alloc: Global,
     words: &[String],
@@ -39,7 +39,7 @@ fn run_once<G: Gate + Sync, R: Threads + Wait + Copy + Sync>(
 }
 
 /// What the command of these words answers to an input, and what it writes.
-pub fn answered<G: Gate + Sync, R: Threads + Wait + Copy + Sync>(
+pub fn answered<G: Gate + Sync, R: Threads + Wait + Copy + Drop + Send + Sync>(
     rt: &R,
     alloc: Global,
     words: &str,
@@ -54,7 +54,7 @@ pub fn answered<G: Gate + Sync, R: Threads + Wait + Copy + Sync>(
 }
 
 /// The log that a script has by these words.
-pub fn log_of<G: Gate + Sync, R: Threads + Wait + Copy + Sync>(
+pub fn log_of<G: Gate + Sync, R: Threads + Wait + Copy + Drop + Send + Sync>(
     rt: &R,
     alloc: Global,
     words: &str,
@@ -77,7 +77,7 @@ fn joined(alloc: Global, script: &[u8], log: &[u8]) -> Result<Vec<u8>, AllocErro
 }
 
 /// What check writes of a log that is found legal.
-pub fn verdict_of<R: Threads + Wait + Copy + Sync>(
+pub fn verdict_of<R: Threads + Wait + Copy + Drop + Send + Sync>(
     rt: &R,
     alloc: Global,
     script: &[u8],
@@ -91,7 +91,7 @@ pub fn verdict_of<R: Threads + Wait + Copy + Sync>(
 }
 
 /// What replay writes of a log that is followed again.
-pub fn replayed<R: Threads + Wait + Copy + Sync>(
+pub fn replayed<R: Threads + Wait + Copy + Drop + Send + Sync>(
     rt: &R,
     alloc: Global,
     script: &[u8],
@@ -105,7 +105,7 @@ pub fn replayed<R: Threads + Wait + Copy + Sync>(
 }
 
 // Whether a log is that of a legal and causal run.
-fn is_causal<R: Threads + Wait + Copy + Sync>(
+fn is_causal<R: Threads + Wait + Copy + Drop + Send + Sync>(
     rt: &R,
     alloc: Global,
     script: &str,
