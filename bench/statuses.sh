@@ -46,6 +46,7 @@ fields_65() {
   awk 'BEGIN { printf "mama script 1\nqueues 1\ntopic \"T\"\npublisher 0"; for (i = 1; i <= 65; i++) printf " %d:f:u8:1", i; print "\nclient" }' | "$program" serial
 }
 too_long() { head -c 67108866 /dev/zero | "$program" serial; }
+help_full() { "$program" --help > /dev/full; }
 little_memory() { (ulimit -v 60000; head -c 60000000 /dev/zero | "$program" serial); }
 
 # a legal log without a causal order: the queue leaves for the stop of a callback that follows from that leave
@@ -146,6 +147,11 @@ told 4 'mama_run: over limit 8, line 4' fields_65
 told 4 'mama_run: over limit 1, line 0' too_long
 told 5 'mama_run: read fault' unread
 told 6 'mama_run: write fault' full "$examples/first.script"
+told 6 'mama_run: write fault' help_full
+told 0 '' "$program" --version
+printf 'mama_run 1\n' > "$scratch/version"
+wrote "$scratch/version"
+told 0 '' "$program" --help
 told 7 'mama_run: bad log, line 11' without_log
 told 7 'mama_run: bad log, line 5' of_text rewrite 'mama script 1\nqueues 1\nclient\nlog\nmama log 2\n'
 told 3 'mama_run: bad script, line 3, fault 3' of_text rewrite 'mama script 1\nqueues 1\n'
@@ -170,10 +176,16 @@ grep -q '^  8  no memory was found$' "$scratch/usage" || differs 'the usage has 
 told 2 'mama: no-such-file is no command and no file that can be read; ./mama --help says what it does' alone no-such-file
 told 2 'mama: check is of a script and a log; ./mama --help says what it does' alone check "$examples/gap.script"
 told 2 'mama: replay is of a script and a log; ./mama --help says what it does' alone replay "$examples/gap.script"
+told 2 'mama: 18446744073709551616 is no seed: a seed is a number from 0 to 2^64 - 1; ./mama --help says what it does' alone gen 18446744073709551616
+alone gen 18446744073709551615 > "$scratch/out" 2> "$scratch/err"
+[ $? -eq 9 ] || differs 'where nothing can be built the status is not 9'
 
 # and where the program is built, the two files of a check are joined
 told 1 'mama_run: not legal' "$top/mama" check "$examples/gap.script" "$examples/damaged.log"
 wrote "$scratch/late"
+printf 'mama script 1\nqueues 1\nclient' > "$scratch/-cut.script"
+cut_short() (cd "$scratch" && exec "$top/mama" check -cut.script "$examples/gap.log")
+told 3 'mama_run: bad script, line 3, fault 2' cut_short
 told 0 '' "$top/mama" rewrite "$examples/gap.script" "$examples/gap.log"
 cp "$scratch/out" "$scratch/two"
 told 0 '' rewritten "$examples/gap.script" "$examples/gap.log"
