@@ -10,8 +10,6 @@
 
 mod draws;
 mod generating;
-#[cfg(test)]
-mod tests;
 mod text;
 
 pub use generating::{generate, seeds_make_scripts};

@@ -1,4 +1,4 @@
-//! Tests of the texts: words, scripts, limits, and logs line by line.
+//! Tests of the texts: words, scripts, those of seeds, limits, and logs line by line.
 //!
 //! Each table is one text, and each of its lines a row.
 #![tactic(auto)]
@@ -13,5 +13,7 @@ mod logs;
 mod rows;
 #[cfg(test)]
 mod scripts;
+#[cfg(test)]
+mod seeds;
 #[cfg(test)]
 mod words;

@@ -22,8 +22,6 @@ mod groups;
 mod hands;
 mod seat;
 mod serving;
-#[cfg(test)]
-mod tests;
 mod turning;
 mod worker;
 

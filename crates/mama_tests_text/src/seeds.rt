@@ -1,4 +1,5 @@
-use crate::{generate, generated};
+//! The texts of three seeds.
+use mama_gen::{generate, generated};
 use mama_script::print;
 use std::alloc::Global;
 use std::test::Fail;

@@ -2,8 +2,9 @@
 ghost use Rattle.std.specs.Prelude.{⊤, ◌<◌, ◌≤◌};
 ghost use Rattle.mama_edge.specs.declared.gate.GateActor.TheVariants.{Queue};
 
-use super::*;
-use mama_edge::{MemoryClock, OpenGate};
+use mama_edge::{Gate, GateActor, MemoryClock, OpenGate};
+use mama_memory::OutOfMemory;
+use mama_work::{Seat, turn_groups};
 use std::alloc::Global;
 use std::sync::Wait;
 use std::sync::atomic::Ordering::SeqCst;
