@@ -30,10 +30,10 @@ use std::thread;
 use std::thread::Threads;
 
 /// Plays a script on threads: one turns the bridge, one the timer service, at most `workers` the queues, and at most as many the
-/// clients and publishers; one more is the observer's, which here returns at once. A queue begins with the thread of its number modulo those for queues, and moves to one that has nothing
-/// to do. The record has what the groups of the script heard; for listeners of theirs there is [`play_groups`], and for an observer
-/// that reads images meanwhile [`play_observed`]. It returns when all have ended, or when one of them found no memory; that it
-/// returns is not promised.
+/// clients and publishers; one more is the observer's, which here returns at once. A queue begins with the thread of its number
+/// modulo those for queues, and moves to one that has nothing to do. The record has what the groups of the script heard; for
+/// listeners of theirs there is [`play_groups`], and for an observer that reads images meanwhile [`play_observed`]. It returns
+/// when all have ended, or when one of them found no memory; that it returns is not promised.
 ///
 /// The record is legal for the script, whichever thread turned which actor when. So what is promised of legal records is
 /// true of it: each object is told what is meant for it, and nothing after its destroy notice; and an image that is ok is its
@@ -119,8 +119,9 @@ pub fn play_groups<
 /// play, or, where none can be made, on the calling thread at the end. Then the same readers learn what the boards' seals told, and
 /// what they read is the last images of the record.
 ///
-/// No clause says that the observer is called, by the readers of which boards, or when; that it ever returns; that an image which it
-/// reads ever was its subscription's; or that the last images were read. Where the play finds no memory the boards may go while the observer looks, and each look is then refused.
+/// No clause says that the observer is called, with the readers of which boards, or when; that it ever returns; that an image
+/// which it reads ever was its subscription's; or that the last images were read. Where the play finds no memory the boards may
+/// go while the observer looks, and each look is then refused.
 pub fn play_observed<
     L: Listener + Send,
     H: GroupListener + Send,

@@ -57,8 +57,9 @@ impl<L: Listener, H: GroupListener, Rt: Wait + Drop> ShownSeat<L, H, Rt> {
         self.seat.reads_clock()
     }
 
-    /// A turn. That of a queue shows what is still to be shown; or else, where the queue has ended, it seals the board. Else it
-    /// is a turn of the seat with its groups, and a queue then shows the image that it changed.
+    /// A turn. That of a queue shows the next entry that is still to be shown; or else, where the queue has ended, it seals the
+    /// board. Else it is a turn of the seat with its groups, and a queue then shows the image that it changed. A line that reads
+    /// the clock reads `moment`, in milliseconds.
     ///
     /// The error is want of memory, or an event that no actor of a crew puts. Then what was taken is kept, what was not put is
     /// left, and what was not told or shown is still to be, for the next turn.
@@ -86,8 +87,8 @@ impl<L: Listener, H: GroupListener, Rt: Wait + Drop> ShownSeat<L, H, Rt> {
         }
     }
 
-    /// From now on the other seat knows all that this seat has put to it so far, so its turn waits only once it has taken that.
-    /// Where this seat puts nothing to the other, nothing changes. It takes no memory, and always succeeds.
+    /// Lets the other seat know all that this seat has put to it so far. So the other's next turn waits only where it has taken
+    /// that. Where this seat puts nothing to the other, nothing changes. It takes no memory, and always succeeds.
     pub fn inform<R: Copy>(
         &mut self,
         rt: R,

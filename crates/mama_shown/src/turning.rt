@@ -15,8 +15,8 @@ use mama_grouped::{GroupListener, GroupedSeat};
 use mama_memory::OutOfMemory;
 use std::sync::Wait;
 
-/// A turn of the seat of a queue: it shows what is still to be shown; or else, where the queue has ended, it seals the board; or
-/// else it is a turn of the queue, which then shows what that changed.
+/// A turn of the seat of a queue: it shows the next entry that is still to be shown; or else, where the queue has ended, it seals
+/// the board; or else it is a turn of the queue, which then shows what that changed.
 pub(crate) fn turn_queue<L: Listener, H: GroupListener, Rt: Wait + Drop, R: Wait + Copy>(
     seat: &mut GroupedSeat<L, H>,
     showing: &mut Showing<Rt>,

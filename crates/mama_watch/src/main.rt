@@ -15,10 +15,10 @@ use std::{io, thread};
 
 // What is waited for before each line: at least so many images that are ok, and so many that are stale.
 const STAGES: [(u32, u32); 3] = [(1, 0), (3, 0), (0, 1)];
-
+// After so many turns each loop gives up.
 const MOST_TURNS: u64 = 50_000_000;
 
-/// How many lines were printed, and how many turns publisher 1 had.
+/// How many lines were printed or given up, and how many turns publisher 1 had.
 #[derive(Drop)]
 struct Watch<P: Print + Drop> {
     printer: P,
