@@ -189,6 +189,7 @@ fn an_image_is_read_while_the_client_goes_on(rt: HostRuntime) -> Result<(), Fail
     let run = watched(&rt, rt.alloc(), &script, &watch)?;
     assert!(rt; is_causal(rt.alloc(), &script, &run));
     assert!(rt; watch.is_kept());
+    assert_eq!(rt; watch.looks(), (1, 2));
     assert_eq!(rt; (run.images().len(), first_number(&run)), (1, 200));
     Ok(())
 }

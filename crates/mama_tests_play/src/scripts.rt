@@ -59,9 +59,10 @@ sub 0 market 2 10 1000
 sub 1 market 2 10 1000
 "#;
 
-/// A topic whose publisher no one hears, and one with a subscription, of publishers without updates.
+/// A topic whose publisher no one hears, and one with a subscription, of publishers without updates; and a queue with nothing to
+/// do.
 pub const TWO_TOPICS: &str = r#"mama script 1
-queues 1
+queues 2
 topic "EQ.ABC"
 topic "EQ.DEF"
 publisher 0 22:bid:u32:100

@@ -17,12 +17,15 @@ const SUB: SubId = SubId {
     number: 0,
 };
 
-/// Whether the image was seen, how many turns the client had, and whether its second waited until the image was seen.
+/// Whether the image was seen, how many turns the client had, and whether its second waited until the image was seen; how often the
+/// observer was called, and with how many readers.
 #[derive(Drop)]
 pub struct Watch {
     seen: AtomicBool,
     turns: AtomicU64,
     awaited: AtomicBool,
+    looks: AtomicU64,
+    readers: AtomicU64,
 }
 
 impl Watch {
@@ -31,12 +34,25 @@ impl Watch {
             seen: AtomicBool::new(false),
             turns: AtomicU64::new(0),
             awaited: AtomicBool::new(false),
+            looks: AtomicU64::new(0),
+            readers: AtomicU64::new(0),
         }
     }
 
     /// Whether the observer saw the image, and the client's second turn waited for just that.
     pub fn is_kept(&self) -> bool {
         self.seen.load(SeqCst) && self.awaited.load(SeqCst)
+    }
+
+    /// How often the observer was called, and with how many readers.
+    pub fn looks(&self) -> (u64, u64) {
+        (self.looks.load(SeqCst), self.readers.load(SeqCst))
+    }
+
+    // Counts a call with so many readers.
+    fn count_look(&self, readers: usize) {
+        self.looks.fetch_add(1, SeqCst);
+        self.readers.store(readers as u64, SeqCst);
     }
 
     // Waits until the image was seen, for so many turns.
@@ -88,6 +104,7 @@ impl Gate for Watch {
 
 impl Observer for Watch {
     fn look<R: Threads + Copy>(&self, rt: R, readers: &mut [ImageReader]) {
+        self.count_look(readers.len());
         if let Some(reader) = readers.first_mut() {
             self.look_by(rt, reader);
         }
