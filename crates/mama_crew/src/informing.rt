@@ -15,8 +15,8 @@ use mama_event::ToPublisher;
 use mama_memory::OutOfMemory;
 
 impl<L: Listener> Seat<L> {
-    /// From now on the other seat knows all that this seat has put to it so far, so its turn waits only once it has taken that.
-    /// Where this seat puts nothing to the other, nothing changes. It takes no memory, and always succeeds.
+    /// Lets the other seat know all that this seat has put to it so far. So the other's next turn waits only where it has taken
+    /// that. Where this seat puts nothing to the other, nothing changes. It takes no memory, and always succeeds.
     pub fn inform<Rt: Copy>(
         &mut self,
         rt: Rt,

@@ -54,7 +54,8 @@ impl<L: Listener, H: GroupListener> GroupedSeat<L, H> {
     }
 
     /// A turn. That of a queue tells the groups what is still to be told; or else it is a turn of the seat, and the group of the
-    /// turn's subscription is then told, so that nothing is still to be told.
+    /// turn's subscription is then told, so that nothing is still to be told. A line that reads the clock reads `moment`, in
+    /// milliseconds.
     ///
     /// The error is want of memory, or an event that no actor of a crew puts. Then what was taken is kept, what was not put is
     /// left, and what was not told is still to be told, for the next turn.
@@ -81,8 +82,8 @@ impl<L: Listener, H: GroupListener> GroupedSeat<L, H> {
         }
     }
 
-    /// From now on the other seat knows all that this seat has put to it so far, so its turn waits only once it has taken that.
-    /// Where this seat puts nothing to the other, nothing changes. It takes no memory, and always succeeds.
+    /// Lets the other seat know all that this seat has put to it so far. So the other's next turn waits only where it has taken
+    /// that. Where this seat puts nothing to the other, nothing changes. It takes no memory, and always succeeds.
     pub fn inform<R: Copy>(
         &mut self,
         rt: R,
