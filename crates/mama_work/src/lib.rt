@@ -1,7 +1,7 @@
 //! Threads that turn the seats of actors, until all have ended.
 //!
-//! [`turn_groups`] starts a thread for each group of seats, which turns them in rotation; where none of them moves it waits a
-//! little, longer each time, and looks again. A group whose thread could not be started is turned by the calling thread.
+//! [`turn_groups`] starts a thread for each group of seats, which turns them in rotation, up to 64 times each; where none of them
+//! moves it waits a little, longer each time, and looks again. A group whose thread could not be started is turned by the calling thread.
 //!
 //! The seats of queues move: each is a dispatcher, dealt to a hand of a pool, and each hand has a thread. The thread takes a
 //! dispatcher of its own deque, or where it is empty of the next hands' in order, gives it up to 64 turns, and pushes it back to its

@@ -85,7 +85,8 @@ pub(crate) fn steps<S: Seat, C: Clock, G: Gate, Rt: Wait + Copy>(
     Ok(moved)
 }
 
-/// Makes a step of each seat that has not ended, and says whether one moved.
+/// Makes steps of each seat that has not ended, 64 at most, and says whether one moved. So a seat with much to do does not wait
+/// for a look at each other seat behind each of its steps.
 pub(crate) fn round<S: Seat, C: Clock, G: Gate, Rt: Wait + Copy>(
     rt: Rt,
     shared: &Shared<'_, '_, S, C, G>,
@@ -98,7 +99,7 @@ pub(crate) fn round<S: Seat, C: Clock, G: Gate, Rt: Wait + Copy>(
 {
     let mut moved = false;
     for seat in seats.iter_mut() {
-        moved = step(rt, shared, seat)? || moved;
+        moved = steps(rt, shared, seat)? || moved;
     }
     Ok(moved)
 }
