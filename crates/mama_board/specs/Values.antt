@@ -17,8 +17,9 @@ pub record ToldValue : Type 0 where
   pub sets : List ImageSet
   pub last : Bool
 
--- A reader: its queue, the first sets of the board that it has seen, in order, whether it learnt of the seal, and the
--- number of sets below which no look answers.
+-- A reader: its queue, the sets that it has seen, in order, whether it learnt of the seal, and the number of sets below
+-- which no look answers. That sets of which it was not told are the board's own is kept by the rule of the board (`IsKept`),
+-- and nothing here says it.
 pub record ReaderValue : Type 0 where
   pub queue : ℕ
   pub seen : List ImageSet

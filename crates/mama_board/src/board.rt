@@ -85,6 +85,7 @@ impl<Rt: Wait + Drop> Board<Rt> {
     ///
     /// The error is want of memory, whatever the cause: there was none for two copies of the body, all places are taken,
     /// or the board has 2^64 - 1 sets. Readers then see what they saw, and this set may wait to be shown with the next.
+    /// So each call that is refused may leave one more set that waits, and only memory bounds how many do.
     pub fn set<R: Wait + Copy>(
         &mut self,
         rt: R,

@@ -14,12 +14,14 @@ use std::marker::Model;
 
 /// Reads the images of a board, in whatever thread, and never waits for its writer.
 ///
-/// In a clause a reader is a record of its queue, the first sets of the board that it has seen in order, whether it
-/// learnt of the seal, and `least`: no look answers of fewer sets.
+/// In a clause a reader is a record of its queue, the sets that it has seen in order, whether it learnt of the seal, and
+/// `least`: no look answers of fewer sets. Sets of which it was not told are the board's own by the rule of the board, and
+/// no clause says it.
 ///
 /// No clause says that a look succeeds, nor that `least` is never above the number of sets that the board shows: in
-/// fact it never is for a `Told` of the reader's own board. A reader that learns the `Told` of another board with the
-/// same queue number reads that board from then on.
+/// fact it never is for a `Told` of the reader's own board. Where a reader learns the `Told` of another board with the
+/// same queue number it may stay at its own, read the other from then on, or, at a seal of fewer sets than it saw, have
+/// each look refused.
 #[derive(Drop)]
 pub struct ImageReader {
     pub(crate) queue: u32,
@@ -50,7 +52,7 @@ impl ImageReader {
     }
 
     /// From now on no look answers of fewer sets than `told` names, nor than were seen before; where it comes of a seal,
-    /// each look answers of all sets of the board. It takes no memory.
+    /// each look answers of just the sets that it names. It takes no memory.
     pub fn learn(&mut self, told: Told)
         requires { told.queue ≡ self.old.queue }
         ensures learnt { self.new ≡ after_learn self.old told }

@@ -5,8 +5,11 @@ use mama_msg::Msg;
 /// One set of a board: from this set on, these are the head and the body of the subscription's image.
 #[derive(Drop)]
 pub struct ImageSet {
+    /// The subscription whose image is replaced.
     pub sub: SubId,
+    /// Whose record the image is, the last update in it, and its quality.
     pub head: ImageHead,
+    /// The fields of the image.
     pub body: Msg,
 }
 

@@ -2,13 +2,16 @@
 //! without ever waiting for it.
 //!
 //! [`open_board`] makes a [`Board`] and its [`ImageReader`]. The board is a list of sets ([`ImageSet`]), which only grows:
-//! [`Board::set`] shows one set more at one step, and [`Board::seal`] says that no set follows. Each of the two answers a
-//! [`Told`], which names the sets so far and goes to whatever thread its caller likes. For every schedule of threads:
+//! [`Board::set`] shows one set more, behind those that were refused, and [`Board::seal`] says that no set follows. Each of
+//! the two answers a [`Told`], which names the sets so far and goes to whatever thread its caller likes. For every schedule
+//! of threads:
 //!
-//! - What a reader answers of a subscription is its row after the first k sets of the board, for one k: the last of
-//!   these sets that names it, or none (`row` of `specs/Rows.antt`).
-//! - k is never smaller than at an earlier look of this reader, nor than the number of sets that a `Told` names which
-//!   the reader learnt ([`ImageReader::learn`]). Once it learnt the `Told` of a seal, k is all sets of the board.
+//! - What a reader answers of a subscription is its row after the sets that it has seen: the last of these that names it,
+//!   or none (`row` of `specs/Rows.antt`). From look to look these only grow.
+//! - From a `Told` that it learnt on ([`ImageReader::learn`]) they begin with the sets which that names, or are no fewer.
+//!   Once it learnt the `Told` of a seal they are those which that names, and stay so.
+//! - The sets that a `Told` names are the board's. That those of which a reader was not told are the board's own too is
+//!   kept by the rule below, and no clause says it; nor that a set and those that waited come into sight at one step.
 //! - A look takes no lock and waits for nobody. `set` and `seal` wait for readers that still look at what was shown
 //!   before the last step. So the images cannot stand behind a lock: to take one wants a `Wait`, which `fixed` and `read`
 //!   are not given, and such a body does not compile.
