@@ -1,8 +1,10 @@
 // The steps of the passes of a deque and of its tally, as their views see them.
-ghost use Rattle.std.specs.Prelude.{◌≡◌, ◌+◌, ◌<◌, ◌≤◌, ◌++◌, ◌∷◌, [], List, map, OnOk, OnErr, IfErr, IfSome, IfNone, if◌then◌else◌, true, false};
+ghost use Rattle.std.specs.Prelude.{◌≡◌, ◌+◌, ◌<◌, ◌≤◌, ◌++◌, ◌∷◌, [], List, map, OnOk, OnErr, IfErr, IfSome, IfNone, MatchResult, if◌then◌else◌, true, false, nat_eq};
+ghost use lib.Pointwise.{pointwise};
 ghost use Rattle.crossbeam_deque.specs.Handles.{view, IsPassOf, worker_deque, stealer_deque, worker_port, worker_view};
+ghost use Rattle.crossbeam_utils.specs.Register.{Turns, Forks, Merges};
 ghost use Rattle.crossbeam_utils.specs.Seq.{cell_view};
-ghost use Rattle.mama_pool.specs.Rule.{AreSettled, IsSettled};
+ghost use Rattle.mama_pool.specs.Rule.{AreSettled, IsSettled, Tallied};
 ghost use Rattle.mama_pool.specs.Steps.{blank, without_share, one_share, with_push, with_take, joined, without_part, one_part, with_counts, with_known, noted, with_learnt, added};
 
 use crate::numbered::Numbered;
@@ -10,8 +12,11 @@ use crate::rule::{
     Add, DequePass, Home, JoinDeque, JoinTally, Learn, Look, Push, Reach, Read, Renew, ShareDeque,
     ShareTally, Take, Tally, TallyPass, Tell,
 };
+use crate::view::Count;
+use atomic_table::{Join, Split};
 use crossbeam_deque::Steal;
 use crossbeam_utils::Backoff;
+use crossbeam_utils::rule::Outcome as CellOutcome;
 use std::sync::Wait;
 
 /// Gives a share in the deque away.
@@ -73,6 +78,61 @@ pub fn settle_deque<D: Numbered>(home: &mut Home<D>)
     let _left = home.len_as::<JoinDeque>();
 }
 
+// Reads the words of the tally, by a step that keeps the rule.
+//
+// This function and the next three take the step as a parameter, and say of it what the cell's own methods say. At a known
+// step a call of such a method takes up to half a minute to check, and a call of these functions next to nothing.
+fn read_words<M: CellOutcome<[u64; 2], Count>, R: Wait>(
+    rt: &R,
+    tally: &Tally,
+    pass: &mut TallyPass,
+) -> [u64; 2]
+    requires pass { pass.old.table_id ≡ tally.now.table.shared.table_id }
+    requires rule { Turns Tallied pass.old.id (cell_view pass.old) (λ x. x) M.then }
+    ensures pass { pass.new.table_id ≡ pass.old.table_id }
+    ensures told { M.then (cell_view pass.old) result result (cell_view pass.new) }
+{
+    tally.load_as::<M, R>(rt, pass)
+}
+
+// Changes the words of the tally where they are as they were seen, by a step that keeps the rule.
+fn exchange_words<M: CellOutcome<[u64; 2], Count>, R: Wait>(
+    rt: &R,
+    tally: &Tally,
+    pass: &mut TallyPass,
+    seen: [u64; 2],
+    new: [u64; 2],
+) -> Result<[u64; 2], [u64; 2]>
+    requires pass { pass.old.table_id ≡ tally.now.table.shared.table_id }
+    requires rule { Turns Tallied pass.old.id (cell_view pass.old) (λ x. if pointwise nat_eq x seen then new else x) M.then }
+    ensures pass { pass.new.table_id ≡ pass.old.table_id }
+    ensures told { MatchResult result (λ x. (pointwise nat_eq x seen ≡ true) × M.then (cell_view pass.old) x new (cell_view pass.new)) (λ x. (pointwise nat_eq x seen ≡ false) × M.then (cell_view pass.old) x x (cell_view pass.new)) }
+{
+    tally.compare_exchange_as::<M, R>(rt, pass, seen, new)
+}
+
+// A pass of the tally gives a new one what it knows, or a part of it, by a step that keeps the rule.
+fn split_passes<M: Split<Count>>(tally: &Tally, pass: &mut TallyPass) -> TallyPass
+    requires pass { pass.old.table_id ≡ tally.now.table.shared.table_id }
+    requires rule { Forks Tallied pass.old.id (cell_view pass.old) (M.left (cell_view pass.old)) (M.right (cell_view pass.old)) }
+    ensures pass { pass.new.table_id ≡ pass.old.table_id }
+    ensures left { cell_view pass.new ≡ M.left (cell_view pass.old) }
+    ensures right { (result.table_id ≡ pass.old.table_id) × (result.me.1 ≡ []) × (cell_view result ≡ M.right (cell_view pass.old)) }
+{
+    tally.split_pass::<M>(pass)
+}
+
+// A pass of the tally takes in another, by a step that keeps the rule.
+fn join_passes<M: Join<Count>>(tally: &Tally, pass: &mut TallyPass, other: TallyPass)
+    requires pass { pass.old.table_id ≡ tally.now.table.shared.table_id }
+    requires other { (other.table_id ≡ tally.now.table.shared.table_id) × (other.me.1 ≡ []) }
+    requires rule { Merges Tallied pass.old.id (cell_view pass.old) other.id (cell_view other) (M.both (cell_view pass.old) (cell_view other)) M.spent }
+    ensures pass { pass.new.table_id ≡ pass.old.table_id }
+    ensures told { cell_view pass.new ≡ M.both (cell_view pass.old) (cell_view other) }
+{
+    tally.join_pass::<M>(pass, other);
+}
+
 /// Gives a share in the tally away.
 pub fn share_tally(tally: &Tally, pass: &mut TallyPass) -> TallyPass
     requires pass { pass.old.table_id ≡ tally.now.table.shared.table_id }
@@ -81,7 +141,7 @@ pub fn share_tally(tally: &Tally, pass: &mut TallyPass) -> TallyPass
     ensures view { cell_view pass.new ≡ without_part (cell_view pass.old) }
     ensures share { (result.table_id ≡ pass.old.table_id) × (cell_view result ≡ one_part (cell_view pass.old)) }
 {
-    tally.split_pass::<ShareTally>(pass)
+    split_passes::<ShareTally>(tally, pass)
 }
 
 // Counts so many pushes and takes more, unless another thread came between or the count is full.
@@ -92,15 +152,13 @@ fn try_count<R: Wait>(rt: &R, tally: &Tally, pass: &mut TallyPass, pushes: u64, 
     ensures pass { pass.new.table_id ≡ pass.old.table_id }
     ensures view { cell_view pass.new ≡ (if result then with_counts (cell_view pass.old) pushes takes else cell_view pass.old) }
 {
-    let seen = tally.load_as::<Read, R>(rt, pass);
+    let seen = read_words::<Read, R>(rt, tally, pass);
     let [old_pushes, old_takes] = seen;
     if old_pushes == u64::MAX || old_takes == u64::MAX {
         return false;
     }
     let new = [old_pushes + pushes, old_takes + takes];
-    tally
-        .compare_exchange_as::<Add, R>(rt, pass, seen, new)
-        .is_ok()
+    exchange_words::<Add, R>(rt, tally, pass, seen, new).is_ok()
 }
 
 /// Counts so many pushes and takes more, of which there is at most one each. After 2^64 - 1 it waits for ever.
@@ -131,7 +189,7 @@ pub fn look<R: Wait>(rt: &R, tally: &Tally, pass: &mut TallyPass) -> Option<u64>
     ensures known { IfSome result (λ taken. (cell_view pass.old).known ≤ taken) }
     ensures none { IfNone result (cell_view pass.new ≡ cell_view pass.old) }
 {
-    let [pushes, takes] = tally.load_as::<Look, R>(rt, pass);
+    let [pushes, takes] = read_words::<Look, R>(rt, tally, pass);
     if pushes <= takes { Some(takes) } else { None }
 }
 
@@ -142,7 +200,7 @@ pub fn tell(tally: &Tally, pass: &mut TallyPass) -> TallyPass
     ensures view { cell_view pass.new ≡ cell_view pass.old }
     ensures note { (result.table_id ≡ pass.old.table_id) × (result.me.1 ≡ []) × (cell_view result ≡ noted (cell_view pass.old)) }
 {
-    tally.split_pass::<Tell>(pass)
+    split_passes::<Tell>(tally, pass)
 }
 
 /// The pass keeps what the note names, if that is more than it had learnt of.
@@ -153,7 +211,7 @@ pub fn learn(tally: &Tally, pass: &mut TallyPass, note: TallyPass)
     ensures pass { pass.new.table_id ≡ pass.old.table_id }
     ensures view { cell_view pass.new ≡ with_learnt (cell_view pass.old) (cell_view note) }
 {
-    tally.join_pass::<Learn>(pass, note);
+    join_passes::<Learn>(tally, pass, note);
 }
 
 /// The pass takes in another's share and counts.
@@ -163,8 +221,8 @@ pub fn join_tally(tally: &Tally, pass: &mut TallyPass, mut other: TallyPass)
     ensures pass { pass.new.table_id ≡ pass.old.table_id }
     ensures view { cell_view pass.new ≡ added (cell_view pass.old) (cell_view other) }
 {
-    let whole = tally.split_pass::<Renew>(&mut other);
-    tally.join_pass::<JoinTally>(pass, whole);
+    let whole = split_passes::<Renew>(tally, &mut other);
+    join_passes::<JoinTally>(tally, pass, whole);
 }
 
 /// The counts are those of the pass that has all shares.
@@ -173,5 +231,5 @@ pub fn settle_tally<R: Wait>(rt: &R, tally: &Tally, pass: &mut TallyPass)
     requires whole { (cell_view pass.old).shares ≡ 65 }
     ensures { (words : List _) × IsSettled (cell_view pass.old) words }
 {
-    let _counts = tally.load_as::<JoinTally, R>(rt, pass);
+    let _counts = read_words::<JoinTally, R>(rt, tally, pass);
 }

@@ -2,8 +2,8 @@ use Rattle.std.proofs.Common.{rules}
 use Rattle.mama_pool.proofs.Tallies.{reads, adds}
 use Rattle.mama_pool.proofs.steps.try_count.Goals as goal
 
-pub load_as-seen-requires : goal.load_as-seen-requires
-load_as-seen-requires g c = (search rules, (search rules, (search rules, reads _ _)))
+pub read_words-seen-requires-clause-rule : goal.read_words-seen-requires-clause-rule
+read_words-seen-requires-clause-rule g c = reads _ _
 
-pub compare_exchange_as-requires : goal.compare_exchange_as-requires
-compare_exchange_as-requires g c = (search rules, (search rules, (search rules, adds _ _ _ _ (search rules) (search rules) (search rules))))
+pub exchange_words-requires-clause-rule : goal.exchange_words-requires-clause-rule
+exchange_words-requires-clause-rule g c = adds _ _ _ _ (search rules) (search rules) (search rules)
