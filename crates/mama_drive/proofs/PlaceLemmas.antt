@@ -1,13 +1,14 @@
 -- One place of a run after another: what of its rounds was done.
-use Rattle.std.proofs.Common.{◌≡◌, ℕ, ◌+◌, ◌<◌, ◌≤◌, Bool, true, List, [], ◌++◌, length, refl, sym, ◌∙◌, ap, arith, subst}
+use Rattle.std.proofs.Common.{◌≡◌, ℕ, zero, suc, ◌+◌, ◌-◌, ◌<◌, ◌≤◌, Bool, true, List, [], ◌++◌, map, length, get_or, refl, sym, ◌∙◌, ap, arith, subst}
 use Rattle.std.specs.Prelude.{Option, Some, None, IfSome, Result, Ok, Err, IfOk, OnOk, OnErr}
 use Rattle.mama_event.specs.Ports.{clients_of, publishers_of}
 use Rattle.mama_script.specs.Script.{ScriptData}
 use Rattle.mama_record.specs.RunData.{RunData}
 use Rattle.mama_rules_rounds.specs.Client.{Planned}
 use Rattle.mama_rules_rounds.specs.World.{Setting, IsQuiet}
-use Rattle.mama_rules_rounds.specs.Stage.{Stage, client_step, publisher_step, IsOneRound}
+use Rattle.mama_rules_rounds.specs.Stage.{Stage, client_step, publisher_step, publisher_stepped, IsOneRound}
 use Rattle.mama_rules_rounds.specs.Round.{setting_of, IsRound}
+use Rattle.mama_seats.specs.Sender.{steps_in}
 use Rattle.mama_seats.specs.Stand.{Stand}
 use Rattle.mama_seats.specs.Moments.{AreHeard}
 use Rattle.mama_drive.specs.declared.turn.Turn.{Turn}
@@ -15,7 +16,7 @@ use Rattle.mama_drive.specs.declared.turn.Turn.TheVariants as turn
 use Rattle.mama_drive.specs.declared.place.Place.{Place}
 use Rattle.mama_drive.specs.declared.recording.Parts.{Parts}
 use Rattle.mama_drive.specs.declared.place.Place.TheVariants as place
-use Rattle.mama_drive.specs.Scene.{Scene, Advances, Stepped, SteppedAll, Plays, IsPlayed, AreMoments, world_in}
+use Rattle.mama_drive.specs.Scene.{Scene, Advances, Stepped, SteppedOut, SteppedAll, Plays, ArePassed, IsPlayed, AreMoments, setting_in, world_in, stage_in}
 use Rattle.mama_drive.specs.Heard.{Hears, StepRead, StepsRead, HearsRounds, left_behind}
 use Rattle.mama_drive.specs.Start.{started}
 use Rattle.mama_drive.specs.Record.{recorded}
@@ -25,8 +26,9 @@ use Rattle.mama_drive.specs.Parts.{ArePartsOf}
 use Rattle.mama_drive.specs.Place.{AreMade, StandsAt, GoesTo, GoesHearing, IsEnd}
 use Rattle.mama_drive.specs.Course.{Course, IsUnderWay, IsGoneOn}
 use Rattle.mama_drive.proofs.GrownLemmas.{grown_same, grown_then, grown_is, has_grown, client_step_grown, sender_step_grown}
+use Rattle.mama_drive.proofs.TurnLemmas.{passes_none}
 use Rattle.mama_drive.proofs.TurnsLemmas.{draining_none, drained}
-use Rattle.mama_drive.proofs.StageLemmas.{steps_none, steps_more, drained_on, round_made, plays_none, plays_more, if_ok}
+use Rattle.mama_drive.proofs.StageLemmas.{advances_none, steps_none, steps_more, drained_on, round_made, plays_none, plays_more, if_ok}
 use Rattle.mama_drive.proofs.RestLemmas.{plays_then}
 use Rattle.mama_drive.proofs.ClockLemmas.{answered_none, answered_then, answered_first, answered_later, left_none, left_then, steps_heard_none, steps_heard_more, round_heard, rounds_heard_none, rounds_heard_then, one_round_heard, run_heard}
 use Rattle.mama_drive.proofs.StartLemmas.{starts}
@@ -192,6 +194,47 @@ sender_steps n o a b within step clients = record {
   moments = λ ms h. subst (AreMoments ms) clients h;
   grown = sender_step_grown n a b step;
 }
+
+-- a publisher that has no step left does nothing
+sender_passed : (n : ℕ) (a : Scene) → get_or (map steps_in a.senders) n [] ≡ [] → Advances (Stepped publisher_step n) a a
+sender_passed n a none = advances_none (Stepped publisher_step n) a (λ ms. sym (ap (publisher_stepped (setting_in a) n (stage_in ms a)) none))
+
+-- so many of them, where nothing waits
+senders_still : (mid a : Scene) (n k : ℕ) → (0 < k → IsQuiet (world_in a)) → ((p : ℕ) → p < k + n → n ≤ p → get_or (map steps_in a.senders) p [] ≡ [])
+    → Advances (SteppedAll publisher_step n) mid a → Advances (SteppedAll publisher_step (k + n)) mid a
+senders_still mid a n zero quiet none steps =
+    let none_more : n ≡ 0 + n = omega arith in
+    subst (λ j. Advances (SteppedAll publisher_step j) mid a) none_more steps
+senders_still mid a n (suc k) quiet none steps =
+    let one_more : (k + n) + 1 ≡ suc k + n = omega arith in
+    let waits : IsQuiet (world_in a) = quiet (omega arith) in
+    let before : Advances (SteppedAll publisher_step (k + n)) mid a = senders_still mid a n k (λ more. waits) (λ p low high. none p (omega (arith, low)) high) steps in
+    let step : Advances (SteppedOut publisher_step (k + n)) a a =
+    drained_on publisher_step (k + n) a a a (sender_passed (k + n) a (none (k + n) (omega arith) (omega arith))) (record { passes = passes_none a; quiet = waits }) in
+    subst (λ j. Advances (SteppedAll publisher_step j) mid a) one_more (steps_more publisher_step mid a a (k + n) before step)
+
+pub senders_passed : (n m : ℕ) (o : Option (List ℕ)) (a : Scene) → (n ≤ publishers_of a.shape → ArePassed n m a) → GoesTo o o (place.Publisher n) a (place.Publisher m) a
+senders_passed n m o a passed = moved o (place.Publisher n) (place.Publisher m) a
+    (λ first from h.
+    let p = h.did.did in
+    let count : publishers_of a.shape ≡ publishers_of h.did.mid.shape = same_publishers (SteppedAll publisher_step n) h.did.mid a p.steps in
+    let d : ArePassed n m a = passed (let k : n ≤ publishers_of a.shape = omega (arith, p.within, count) in k) in
+    let whole : (m - n) + n ≡ m = omega (arith, d.above) in
+    record {
+      round = h.round;
+      then_left = h.then_left;
+      made = h.made;
+      did = record {
+        mid = h.did.mid;
+        clients = h.did.clients;
+        did = record {
+          within = let k : m ≤ publishers_of h.did.mid.shape = omega (arith, d.within, count) in k;
+          steps = subst (λ k. Advances (SteppedAll publisher_step k) h.did.mid a) whole
+              (senders_still h.did.mid a n (m - n) (λ more. d.quiet (let k : n < m = omega (arith, more) in k)) (λ q low high. d.over q (subst (λ k. q < k) whole low) high) p.steps);
+          clients = p.clients;
+        };
+      };
+    })
 
 pub round_ends : (n count : ℕ) (o : Option (List ℕ)) (a : Scene) → count ≤ n → count ≡ publishers_of a.shape → GoesTo o o (place.Publisher n) a place.Rounds a
 round_ends n count o a past shape = moved o (place.Publisher n) place.Rounds a

@@ -3,7 +3,7 @@ use Rattle.std.proofs.Common.{◌≡◌, ℕ, zero, suc, ◌+◌, ◌-◌, ◌<�
 use Rattle.std.specs.Prelude.{replicate, nat_le}
 use Rattle.std.specs.List.{list_all}
 use Rattle.std.proofs.Math.ListN.{set}
-use Rattle.std.proofs.lemmas.List.{length-map}
+use Rattle.std.proofs.lemmas.List.{length-map, get_or-map}
 use Rattle.std.proofs.lemmas.Grind.{common_steps}
 use Rattle.mama_event.specs.Ports.{clients_of, publishers_of}
 use Rattle.mama_event.specs.declared.publisher_entry.PublisherEntry.{PublisherEntry}
@@ -14,7 +14,7 @@ use Rattle.mama_rules_rounds.specs.Round.{publisher_steps}
 use Rattle.mama_rules_rounds.specs.Stage.{Stage, IsStageDrained, AreSteps, IsOneRound, AreRounds, client_step, publisher_step, entries_done}
 use Rattle.mama_seats.specs.Sender.{Sender, first_step, later_steps, steps_in, steps_after}
 use Rattle.mama_seats.specs.Stand.{Stand, client_left, left_after, standing_in, reading}
-use Rattle.mama_drive.specs.Scene.{Scene, Advances, Rounds, Plays, CanRest, AreMoments, AllEnd, lefts, setting_in, world_in, stage_in, script_in, entries_in, lane_in, rested, rested_stand, rested_sender}
+use Rattle.mama_drive.specs.Scene.{Scene, Advances, Rounds, Plays, ArePassed, CanRest, AreMoments, AllEnd, lefts, setting_in, world_in, stage_in, script_in, entries_in, lane_in, rested, rested_stand, rested_sender}
 use Rattle.mama_drive.proofs.LaneLemmas.{append_nil}
 use Rattle.mama_drive.proofs.StageLemmas.{stepped_by, sender_stepped_by, advances_then}
 
@@ -332,3 +332,29 @@ pub journals_rest : (s old : Scene) (k : ℕ) (clients : List Stand) (senders : 
     → world_in (record s { clients = clients; senders = senders }) ≡ world_in old
 journals_rest s old k clients senders is senders_are =
     ap (λ (l : List Sender). world_in (record s { clients = clients; senders = l })) senders_are ∙ world_rests k s ∙ ap world_in is
+
+-- PUBLISHERS THAT ARE PASSED OVER
+
+-- one that is over has no step left
+pub over_at : (ss : List Sender) (n : ℕ) (x : Sender) → n < length ss → x ≡ get_or ss n x → x.over ≡ true → get_or (map steps_in ss) n [] ≡ []
+over_at ss n x within at over = get_or-map steps_in ss n x [] within ∙ ap steps_in (sym at) ∙ ap (λ o. steps_after o x.pause x.lines) over
+
+-- none is passed over
+pub passed_none : (from : ℕ) (s : Scene) → from ≤ publishers_of s.shape → ArePassed from from s
+passed_none from s within = record {
+  above = let h : from ≤ from = omega arith in h;
+  within = within;
+  quiet = λ more. absurd (omega (arith, more));
+  over = λ n low high. absurd (omega (arith, low, high));
+}
+
+pub passed_by : (from next : ℕ) (s old : Scene) → s ≡ old → length s.senders ≡ publishers_of s.shape → IsQuiet (world_in old) → next ≤ length s.senders
+    → (from ≤ length s.senders → from ≤ next) → ((n : ℕ) → n < next → from ≤ n → get_or (map steps_in s.senders) n [] ≡ []) → from ≤ publishers_of old.shape → ArePassed from next old
+passed_by from next s old is counted quiet within above over begins =
+    let count : length s.senders ≡ publishers_of old.shape = counted ∙ ap (λ (o : Scene). publishers_of o.shape) is in
+    record {
+      above = above (let h : from ≤ length s.senders = omega (arith, begins, count) in h);
+      within = let h : next ≤ publishers_of old.shape = omega (arith, within, count) in h;
+      quiet = λ more. quiet;
+      over = λ n low high. ap (λ (o : Scene). get_or (map steps_in o.senders) n []) (sym is) ∙ over n low high;
+    }

@@ -1,5 +1,5 @@
 -- Turns and steps of a run, once what was held is on its lanes.
-use Rattle.std.proofs.Common.{◌≡◌, ℕ, true, List, length, map, refl, sym, ◌∙◌, ap, subst}
+use Rattle.std.proofs.Common.{◌≡◌, ℕ, ◌≤◌, true, List, length, map, refl, sym, ◌∙◌, ap, subst}
 use Rattle.std.specs.Prelude.{Option, nat_le, ◌||◌}
 use Rattle.std.specs.List.{list_all}
 use Rattle.mama_event.specs.Ports.{clients_of, publishers_of, queues_of, queue_port_of_bridge, queue_port_of_timers}
@@ -12,7 +12,7 @@ use Rattle.mama_rules_rounds.specs.Stage.{Stage}
 use Rattle.mama_seats.specs.Stand.{Stand}
 use Rattle.mama_seats.specs.Server.{all_told}
 use Rattle.mama_drive.specs.declared.held.Held.{Held}
-use Rattle.mama_drive.specs.Scene.{Scene, Moves, Advances, Rounds, Plays, rested_stand, setting_in, world_in}
+use Rattle.mama_drive.specs.Scene.{Scene, Moves, Advances, Rounds, Plays, ArePassed, rested_stand, setting_in, world_in}
 use Rattle.mama_drive.specs.Heard.{Hears, StepRead, HearsRounds}
 use Rattle.mama_drive.specs.Held.{seen, lay_put, lay_out, with_note, with_event}
 use Rattle.mama_drive.proofs.HeldLemmas.{settled, seen_keeps, length_kept}
@@ -95,6 +95,14 @@ shape_seen_senders h s old is = ap publishers_of (shape_seen h s old is)
 
 pub shape_seen_servers : (h : Held) (s old : Scene) → seen h s ≡ old → queues_of s.shape ≡ queues_of old.shape
 shape_seen_servers h s old is = ap queues_of (shape_seen h s old is)
+
+-- PUBLISHERS THAT ARE PASSED OVER
+
+pub passed_seen : (h : Held) (s old : Scene) (from next : ℕ) → seen h s ≡ old → ((t : Scene) → seen h t ≡ t)
+    → (from ≤ publishers_of s.shape → ArePassed from next s) → from ≤ publishers_of old.shape → ArePassed from next old
+passed_seen h s old from next is clear passed = subst (λ (o : Scene). from ≤ publishers_of o.shape → ArePassed from next o) (sym (clear s) ∙ is) passed
+
+-- WHETHER A RECORD CAN BE MADE
 
 ready_put : (x : BridgePut) (s : Scene) → (lay_put x s).ready ≡ s.ready
 ready_put (to_publisher p note) s = refl

@@ -1,5 +1,5 @@
 -- inner: The system on one thread, as its seats and lanes, and the stage of the run that it is.
-use Rattle.std.specs.Prelude.{◌≡◌, ℕ, ◌-◌, ◌^◌, ◌<◌, nat_le, Bool, true, false, ◌||◌, List, [], ◌∷◌, ◌++◌, map, length, slice_index_or, slice_set}
+use Rattle.std.specs.Prelude.{◌≡◌, ℕ, ◌-◌, ◌^◌, ◌<◌, ◌≤◌, nat_le, Bool, true, false, ◌||◌, List, [], ◌∷◌, ◌++◌, map, length, slice_index_or, slice_set}
 use Rattle.std.specs.List.{flat_map, list_all}
 use Rattle.std.specs.BTreeSet.{BTreeSet}
 use Rattle.mama_journal.specs.Lane.{from_port, by_port}
@@ -213,6 +213,14 @@ pub record CanRest (k : ℕ) (s : Scene) : Type 0 where
   pub quiet : IsQuiet (world_in s)
   pub clients : list_all (λ (c : Stand). c.over || nat_le k c.pause) s.clients ≡ true
   pub publishers : list_all (λ (p : Sender). p.over || nat_le k p.pause) s.senders ≡ true
+
+-- From a number on the publishers before another are passed over: where there are any, nothing waits, and none of them has a
+-- step left.
+pub record ArePassed (from next : ℕ) (s : Scene) : Type 0 where
+  pub above : from ≤ next
+  pub within : next ≤ publishers_of s.shape
+  pub quiet : from < next → IsQuiet (world_in s)
+  pub over : (n : ℕ) → n < next → from ≤ n → slice_index_or (map steps_in s.senders) n [] ≡ []
 
 -- each passes over so many steps
 abbrev pub rested : ℕ → Scene → Scene

@@ -72,14 +72,15 @@ fn after_client(run: &mut Run, next: u32, turn: Turn) -> Result<Place, OutOfMemo
     Ok(Place::AfterClient(next, next_turn(run, turn)?))
 }
 
-/// A publisher's step, if there is one of this number.
+/// The step of the next publisher from this number on, if there is one. Those that have made all their steps are passed over.
 fn publisher(run: &mut Run, number: u32) -> Result<Place, OutOfMemory>
     ensures on { IfOk result (λ next. (o : Option (List ℕ)) → GoesTo o o (places.Publisher number) run.old next run.new) }
     ensures err { OnErr result (run.new ≡ run.old) }
 {
-    if number < run.publisher_count() {
-        run.sender_turn(number)?;
-        return Ok(Place::AfterPublisher(number + 1, Turn::Bridge));
+    let next = run.next_sender(number);
+    if next < run.publisher_count() {
+        run.sender_turn(next)?;
+        return Ok(Place::AfterPublisher(next + 1, Turn::Bridge));
     }
     Ok(Place::Rounds)
 }

@@ -1,6 +1,8 @@
-ghost use Rattle.std.specs.Prelude.{◌≡◌, ◌||◌, nat_le, map, true};
+ghost use Rattle.std.specs.Prelude.{◌≡◌, ◌||◌, ℕ, ◌<◌, ◌≤◌, [], nat_le, map, length, slice_index_or, true};
 ghost use Rattle.std.specs.List.{list_all};
-ghost use Rattle.mama_drive.specs.Scene.{Advances, Rounds, CanRest, rested_stand, rested_sender, IsPlayed, world_in};
+ghost use Rattle.mama_event.specs.Ports.{publishers_of};
+ghost use Rattle.mama_seats.specs.Sender.{steps_in};
+ghost use Rattle.mama_drive.specs.Scene.{Advances, Rounds, ArePassed, CanRest, rested_stand, rested_sender, IsPlayed, world_in};
 
 use crate::system::System;
 use mama_seats::{ClientSeat, PublisherSeat};
@@ -13,17 +15,33 @@ impl<'a> System<'a> {
         are_clients_over(self.clients.as_slice()) && are_publishers_over(self.publishers.as_slice())
     }
 
-    /// How many rounds are surely left in which every client and every publisher pauses.
+    /// The first publisher from this number on that has not made all its steps, or their count, where nothing waits;
+    /// otherwise this number.
+    pub(crate) fn next_sender(&self, from: u32) -> u32
+        ensures { from ≤ publishers_of self.now.shape → ArePassed from result self.now }
+    {
+        if !self.is_quiet() {
+            return from;
+        }
+        next_left(self.publishers.as_slice(), from as usize) as u32
+    }
+
+    /// How many rounds are surely left in which every client and every publisher pauses. The first that does not ends the
+    /// search.
     pub(crate) fn pause(&self) -> u32 {
         let mut least = u32::MAX;
         for seat in &self.clients {
-            if let Some(pause) = seat.pause() {
-                least = least.min(pause);
+            match seat.pause() {
+                Some(0) => return 0,
+                Some(pause) => least = least.min(pause),
+                None => {}
             }
         }
         for seat in &self.publishers {
-            if let Some(pause) = seat.pause() {
-                least = least.min(pause);
+            match seat.pause() {
+                Some(0) => return 0,
+                Some(pause) => least = least.min(pause),
+                None => {}
             }
         }
         least
@@ -52,6 +70,20 @@ impl<'a> System<'a> {
         rest_clients(&mut self.clients, rounds);
         rest_publishers(&mut self.publishers, rounds);
     }
+}
+
+/// The first publisher from this number on that has not made all its steps, or their count.
+fn next_left(seats: &[PublisherSeat], from: usize) -> usize
+    ensures within { result ≤ length seats.now }
+    ensures above { from ≤ length seats.now → from ≤ result }
+    ensures over { (n : ℕ) → n < result → from ≤ n → slice_index_or (map steps_in seats.now) n [] ≡ [] }
+{
+    for next in from..seats.len() {
+        if !seats[next].is_over() {
+            return next;
+        }
+    }
+    seats.len()
 }
 
 /// Whether in as many steps no client does anything.

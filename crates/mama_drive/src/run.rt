@@ -1,10 +1,10 @@
-ghost use Rattle.std.specs.Prelude.{◌≡◌, ◌+◌, ◌^◌, ◌<◌, length, true, IfSome, IfOk, OnOk, OnErr};
+ghost use Rattle.std.specs.Prelude.{◌≡◌, ◌+◌, ◌^◌, ◌<◌, ◌≤◌, length, true, IfSome, IfOk, OnOk, OnErr};
 ghost use Rattle.mama_event.specs.Ports.{clients_of, publishers_of, queues_of};
 ghost use Rattle.mama_rules_rounds.specs.World as world;
 ghost use Rattle.mama_rules_rounds.specs.Stage as stage;
 ghost use Rattle.mama_drive.specs.Heard.{Hears, StepRead};
 ghost use Rattle.mama_drive.specs.Marks.{IsNextOf};
-ghost use Rattle.mama_drive.specs.Scene.{setting_in, world_in, Moves, Advances, Stepped};
+ghost use Rattle.mama_drive.specs.Scene.{setting_in, world_in, Moves, Advances, Stepped, ArePassed};
 
 use crate::held::{Held, settle};
 use crate::laws::lawful_runs_serve;
@@ -111,6 +111,17 @@ impl<'a> Run<'a> {
         let held = self.system.sender_turn(number)?;
         self.held = held;
         Ok(())
+    }
+
+    /// The first publisher from this number on that has not made all its steps, or their count, where nothing waits and
+    /// nothing is held; otherwise this number. So those that are over cost a look each, and no turn.
+    pub(crate) fn next_sender(&self, from: u32) -> u32
+        ensures { from ≤ publishers_of self.now.shape → ArePassed from result self.now }
+    {
+        if !self.held.is_empty() {
+            return from;
+        }
+        self.system.next_sender(from)
     }
 
     /// The next publisher from this number on for whom an event may wait, once what is held lies on its lanes. Nothing that
