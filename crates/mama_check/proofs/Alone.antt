@@ -13,7 +13,7 @@ use Rattle.mama_script.specs.declared.client.QueueWord.{QueueWord}
 use Rattle.mama_script.specs.declared.client.QueueWord.TheVariants.{Number, Any}
 use Rattle.mama_script.specs.Script.{ScriptData}
 use Rattle.mama_rules_rounds.specs.Client.{Planned, Standing, at_first, after_word, after_line, line_object, objects_from}
-use Rattle.mama_rules_rounds.specs.Round.{is_sub, is_timer, is_inbox, by_kind, setting_of, objects_of}
+use Rattle.mama_rules_rounds.specs.Sections.{is_sub, is_timer, is_inbox, by_kind, setting_of, objects_of}
 
 -- an object is this subscription
 abbrev pub names : SubId → Planned → Bool

@@ -6,7 +6,7 @@ use Rattle.mama_event.specs.declared.ids.ObjectId.{ObjectId}
 use Rattle.mama_script.specs.Script.{ScriptData}
 use Rattle.mama_record.specs.RunData.{RunData}
 use Rattle.mama_rules_rounds.specs.Client.{Planned}
-use Rattle.mama_rules_rounds.specs.Round.{setting_of}
+use Rattle.mama_rules_rounds.specs.Sections.{setting_of}
 use Rattle.mama_check.specs.First.{IsFirst}
 use Rattle.mama_check.specs.Rules.{KeepsCalls}
 use Rattle.mama_check.specs.Images.{KeepsImage}

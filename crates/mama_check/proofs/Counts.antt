@@ -6,7 +6,7 @@ use Rattle.std.proofs.lemmas.List.Sums.{sum_by-cons}
 use Rattle.mama_journal.specs.Journal.{count_of}
 use Rattle.mama_script.specs.declared.publisher.PublisherLine.{PublisherLine}
 use Rattle.mama_script.specs.declared.publisher.PublisherLine.TheVariants as line
-use Rattle.mama_rules_rounds.specs.Round.{sends_in}
+use Rattle.mama_rules_rounds.specs.Sections.{sends_in}
 use Rattle.mama_check.specs.Sends.{is_sending}
 
 one_or_none : (b : Bool) (n : ℕ) → cond b 1 0 + n ≡ cond b (suc n) n

@@ -11,8 +11,9 @@ use Rattle.mama_event.specs.declared.to_queue.QueueNote.{QueueNote}
 use Rattle.mama_msg.specs.Field.{FieldData}
 use Rattle.mama_record.specs.RunData.{LastImage, ObjectCalls, GroupNotes, WatchNotes}
 use Rattle.mama_rules_rounds.specs.Client.{Planned, clock_lines}
-use Rattle.mama_rules_rounds.specs.World.{Setting}
-use Rattle.mama_rules_rounds.specs.Round.{setting_of, planned_in, object_calls, last_image, group_told, watch_told}
+use Rattle.mama_rules_rounds.specs.Setting.{Setting}
+use Rattle.mama_rules_rounds.specs.Sections.{setting_of, planned_in}
+use Rattle.mama_rules_rounds.specs.Told.{object_calls, last_image, group_told, watch_told}
 use Rattle.mama_rules_legal.specs.Form.{objects_of, in_order}
 use Rattle.mama_check.specs.Images.{images_for}
 use Rattle.mama_check.specs.Kept.{LegalIsFormed}

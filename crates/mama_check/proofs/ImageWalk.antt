@@ -9,8 +9,9 @@ use Rattle.mama_event.specs.declared.to_queue.QueueNote.{QueueNote}
 use Rattle.mama_script.specs.Script.{ScriptData}
 use Rattle.mama_record.specs.RunData.{RunData, LastImage}
 use Rattle.mama_rules_rounds.specs.Client.{Planned}
-use Rattle.mama_rules_rounds.specs.World.{Setting}
-use Rattle.mama_rules_rounds.specs.Round.{setting_of, last_image}
+use Rattle.mama_rules_rounds.specs.Setting.{Setting}
+use Rattle.mama_rules_rounds.specs.Sections.{setting_of}
+use Rattle.mama_rules_rounds.specs.Told.{last_image}
 use Rattle.mama_plans.specs.declared.plans.PlannedObject.{PlannedObject}
 use Rattle.mama_plans.specs.Plans.{planned_object, planned_objects}
 use Rattle.mama_check_queue.specs.Served.{ServedData}

@@ -4,7 +4,8 @@ use Rattle.std.specs.Prelude.{slice_get, Some}
 use Rattle.std.proofs.lemmas.List.{get_or-map, length-map}
 use Rattle.mama_record.specs.RunData.{ObjectCalls, GroupNotes, WatchNotes}
 use Rattle.mama_rules_rounds.specs.Client.{clock_lines}
-use Rattle.mama_rules_rounds.specs.Round.{setting_of, planned_in, object_calls, group_told, watch_told}
+use Rattle.mama_rules_rounds.specs.Sections.{setting_of, planned_in}
+use Rattle.mama_rules_rounds.specs.Told.{object_calls, group_told, watch_told}
 use Rattle.mama_rules_legal.specs.Legal.{IsLegal}
 use Rattle.mama_check.specs.Kept.{AreKept, KeptIsLegal}
 use Rattle.mama_check.proofs.CallLemmas.{as_many}

@@ -25,8 +25,8 @@ use Rattle.mama_script.specs.Script.{ScriptData}
 use Rattle.mama_script.specs.Tree.{IsShaped, topic_of_part}
 use Rattle.mama_record.specs.RunData.{RunData}
 use Rattle.mama_rules_rounds.specs.Client.{Planned, at_first, client_steps, bridge_part, timers_part}
-use Rattle.mama_rules_rounds.specs.World.{Setting, Watched, no_section, is_on, rows_on, puts_on, queue_part, timer_part}
-use Rattle.mama_rules_rounds.specs.Round.{all_client_steps, setting_of}
+use Rattle.mama_rules_rounds.specs.Setting.{Setting, Watched, no_section, is_on, rows_on, puts_on, queue_part, timer_part}
+use Rattle.mama_rules_rounds.specs.Sections.{all_client_steps, setting_of}
 use Rattle.mama_rules_legal.specs.Edges.{all_steps, client_puts, queue_puts, put_on_bridge, put_on_timers, put_on_queue}
 use Rattle.mama_journal.specs.EntryLaws.{by_entries, puts-push}
 use Rattle.mama_laws_legal.proofs.Putters.{by_bridge_port, by_timers_port, by_queue_port, bridge_puts-push, timers_puts-push}

@@ -6,8 +6,8 @@ use Rattle.std.specs.Global.{Vec}
 use Rattle.std.proofs.lemmas.List.{get_or-map, length-map}
 use Rattle.mama_script.specs.declared.publisher.PublisherPart.{PublisherPart}
 use Rattle.mama_check_puts.specs.Puts.{AreLists}
-use Rattle.mama_rules_rounds.specs.World.{no_section}
-use Rattle.mama_rules_rounds.specs.Round.{sends_in, publishers_from}
+use Rattle.mama_rules_rounds.specs.Setting.{no_section}
+use Rattle.mama_rules_rounds.specs.Sections.{sends_in, publishers_from}
 
 -- an item that is there does not depend on what stands for one that is not
 pub any_default : {X : Type 0} (xs : List X) (i : ℕ) (d e : X) → i < length xs → get_or xs i d ≡ get_or xs i e

@@ -20,8 +20,9 @@ use Rattle.mama_rules_queue.specs.Watch.{watch_notes}
 use Rattle.mama_script.specs.Script.{ScriptData}
 use Rattle.mama_record.specs.RunData.{RunData, GroupNotes, WatchNotes}
 use Rattle.mama_rules_rounds.specs.Client.{Planned}
-use Rattle.mama_rules_rounds.specs.World.{Setting, Grouped, Watched, orders_by, is_on}
-use Rattle.mama_rules_rounds.specs.Round.{setting_of, planned_in, queue_of, queue_of_members, groups_from, watches_from, group_told, watch_told}
+use Rattle.mama_rules_rounds.specs.Setting.{Setting, Grouped, Watched, orders_by, is_on}
+use Rattle.mama_rules_rounds.specs.Sections.{setting_of, planned_in, queue_of, queue_of_members, groups_from, watches_from}
+use Rattle.mama_rules_rounds.specs.Told.{group_told, watch_told}
 use Rattle.mama_plans.specs.Lists.{group_row, watch_row, groups_on, watches_on}
 use Rattle.mama_check_queue.specs.Served.{ServedData, groups_heard, watches_noted}
 use Rattle.mama_check.specs.Lists.{without_first, first_heard, first_noted}

@@ -20,8 +20,8 @@ use Rattle.mama_script.specs.Script.{ScriptData}
 use Rattle.mama_script.specs.Placing.{same_id, has_id}
 use Rattle.mama_script.specs.Within.{IsWithin, AreIdsApart, HasMember, all_grouped, watched_subs, watched_timers}
 use Rattle.mama_rules_rounds.specs.Client.{Planned}
-use Rattle.mama_rules_rounds.specs.World.{Grouped, Watched, is_on}
-use Rattle.mama_rules_rounds.specs.Round.{groups_from, watches_from, planned_in, setting_of, queue_of, queue_of_members}
+use Rattle.mama_rules_rounds.specs.Setting.{Grouped, Watched, is_on}
+use Rattle.mama_rules_rounds.specs.Sections.{groups_from, watches_from, planned_in, setting_of, queue_of, queue_of_members}
 use Rattle.mama_plans.specs.Lists.{group_row, watch_row, groups_on, watches_on, groups_on_each, watches_on_each}
 use Rattle.mama_group.specs.Table.{AreApart, HaveMembers, has_member, are_distinct, all_members}
 use Rattle.mama_timeout.specs.Table as watched

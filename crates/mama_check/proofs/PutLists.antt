@@ -9,8 +9,8 @@ use Rattle.mama_rules_queue.specs.Queue.{QueuePut}
 use Rattle.mama_script.specs.declared.client.ClientLine.{ClientLine}
 use Rattle.mama_script.specs.declared.publisher.PublisherPart.{PublisherPart}
 use Rattle.mama_rules_rounds.specs.Client.{Standing, line_steps, after_line, steps_from}
-use Rattle.mama_rules_rounds.specs.World.{no_section}
-use Rattle.mama_rules_rounds.specs.Round.{publishers_from}
+use Rattle.mama_rules_rounds.specs.Setting.{no_section}
+use Rattle.mama_rules_rounds.specs.Sections.{publishers_from}
 use Rattle.mama_check_order.proofs.LaneWalk.{length_last}
 use Rattle.mama_check_puts.specs.Puts.{AreLists, script_of}
 use Rattle.mama_check_puts.specs.Client.{lines_from}

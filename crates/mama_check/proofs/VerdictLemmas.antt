@@ -20,14 +20,11 @@ use Rattle.mama_record.specs.RunData.{RunData, LastImage}
 use Rattle.mama_rules_rounds.specs.Client.{Planned}
 use Rattle.mama_journal.specs.Journal.{first_said}
 use Rattle.mama_rules_queue.specs.Queue.{make_in, context_of, messages_of, deeds}
-use Rattle.mama_rules_rounds.specs.World.{Setting, orders_by}
-use Rattle.mama_rules_rounds.specs.Round.{setting_of, last_image, image_in}
-use Rattle.mama_laws_callbacks.specs.Told.{LegalRecordsTellAll}
-use Rattle.mama_laws_callbacks.specs.Plain.{LegalRecordsTellPlainly}
-use Rattle.mama_laws_callbacks.specs.Grouped.{LegalGroupsAreTrue}
-use Rattle.mama_laws_callbacks.specs.Watched.{LegalWatchesAreTrue}
-use Rattle.mama_laws_genuine.specs.CalmLinks.{LegalLinksAreCalm}
-use Rattle.mama_laws_genuine.specs.GivenAll.{LegalUpdatesAreGiven}
+use Rattle.mama_rules_rounds.specs.Setting.{Setting, orders_by}
+use Rattle.mama_rules_rounds.specs.Sections.{setting_of}
+use Rattle.mama_rules_rounds.specs.Told.{last_image, image_in}
+use Rattle.mama_laws_callbacks.specs.Laws.{LegalRecordsTellAll, LegalRecordsTellPlainly, LegalGroupsAreTrue, LegalWatchesAreTrue}
+use Rattle.mama_laws_genuine.specs.Laws.{LegalLinksAreCalm, LegalUpdatesAreGiven}
 use Rattle.mama_laws_genuine.specs.Sent.{DeliveredMessagesAreSent, GivenMessagesAreSent}
 use Rattle.mama_laws_genuine.specs.Records.{OkImagesAreRecords}
 use Rattle.mama_laws_genuine.specs.Gaps.{ToldGapsAreTrue}

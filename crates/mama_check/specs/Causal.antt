@@ -13,7 +13,7 @@ use Rattle.mama_check_order.specs.Taken.{needs_of, sender_needs_of}
 use Rattle.mama_rules_services.specs.Ports.{bridge_putter, timers_putter, queue_putter}
 use Rattle.mama_script.specs.Script.{ScriptData}
 use Rattle.mama_record.specs.RunData.{RunData}
-use Rattle.mama_rules_rounds.specs.Round.{setting_of}
+use Rattle.mama_rules_rounds.specs.Sections.{setting_of}
 use Rattle.mama_rules_legal.specs.Edges.{client_puts, taken_by, put_on_bridge, put_on_timers, put_to_publisher, put_on_queue}
 use Rattle.mama_check_puts.specs.Puts.{timers_put_to, bridge_put_to_publisher, bridge_put_to_queue, bridge_put_to_timers}
 use Rattle.mama_check.specs.Puts.{client_to_bridge, client_to_timers, publisher_to_bridge, queue_to_bridge, queue_to_timers}

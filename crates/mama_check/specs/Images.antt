@@ -7,7 +7,8 @@ use Rattle.mama_event.specs.Object.{same_sub}
 use Rattle.mama_script.specs.Script.{ScriptData}
 use Rattle.mama_record.specs.RunData.{RunData, LastImage}
 use Rattle.mama_rules_rounds.specs.Client.{Planned}
-use Rattle.mama_rules_rounds.specs.Round.{setting_of, last_image}
+use Rattle.mama_rules_rounds.specs.Sections.{setting_of}
+use Rattle.mama_rules_rounds.specs.Told.{last_image}
 
 -- the images that stand for an object; only a subscription has one
 abbrev pub images_for : ObjectId → List LastImage → List LastImage

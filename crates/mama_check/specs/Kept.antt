@@ -3,7 +3,7 @@ use Rattle.std.specs.Prelude.{◌↔◌, ℕ, ◌<◌, length}
 use Rattle.mama_event.specs.Ports.{queues_of}
 use Rattle.mama_script.specs.Script.{ScriptData}
 use Rattle.mama_record.specs.RunData.{RunData}
-use Rattle.mama_rules_rounds.specs.Round.{setting_of}
+use Rattle.mama_rules_rounds.specs.Sections.{setting_of}
 use Rattle.mama_rules_legal.specs.Form.{IsCounted, IsFormed}
 use Rattle.mama_laws_legal.specs.Laws.{IsOrderly}
 use Rattle.mama_rules_legal.specs.Legal.{IsLegal}

@@ -8,8 +8,8 @@ use Rattle.mama_check_order.specs.Numbered.{numbered, parted}
 use Rattle.mama_script.specs.Script.{ScriptData}
 use Rattle.mama_record.specs.RunData.{RunData}
 use Rattle.mama_rules_rounds.specs.Client.{bridge_part, timers_part}
-use Rattle.mama_rules_rounds.specs.World.{no_section, rows_on}
-use Rattle.mama_rules_rounds.specs.Round.{setting_of}
+use Rattle.mama_rules_rounds.specs.Setting.{no_section, rows_on}
+use Rattle.mama_rules_rounds.specs.Sections.{setting_of}
 use Rattle.mama_check_puts.specs.Puts.{AreLists, bridge_put_to_publisher, bridge_put_to_queue, bridge_put_to_timers, publishers_in, queues_in}
 use Rattle.mama_check_puts.specs.Client.{client_put_to_bridge, client_put_to_timers}
 use Rattle.mama_check_puts.specs.declared.client.ClientPuts.{ClientPuts}

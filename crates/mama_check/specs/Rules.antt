@@ -7,8 +7,9 @@ use Rattle.mama_rules_services.specs.Ports.{bridge_putter, timers_putter, queue_
 use Rattle.mama_script.specs.Script.{ScriptData}
 use Rattle.mama_record.specs.RunData.{RunData}
 use Rattle.mama_rules_rounds.specs.Client.{clock_lines}
-use Rattle.mama_rules_rounds.specs.World.{no_section}
-use Rattle.mama_rules_rounds.specs.Round.{setting_of, object_calls, last_image, group_told, watch_told}
+use Rattle.mama_rules_rounds.specs.Setting.{no_section}
+use Rattle.mama_rules_rounds.specs.Sections.{setting_of}
+use Rattle.mama_rules_rounds.specs.Told.{object_calls, last_image, group_told, watch_told}
 use Rattle.mama_rules_legal.specs.Lines.{IsSentOut}
 use Rattle.mama_rules_legal.specs.Edges.{client_puts, taken_by, put_on_bridge, put_on_timers, put_to_publisher, put_on_queue}
 

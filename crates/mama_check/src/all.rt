@@ -1,7 +1,7 @@
 ghost use Rattle.std.specs.Prelude.{◌≡◌, map, IfOk};
 ghost use Rattle.mama_event.specs.Ports.{queues_of};
 ghost use Rattle.mama_plans.specs.Lists.{groups_on_each, watches_on_each};
-ghost use Rattle.mama_rules_rounds.specs.Round.{setting_of};
+ghost use Rattle.mama_rules_rounds.specs.Sections.{setting_of};
 ghost use Rattle.mama_rules_legal.specs.Form.{IsCounted};
 ghost use Rattle.mama_script.specs.Within.{IsWithin};
 ghost use Rattle.mama_check.specs.All.{AreAllPuts};

@@ -1,6 +1,6 @@
 ghost use Rattle.std.specs.Prelude.{◌≡◌, ℕ, ◌<◌, ◌^◌, [], length, map, Some, slice_get, IfOk, IfNone};
 ghost use Rattle.mama_event.specs.declared.ids.ObjectId.{ObjectId};
-ghost use Rattle.mama_rules_rounds.specs.Round.{setting_of};
+ghost use Rattle.mama_rules_rounds.specs.Sections.{setting_of};
 ghost use Rattle.mama_script.specs.Within.{IsWithin};
 ghost use Rattle.mama_laws_legal.specs.Laws.{IsOrderly};
 ghost use Rattle.mama_rules_legal.specs.Form.{IsCounted, IsFormed};

@@ -1,7 +1,7 @@
 ghost use Rattle.std.specs.Prelude.{◌≡◌, ◌≢◌, ℕ, [], ◌∷◌, length, slice_index_or, IfSome, IfNone};
 ghost use Rattle.mama_event.specs.Object.{same_sub};
 ghost use Rattle.mama_record.specs.RunView as view;
-ghost use Rattle.mama_rules_rounds.specs.Round.{setting_of};
+ghost use Rattle.mama_rules_rounds.specs.Sections.{setting_of};
 ghost use Rattle.mama_plans.specs.Plans.{planned_object};
 ghost use Rattle.mama_check_queue.specs.Served.{image_given};
 ghost use Rattle.mama_check_queue.specs.Recorded.{AreOf, journals_of, image_by, images_by};

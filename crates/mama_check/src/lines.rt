@@ -1,7 +1,7 @@
 ghost use Rattle.std.specs.Prelude.{◌≡◌, ◌↔◌, true, length};
 ghost use Rattle.std.specs.List.{flat_map};
 ghost use Rattle.mama_rules_rounds.specs.Client.{clock_lines};
-ghost use Rattle.mama_rules_rounds.specs.Round.{sends_in};
+ghost use Rattle.mama_rules_rounds.specs.Sections.{sends_in};
 ghost use Rattle.mama_rules_legal.specs.Lines.{IsSentOut};
 ghost use Rattle.mama_check.specs.First.{IsFirst};
 ghost use Rattle.mama_check.specs.Rules.{KeepsMoments, KeepsLines};

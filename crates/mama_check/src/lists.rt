@@ -1,6 +1,6 @@
 //! What groups heard and watches noted, against what they do by their queues' journals.
 ghost use Rattle.std.specs.Prelude.{◌≡◌, [], length, map, option_map, slice_get, slice_index_or, IfOk};
-ghost use Rattle.mama_rules_rounds.specs.Round.{setting_of, queue_of, queue_of_members as queue_of_group};
+ghost use Rattle.mama_rules_rounds.specs.Sections.{setting_of, queue_of, queue_of_members as queue_of_group};
 ghost use Rattle.mama_event.specs.declared.ids.ObjectId.TheVariants.{Timer};
 ghost use Rattle.mama_rules_legal.specs.Form.{IsFormed};
 ghost use Rattle.mama_check_queue.specs.Served.{groups_heard, watches_noted, group_given, watch_given};

@@ -1,5 +1,5 @@
 ghost use Rattle.std.specs.Prelude.{◌≡◌, length, map};
-ghost use Rattle.mama_rules_rounds.specs.Round.{setting_of};
+ghost use Rattle.mama_rules_rounds.specs.Sections.{setting_of};
 ghost use Rattle.mama_plans.specs.Plans.{planned_object};
 ghost use Rattle.mama_check_queue.specs.Recorded.{AreOf, journals_of, calls_by};
 ghost use Rattle.mama_check.specs.First.{IsFirst};

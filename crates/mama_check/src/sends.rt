@@ -1,7 +1,7 @@
 ghost use Rattle.std.specs.Prelude.{◌≡◌, length, count_by};
 ghost use Rattle.std.specs.List.{flat_map};
 ghost use Rattle.mama_rules_rounds.specs.Client.{reads_clock, clock_lines};
-ghost use Rattle.mama_rules_rounds.specs.Round.{sends_in};
+ghost use Rattle.mama_rules_rounds.specs.Sections.{sends_in};
 ghost use Rattle.mama_check.specs.Sends.{is_sending};
 
 use mama_script::{ClientLine, PublisherLine};

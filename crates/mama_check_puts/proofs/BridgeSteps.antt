@@ -10,7 +10,7 @@ use Rattle.mama_event.specs.declared.to_queue.QueueNote.{QueueNote}
 use Rattle.mama_check_order.specs.Numbered.{from_entry}
 use Rattle.mama_check_order.proofs.Numbered.{parted_push}
 use Rattle.mama_rules_services.specs.Bridge.{BridgePut, bridge_puts_at, to_publisher, to_queue, to_timers}
-use Rattle.mama_rules_rounds.specs.World.{publisher_part, queue_part, timer_part}
+use Rattle.mama_rules_rounds.specs.Setting.{publisher_part, queue_part, timer_part}
 use Rattle.mama_bridge.specs.Routing.{Routing}
 use Rattle.mama_check_puts.specs.declared.bridge.BridgePuts.{BridgePuts}
 use Rattle.mama_check_puts.specs.Puts.{bridge_put_to_timers, one_for, publishers_in, queues_in}

@@ -20,7 +20,7 @@ use Rattle.mama_event.specs.declared.to_publisher.PublisherNote.TheVariants as p
 use Rattle.mama_event.specs.declared.publisher_entry.PublisherEntry.{PublisherEntry}
 use Rattle.mama_event.specs.declared.publisher_entry.PublisherEntry.TheVariants as entry
 use Rattle.mama_script.specs.declared.publisher.PublisherLine.{PublisherLine}
-use Rattle.mama_rules_rounds.specs.Round.{sends_in}
+use Rattle.mama_rules_rounds.specs.Sections.{sends_in}
 use Rattle.mama_check_order.specs.Numbered.{from_entry, numbered}
 use Rattle.mama_check_order.proofs.Numbered.{numbered_push}
 use Rattle.mama_publisher.specs.Laws.{NewStandsAtStart, StandsAt, SendingUpdates, SendingRecaps, TakingEvents, TellingTheEnd}

@@ -6,7 +6,7 @@ use Rattle.mama_event.specs.declared.to_queue.QueueNote.{QueueNote}
 use Rattle.mama_event.specs.declared.to_timers.TimersNote.{TimersNote}
 use Rattle.mama_check_order.specs.Numbered.{from_entry}
 use Rattle.mama_rules_services.specs.Bridge.{BridgePut}
-use Rattle.mama_rules_rounds.specs.World.{publisher_part, queue_part, timer_part}
+use Rattle.mama_rules_rounds.specs.Setting.{publisher_part, queue_part, timer_part}
 use Rattle.mama_check_puts.specs.declared.bridge.BridgePuts.{BridgePuts}
 use Rattle.mama_check_puts.specs.Puts.{publishers_in, queues_in}
 use Rattle.mama_check_puts.specs.Dealing.{Grow}

@@ -12,8 +12,8 @@ use Rattle.mama_check_order.specs.Numbered.{numbered, parted}
 use Rattle.mama_script.specs.declared.publisher.PublisherLine.{PublisherLine}
 use Rattle.mama_rules_services.specs.Bridge.{bridge_puts_at}
 use Rattle.mama_rules_services.specs.Timers.{timers_puts_at}
-use Rattle.mama_rules_rounds.specs.World.{publisher_part, queue_part, timer_part}
-use Rattle.mama_rules_rounds.specs.Round.{sends_in}
+use Rattle.mama_rules_rounds.specs.Setting.{publisher_part, queue_part, timer_part}
+use Rattle.mama_rules_rounds.specs.Sections.{sends_in}
 use Rattle.mama_check_puts.specs.declared.bridge.BridgePuts.{BridgePuts}
 
 -- There are so many lists, and each is what its number says.

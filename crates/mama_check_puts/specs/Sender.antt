@@ -8,7 +8,7 @@ use Rattle.mama_event.specs.Publisher.{PublisherScript, SendLine, is_send, publi
 use Rattle.mama_event.specs.Publisher as send
 use Rattle.mama_publisher.specs.Standing.{Standing}
 use Rattle.mama_publisher.specs.Laws.{StandsAt}
-use Rattle.mama_rules_rounds.specs.Round.{sends_in}
+use Rattle.mama_rules_rounds.specs.Sections.{sends_in}
 use Rattle.mama_check_puts.specs.declared.publisher.Sender.{Sender}
 use Rattle.mama_check_puts.specs.declared.publisher.Sending.{Sending}
 use Rattle.mama_check_puts.specs.declared.publisher.Sending.TheVariants as next

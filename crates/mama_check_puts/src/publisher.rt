@@ -5,7 +5,7 @@ ghost use Rattle.mama_event.specs.ToBridge.{note_of};
 ghost use Rattle.mama_event.specs.Publisher.{publisher_puts_at};
 ghost use Rattle.mama_event.specs.Publisher as send;
 ghost use Rattle.mama_check_order.specs.Numbered.{numbered, from_entry};
-ghost use Rattle.mama_rules_rounds.specs.Round.{sends_in};
+ghost use Rattle.mama_rules_rounds.specs.Sections.{sends_in};
 ghost use Rattle.mama_check_puts.specs.Sender.{sending_of, unsent, Does};
 ghost use Rattle.mama_check_puts.specs.Dealing.{own_tag};
 ghost use Rattle.mama_check_puts.specs.Puts.{script_of};

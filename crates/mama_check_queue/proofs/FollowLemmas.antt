@@ -31,7 +31,7 @@ use Rattle.mama_rules_queue.specs.Queue.{Deed, handled, called, QueuePut, calls_
 use Rattle.mama_rules_queue.specs.Group.{group_notes, group_notes_at, state_after, state_told, turn_notes}
 use Rattle.mama_rules_queue.specs.Watch as rules
 use Rattle.mama_rules_queue.specs.Watch.{is_missed, watch_notes_at, wish_in, wishes_at}
-use Rattle.mama_rules_rounds.specs.Round.{noted}
+use Rattle.mama_rules_rounds.specs.Told.{noted}
 use Rattle.mama_dispatch.proofs.DeedLemmas.{same_object-sym, same_object-refl}
 use Rattle.mama_dispatch.proofs.JournalLaws.{deeds_more}
 use Rattle.mama_group.specs.Table.{GroupData, AllHeard, IsOnly, has_member}

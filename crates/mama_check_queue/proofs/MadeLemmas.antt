@@ -18,7 +18,7 @@ use Rattle.mama_event.specs.declared.to_queue.QueueNote.TheVariants as q
 use Rattle.mama_dq.specs.Context.{ContextData}
 use Rattle.mama_dq.specs.Strategy.{callbacks_of}
 use Rattle.mama_rules_queue.specs.Queue.{Deed, QueuePut, handled, called, is_destroy, is_muted, calls_of, messages_of, made, make_in, context_of, served, puts_of}
-use Rattle.mama_rules_rounds.specs.Round.{noted}
+use Rattle.mama_rules_rounds.specs.Told.{noted}
 use Rattle.mama_dispatch.proofs.DeedLemmas.{made_more}
 use Rattle.mama_check_queue.specs.Seen.{SeenData, made_as, at, after_deed}
 use Rattle.mama_check_queue.specs.Puts.{PutData, put_all}

@@ -10,10 +10,10 @@ use Rattle.mama_event.specs.declared.ids.ObjectId.{ObjectId}
 use Rattle.mama_event.specs.declared.order.Order.{Order}
 use Rattle.mama_event.specs.declared.order.PlanRow.{PlanRow}
 use Rattle.mama_event.specs.Object.{same_object}
-use Rattle.mama_event.specs.Listener.{planned}
+use Rattle.mama_event.specs.Plan.{planned}
 use Rattle.mama_listener.proofs.Plans.{planned_taken, planned_left}
 use Rattle.mama_rules_rounds.specs.Client.{Planned}
-use Rattle.mama_rules_rounds.specs.World.{plan_in, rows_of}
+use Rattle.mama_rules_rounds.specs.Setting.{plan_in, rows_of}
 use Rattle.mama_plans.specs.declared.plans.PlannedObject.{PlannedObject}
 use Rattle.mama_plans.specs.Plans.{planned_object, planned_objects, IsFew, AreFew}
 use Rattle.indexmap.specs.IndexMap.{IndexMap, get}

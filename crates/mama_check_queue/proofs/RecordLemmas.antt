@@ -7,7 +7,7 @@ use Rattle.mama_event.specs.declared.ids.SubId.{SubId}
 use Rattle.mama_event.specs.declared.ids.ObjectId.TheVariants.{Sub}
 use Rattle.mama_rules_queue.specs.Queue.{deeds, calls_of}
 use Rattle.mama_rules_rounds.specs.Client.{Planned}
-use Rattle.mama_rules_rounds.specs.Round.{noted}
+use Rattle.mama_rules_rounds.specs.Told.{noted}
 use Rattle.mama_plans.specs.Orders.{orders_in}
 use Rattle.mama_check_queue.specs.Served.{ServedData, last_image_of}
 use Rattle.mama_check_queue.specs.Recorded.{journals_of, AreOf, image_by}

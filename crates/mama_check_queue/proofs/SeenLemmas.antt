@@ -19,7 +19,7 @@ use Rattle.mama_event.specs.Object.{same_object}
 use Rattle.mama_dq.specs.Context.{ContextData}
 use Rattle.mama_dq.specs.Strategy.{after}
 use Rattle.mama_rules_queue.specs.Queue.{Deed, handled, called, ends, is_create, is_destroy, is_muted, calls_of, make_in, context_of, is_live}
-use Rattle.mama_rules_rounds.specs.Round.{noted}
+use Rattle.mama_rules_rounds.specs.Told.{noted}
 use Rattle.mama_dispatch.specs.Journals.{messages_at}
 use Rattle.mama_dispatch.proofs.DeedLemmas.{same_object-true, live_more, muted_more, live_handled, muted_handled, or_false, and_true, notes_called, notes_other, notes_handled, messages_called, messages_handled, messages_other, context_more}
 use Rattle.mama_check_queue.specs.Seen.{SeenData, kept_until, seen_of, begun, muted_by, called_so, kept_more, handling, made_as, at, after_deed}

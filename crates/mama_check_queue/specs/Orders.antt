@@ -6,9 +6,9 @@ use Rattle.mama_event.specs.declared.ids.ObjectId.{ObjectId}
 use Rattle.mama_event.specs.declared.order.Order.{Order}
 use Rattle.mama_event.specs.declared.order.PlanRow.{PlanRow}
 use Rattle.mama_event.specs.Object.{same_object}
-use Rattle.mama_event.specs.Listener.{planned}
+use Rattle.mama_event.specs.Plan.{planned}
 use Rattle.mama_rules_rounds.specs.Client.{Planned}
-use Rattle.mama_rules_rounds.specs.World.{plan_in}
+use Rattle.mama_rules_rounds.specs.Setting.{plan_in}
 
 -- the orders that are found for each call are those of a plan, and none are found where there is none
 abbrev pub IsPlanOf : {S : Type 0} → Option (IndexMap ℕ (List Order) S) → Option (List PlanRow) → Type 0

@@ -7,7 +7,7 @@ use Rattle.mama_event.specs.declared.to_queue.QueueNote.{QueueNote}
 use Rattle.mama_rules_queue.specs.Queue.{calls_of, deeds}
 use Rattle.mama_record.specs.RunData.{ObjectCalls, LastImage}
 use Rattle.mama_rules_rounds.specs.Client.{Planned}
-use Rattle.mama_rules_rounds.specs.Round.{noted}
+use Rattle.mama_rules_rounds.specs.Told.{noted}
 use Rattle.mama_plans.specs.Orders.{orders_in}
 use Rattle.mama_check_queue.specs.Served.{ServedData, last_image_of}
 

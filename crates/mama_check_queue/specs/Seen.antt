@@ -14,7 +14,7 @@ use Rattle.mama_event.specs.Object.{same_object}
 use Rattle.mama_dq.specs.Context.{ContextData}
 use Rattle.mama_dq.specs.Strategy.{after}
 use Rattle.mama_rules_queue.specs.Queue.{Deed, handled, called, ends, is_create, is_destroy, is_muted, calls_of, make_in, context_of, is_live}
-use Rattle.mama_rules_rounds.specs.Round.{noted}
+use Rattle.mama_rules_rounds.specs.Told.{noted}
 use Rattle.mama_dispatch.specs.Journals.{messages_at}
 
 -- An object: how it was made first, whether it is live and whether it is muted, its callbacks, its context, and the

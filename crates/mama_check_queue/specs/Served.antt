@@ -20,7 +20,7 @@ use Rattle.mama_dispatch.specs.Images.{lent}
 use Rattle.mama_group.specs.declared.silent.SilentGroup.{SilentGroup}
 use Rattle.mama_record.specs.RunData.{LastImage, GroupNotes, WatchNotes}
 use Rattle.mama_rules_rounds.specs.Client.{Planned, bridge_part, timers_part}
-use Rattle.mama_rules_rounds.specs.Round.{image_in}
+use Rattle.mama_rules_rounds.specs.Told.{image_in}
 use Rattle.mama_plans.specs.Image.{found_image}
 use Rattle.mama_plans.specs.Orders.{orders_in}
 

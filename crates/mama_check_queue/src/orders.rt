@@ -1,6 +1,6 @@
 ghost use Rattle.std.specs.Prelude.{◌≡◌, ℕ, nat_eq, unwrap_or, List, [], ◌∷◌, ◌++◌, ◌<◌, length, IfOk, OnOk};
 ghost use Rattle.indexmap.specs.IndexMap.{get};
-ghost use Rattle.mama_event.specs.Listener.{planned};
+ghost use Rattle.mama_event.specs.Plan.{planned};
 ghost use Rattle.mama_plans.specs.Orders.{orders_in};
 ghost use Rattle.mama_plans.specs.Plans.{planned_object, planned_objects, IsFew, AreFew};
 ghost use Rattle.mama_rules_rounds.specs.Client.{Planned};

@@ -1,6 +1,6 @@
 ghost use Rattle.std.specs.Prelude.{◌≡◌, map};
 ghost use Rattle.mama_rules_queue.specs.Queue.{deeds, calls_of};
-ghost use Rattle.mama_rules_rounds.specs.Round.{noted};
+ghost use Rattle.mama_rules_rounds.specs.Told.{noted};
 ghost use Rattle.mama_plans.specs.Orders.{orders_in};
 ghost use Rattle.mama_check_queue.specs.Served.{bridge_puts, timers_puts, last_image_of, image_given, groups_heard, watches_noted, group_given, watch_given};
 

@@ -6,8 +6,8 @@ use Rattle.mama_journal.specs.Lane.{by_port, from_port, IsEdge}
 use Rattle.mama_event.specs.declared.shape.Shape.{Shape}
 use Rattle.mama_event.specs.declared.shape.Bounds.{Bounds}
 use Rattle.mama_script.specs.declared.publisher.PublisherPart.{PublisherPart}
-use Rattle.mama_rules_rounds.specs.World.{no_section}
-use Rattle.mama_rules_rounds.specs.Round.{publishers_from}
+use Rattle.mama_rules_rounds.specs.Setting.{no_section}
+use Rattle.mama_rules_rounds.specs.Sections.{publishers_from}
 use Rattle.mama_lane.specs.Values.{TakerValue, PortValue}
 use Rattle.mama_seats.specs.Sender.{script_of}
 use Rattle.mama_ends.specs.Inlet.{InletValue}

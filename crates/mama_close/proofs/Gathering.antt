@@ -27,8 +27,9 @@ use Rattle.mama_script.specs.Script.{ScriptData}
 use Rattle.mama_record.specs.RunData.{RunData}
 use Rattle.mama_rules_queue.specs.Watch.{watched_puts_at}
 use Rattle.mama_rules_rounds.specs.Client.{Planned, bridge_part, timers_part, clock_lines}
-use Rattle.mama_rules_rounds.specs.World.{Watched, is_on, rows_on, orders_by, no_section, queue_part, timer_part, publisher_part}
-use Rattle.mama_rules_rounds.specs.Round.{setting_of, publisher_steps}
+use Rattle.mama_rules_rounds.specs.Setting.{Watched, is_on, rows_on, orders_by, no_section, queue_part, timer_part, publisher_part}
+use Rattle.mama_rules_rounds.specs.Sections.{setting_of}
+use Rattle.mama_rules_rounds.specs.Round.{publisher_steps}
 use Rattle.mama_rules_legal.specs.Edges.{all_steps, client_puts, put_on_bridge, put_on_timers, put_to_publisher, put_on_queue, queue_puts, taken_by}
 use Rattle.mama_rules_legal.specs.Calls.{IsShapedFor}
 use Rattle.mama_rules_legal.specs.Legal.{IsLegal}

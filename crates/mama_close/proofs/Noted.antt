@@ -18,8 +18,9 @@ use Rattle.mama_record.specs.RunData.{WatchNotes}
 use Rattle.mama_record.specs.RunView.{watches_of}
 use Rattle.mama_rules_queue.specs.Watch.{watch_notes}
 use Rattle.mama_rules_rounds.specs.Client.{Planned}
-use Rattle.mama_rules_rounds.specs.World.{Watched, is_on, orders_by}
-use Rattle.mama_rules_rounds.specs.Round.{setting_of, watch_told}
+use Rattle.mama_rules_rounds.specs.Setting.{Watched, is_on, orders_by}
+use Rattle.mama_rules_rounds.specs.Sections.{setting_of}
+use Rattle.mama_rules_rounds.specs.Told.{watch_told}
 use Rattle.mama_plans.specs.Orders.{orders_in}
 use Rattle.mama_plans.specs.Lists.{watch_row, watches_on}
 use Rattle.mama_plans.specs.Numbered.{numbered, lists_put}

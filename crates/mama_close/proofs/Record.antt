@@ -10,8 +10,9 @@ use Rattle.mama_event.specs.declared.to_queue.QueueNote.{QueueNote}
 use Rattle.mama_script.specs.Script.{ScriptData}
 use Rattle.mama_record.specs.RunData.{RunData, ObjectCalls, LastImage, GroupNotes, WatchNotes}
 use Rattle.mama_rules_rounds.specs.Client.{Planned}
-use Rattle.mama_rules_rounds.specs.World.{Setting}
-use Rattle.mama_rules_rounds.specs.Round.{setting_of, object_calls, last_image, group_told, watch_told}
+use Rattle.mama_rules_rounds.specs.Setting.{Setting}
+use Rattle.mama_rules_rounds.specs.Sections.{setting_of}
+use Rattle.mama_rules_rounds.specs.Told.{object_calls, last_image, group_told, watch_told}
 use Rattle.mama_gather.specs.Left.{events_by}
 use Rattle.mama_close.specs.Kinds.{Kinds, read_by, entries_by, record_of}
 use Rattle.mama_gather.specs.Places.{calls_on, images_by}

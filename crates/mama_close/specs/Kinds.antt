@@ -6,7 +6,8 @@ use Rattle.mama_event.specs.declared.publisher_entry.PublisherEntry.{PublisherEn
 use Rattle.mama_event.specs.Ports.{clients_of, publishers_of, queues_of}
 use Rattle.mama_script.specs.Script.{ScriptData}
 use Rattle.mama_record.specs.RunData.{RunData}
-use Rattle.mama_rules_rounds.specs.Round.{setting_of, object_calls, last_image, group_told, watch_told}
+use Rattle.mama_rules_rounds.specs.Sections.{setting_of}
+use Rattle.mama_rules_rounds.specs.Told.{object_calls, last_image, group_told, watch_told}
 use Rattle.mama_posts_clients.specs.Client as client
 use Rattle.mama_posts_services.specs.Publisher.{PublisherPostValue}
 use Rattle.mama_posts_services.specs.Publisher as publisher

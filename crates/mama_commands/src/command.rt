@@ -13,7 +13,8 @@ ghost use Rattle.mama_plain.specs.Verdict.{IsChecked, IsVerdictOf, IsRefusalBy, 
 ghost use Rattle.mama_plain.specs.Answers.{GaveAll, IsAccepted, IsLogOf, IsEndOfGen, OnUnplayed, OnSilent, OnUnwritten};
 ghost use Rattle.mama_plain.specs.Rewritten.{IsInTwo, IsTaken};
 ghost use Rattle.mama_plain.specs.Replayed.{IsReplayed, IsUnfollowed};
-ghost use Rattle.mama_plain.specs.Promises.{KeepsPromises, IsLawfulRun};
+ghost use Rattle.mama_plain.specs.Promises.{KeepsPromises};
+ghost use Rattle.mama_plain.specs.LawfulRun.{IsLawfulRun};
 ghost use Rattle.mama_soak.specs.Soak.{IsSoak};
 ghost use Rattle.mama_commands.specs.Words.{is_play, soak_in, is_form};
 ghost use Rattle.mama_commands.specs.Played.{IsPlayLogOf};

@@ -26,7 +26,7 @@ use Rattle.mama_posts_services.specs.Timers.{TimersPostValue, IsTimersOf}
 use Rattle.std.specs.List.{All, AllByRecursion}
 use Rattle.std.proofs.lemmas.List.Elements.{All-from_recursion}
 use Rattle.mama_event.specs.declared.watch.WatchRow.{WatchRow}
-use Rattle.mama_rules_rounds.specs.Round.{setting_of}
+use Rattle.mama_rules_rounds.specs.Sections.{setting_of}
 use Rattle.mama_plans.specs.Lists.{watches_on}
 use Rattle.mama_timeout.specs.Table.{WatchData, new_watch}
 use Rattle.mama_posts_clients.specs.Queue.{QueuePostValue, rows_of_watches, IsQueueOf}

@@ -15,8 +15,8 @@ use Rattle.mama_script.specs.Placing.{same_id, has_id}
 use Rattle.mama_script.specs.Script.{ScriptData}
 use Rattle.mama_script.specs.Within.{IsWithin, AreIdsApart, watched_subs, watched_timers}
 use Rattle.mama_rules_rounds.specs.Client.{Planned}
-use Rattle.mama_rules_rounds.specs.World.{Watched, is_on}
-use Rattle.mama_rules_rounds.specs.Round.{setting_of, planned_in, queue_of, watches_from}
+use Rattle.mama_rules_rounds.specs.Setting.{Watched, is_on}
+use Rattle.mama_rules_rounds.specs.Sections.{setting_of, planned_in, queue_of, watches_from}
 use Rattle.mama_plans.specs.Lists.{watch_row, watches_on, watches_on_each}
 use Rattle.mama_dispatch.proofs.DeedLemmas.{same_object-sym}
 use Rattle.mama_timeout.specs.Table.{AreApart}

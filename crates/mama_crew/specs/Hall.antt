@@ -5,7 +5,7 @@ use Rattle.mama_event.specs.declared.shape.Shape.{Shape}
 use Rattle.mama_event.specs.Ports.{publishers_of, queues_of, bridge_ports, timers_port_of_bridge}
 use Rattle.mama_script.specs.Script.{ScriptData}
 use Rattle.mama_rules_rounds.specs.Client.{Planned}
-use Rattle.mama_rules_rounds.specs.Round.{setting_of}
+use Rattle.mama_rules_rounds.specs.Sections.{setting_of}
 use Rattle.mama_hall.specs.Ends.{IsLaneOf}
 use Rattle.mama_lane.specs.Values.{LaneId, LaneValue, PortValue}
 use Rattle.mama_posts_services.specs.Ports.{ids_of}

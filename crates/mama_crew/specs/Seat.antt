@@ -8,7 +8,7 @@ use Rattle.mama_event.specs.Ports.{clients_of, queues_of, bridge_port_of_client,
 use Rattle.mama_event.specs.declared.to_queue.QueueNote.{QueueNote}
 use Rattle.mama_script.specs.declared.publisher.PublisherPart.{PublisherPart}
 use Rattle.mama_script.specs.Script.{ScriptData}
-use Rattle.mama_rules_rounds.specs.Round.{setting_of}
+use Rattle.mama_rules_rounds.specs.Sections.{setting_of}
 use Rattle.mama_plans.specs.Lists.{watches_on}
 use Rattle.mama_seats.specs.Stand.{reads_next}
 use Rattle.mama_posts_services.specs.Ports.{lanes_of, ids_of}

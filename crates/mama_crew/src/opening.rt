@@ -4,7 +4,7 @@ ghost use Rattle.std.specs.List.{All};
 ghost use Rattle.std.specs.Vec.Iter.{into_iter_items};
 ghost use Rattle.mama_edge.specs.declared.gate.GateActor.TheVariants as gate;
 ghost use Rattle.mama_event.specs.Ports.{clients_of, publishers_of, queues_of, timers_port_of_bridge, queue_port_of_bridge, queue_port_of_timers};
-ghost use Rattle.mama_rules_rounds.specs.Round.{setting_of};
+ghost use Rattle.mama_rules_rounds.specs.Sections.{setting_of};
 ghost use Rattle.mama_plans.specs.Lists.{watches_on_each};
 ghost use Rattle.mama_hall.specs.Ends.{ports_from};
 ghost use Rattle.mama_lane.specs.Values.{new_port, new_taker};

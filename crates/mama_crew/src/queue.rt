@@ -3,7 +3,7 @@ ghost use Rattle.std.specs.List.{slice_get};
 ghost use mathlib.Core.List.{IsPrefix};
 ghost use Rattle.mama_event.specs.Ports.{queues_of, bridge_port_of_queue, timers_port_of_queue};
 ghost use Rattle.mama_script.specs.Script.{ScriptData};
-ghost use Rattle.mama_rules_rounds.specs.Round.{setting_of};
+ghost use Rattle.mama_rules_rounds.specs.Sections.{setting_of};
 ghost use Rattle.mama_plans.specs.Lists.{watches_on};
 ghost use Rattle.mama_lane.specs.Values.{new_port, new_taker};
 ghost use Rattle.mama_posts_clients.specs.Queue.{HasEnded, MadeStep, IsCaughtUp};

@@ -14,7 +14,8 @@ use Rattle.mama_event.specs.declared.order.PlanRow.{PlanRow}
 use Rattle.mama_event.specs.declared.to_queue.Make.{Make}
 use Rattle.mama_event.specs.Object.{same_object}
 use Rattle.mama_rules_queue.specs.Queue.{QueuePut}
-use Rattle.mama_event.specs.Listener.{ListenerData, most_calls, risen, reached, HeardNext, GivenNext, Heard, IsPlanned, planned}
+use Rattle.mama_event.specs.Listener.{ListenerData, most_calls, risen, reached, HeardNext, GivenNext, Heard, IsPlanned}
+use Rattle.mama_event.specs.Plan.{planned}
 use Rattle.mama_dispatch.specs.Seats.{SeatData, has_seat, AreApart, seat_of, listener_in, at, HeardIn, called_with, muted_by_all, with_room, stepped, with_listener, new_seat, AreOrders, Fits}
 use Rattle.mama_dispatch.specs.Seating.{CalledOnce}
 use Rattle.mama_dispatch.specs.declared.turn.Turn.{Turn}

@@ -7,7 +7,8 @@ use Rattle.mama_event.specs.declared.order.Order.{Order}
 use Rattle.mama_event.specs.declared.order.PlanRow.{PlanRow}
 use Rattle.mama_event.specs.declared.to_queue.ToQueue.{ToQueue}
 use Rattle.mama_event.specs.declared.to_queue.ToQueue.TheVariants as event
-use Rattle.mama_event.specs.Listener.{ListenerData, reached, planned}
+use Rattle.mama_event.specs.Listener.{ListenerData, reached}
+use Rattle.mama_event.specs.Plan.{planned}
 use Rattle.mama_event.specs.Object.{same_object}
 use Rattle.mama_dispatch.specs.Seats.{SeatData, AreOrders}
 

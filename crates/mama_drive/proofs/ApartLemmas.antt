@@ -15,8 +15,8 @@ use Rattle.mama_script.specs.Placing.{has_id}
 use Rattle.mama_script.specs.Script.{ScriptData}
 use Rattle.mama_script.specs.Within.{IsWithin, AreIdsApart, HasMember, all_grouped, watched_subs, watched_timers}
 use Rattle.mama_rules_rounds.specs.Client.{Planned}
-use Rattle.mama_rules_rounds.specs.World.{Grouped, Watched}
-use Rattle.mama_rules_rounds.specs.Round.{queue_of, queue_of_members, groups_from, watches_from}
+use Rattle.mama_rules_rounds.specs.Setting.{Grouped, Watched}
+use Rattle.mama_rules_rounds.specs.Sections.{queue_of, queue_of_members, groups_from, watches_from}
 use Rattle.mama_plans.specs.Lists.{group_row, watch_row, groups_on, watches_on}
 use Rattle.mama_group.specs.Table as group
 use Rattle.mama_group.specs.Table.{HaveMembers, has_member, are_distinct, all_members}

@@ -7,7 +7,8 @@ use Rattle.mama_event.specs.declared.to_publisher.PublisherNote.{PublisherNote}
 use Rattle.mama_event.specs.declared.to_timers.TimersNote.{TimersNote}
 use Rattle.mama_event.specs.declared.to_queue.QueueNote.{QueueNote}
 use Rattle.mama_rules_queue.specs.Queue.{QueuePut}
-use Rattle.mama_rules_rounds.specs.World.{Setting, World, bridge_turn, bridge_took, timers_turn, timers_took, publisher_turn, publisher_took, publisher_did, queue_turn, queue_took}
+use Rattle.mama_rules_rounds.specs.Setting.{Setting}
+use Rattle.mama_rules_rounds.specs.World.{World, bridge_turn, bridge_took, timers_turn, timers_took, publisher_turn, publisher_took, publisher_did, queue_turn, queue_took}
 use Rattle.mama_rules_rounds.specs.Stage.{Stage, client_step, client_stepped, publisher_step, publisher_stepped, entries_done}
 use Rattle.mama_drive.specs.Scene.{Scene, Moves, Advances, Stepped, AreMoments, world_in, setting_in, stage_in}
 use Rattle.mama_drive.specs.Record.{read_in}

@@ -14,7 +14,8 @@ use Rattle.mama_rules_services.specs.Bridge.{BridgePut, to_publisher, to_queue}
 use Rattle.mama_rules_services.specs.Bridge as bridge
 use Rattle.mama_rules_queue.specs.Queue.{QueuePut}
 use Rattle.mama_rules_queue.specs.Queue as queue
-use Rattle.mama_rules_rounds.specs.World.{Setting, World}
+use Rattle.mama_rules_rounds.specs.Setting.{Setting}
+use Rattle.mama_rules_rounds.specs.World.{World}
 use Rattle.mama_rules_rounds.specs.Client.{bridge_part, timers_part}
 use Rattle.mama_bridge.specs.Outs.{put_note}
 use Rattle.mama_timer.specs.Out.{out_note}

@@ -8,7 +8,8 @@ use Rattle.mama_event.specs.Ports.{timers_port_of_bridge, queue_port_of_bridge, 
 use Rattle.mama_event.specs.declared.to_queue.QueueNote.{QueueNote}
 use Rattle.mama_rules_services.specs.Bridge.{BridgePut, to_publisher, to_queue}
 use Rattle.mama_rules_services.specs.Bridge as bridge
-use Rattle.mama_rules_rounds.specs.World.{Setting, World, extended, publisher_part, queue_part, timer_part}
+use Rattle.mama_rules_rounds.specs.Setting.{Setting, publisher_part, queue_part, timer_part}
+use Rattle.mama_rules_rounds.specs.World.{World, extended}
 use Rattle.mama_drive.specs.Scene.{spread, spread_one, spread_ticks, tick_one, put_on}
 
 pub append_nil : {V : Type 0} → (xs : List V) → xs ++ [] ≡ xs

@@ -20,10 +20,11 @@ use Rattle.mama_script.specs.Script.{ScriptData}
 use Rattle.mama_script.specs.Tree.{IsScript, topic_of_part}
 use Rattle.mama_script.specs.Within.{IsWithin}
 use Rattle.mama_rules_rounds.specs.Client.{bridge_part, timers_part}
-use Rattle.mama_rules_rounds.specs.World.{Setting, World, bridge_turn, timers_turn, publisher_turn, queue_turn}
-use Rattle.mama_rules_rounds.specs.World as world
+use Rattle.mama_rules_rounds.specs.Setting.{Setting}
+use Rattle.mama_rules_rounds.specs.World.{World, bridge_turn, timers_turn, publisher_turn, queue_turn}
+use Rattle.mama_rules_rounds.specs.Setting as world
 use Rattle.mama_rules_rounds.specs.Stage.{Stage, client_step, publisher_step}
-use Rattle.mama_rules_rounds.specs.Round.{setting_of}
+use Rattle.mama_rules_rounds.specs.Sections.{setting_of}
 use Rattle.mama_rules_legal.specs.Edges.{all_steps, client_puts, put_on_bridge, put_on_timers, put_on_queue}
 use Rattle.mama_laws_legal.proofs.Lists.{taken_first}
 use Rattle.mama_laws_legal.proofs.Worlds.{Holds, bridge_turn_keeps, timers_turn_keeps, publisher_turn_keeps, queue_turn_keeps}

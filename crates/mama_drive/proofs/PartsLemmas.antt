@@ -8,7 +8,7 @@ use Rattle.mama_rules_services.specs.Bridge as bridge
 use Rattle.mama_rules_queue.specs.Queue.{QueuePut}
 use Rattle.mama_rules_queue.specs.Queue as queue
 use Rattle.mama_rules_rounds.specs.Client.{Planned}
-use Rattle.mama_rules_rounds.specs.World.{Grouped, Watched}
+use Rattle.mama_rules_rounds.specs.Setting.{Grouped, Watched}
 use Rattle.mama_journal.specs.Journal.{numbers_below}
 use Rattle.mama_event.specs.declared.group.GroupNote.{GroupNote}
 use Rattle.mama_event.specs.declared.watch.WatchNote.{WatchNote}

@@ -5,9 +5,11 @@ use Rattle.mama_event.specs.Ports.{clients_of, publishers_of}
 use Rattle.mama_script.specs.Script.{ScriptData}
 use Rattle.mama_record.specs.RunData.{RunData}
 use Rattle.mama_rules_rounds.specs.Client.{Planned}
-use Rattle.mama_rules_rounds.specs.World.{Setting, IsQuiet}
+use Rattle.mama_rules_rounds.specs.Setting.{Setting}
+use Rattle.mama_rules_rounds.specs.World.{IsQuiet}
 use Rattle.mama_rules_rounds.specs.Stage.{Stage, client_step, publisher_step, publisher_stepped, IsOneRound}
-use Rattle.mama_rules_rounds.specs.Round.{setting_of, IsRound}
+use Rattle.mama_rules_rounds.specs.Sections.{setting_of}
+use Rattle.mama_rules_rounds.specs.Round.{IsRound}
 use Rattle.mama_seats.specs.Sender.{steps_in}
 use Rattle.mama_seats.specs.Stand.{Stand}
 use Rattle.mama_seats.specs.Moments.{AreHeard}

@@ -9,9 +9,12 @@ use Rattle.mama_event.specs.declared.to_timers.TimersNote.{TimersNote}
 use Rattle.mama_event.specs.declared.to_queue.QueueNote.{QueueNote}
 use Rattle.mama_script.specs.Script.{ScriptData}
 use Rattle.mama_rules_rounds.specs.Client.{Planned, clock_lines, steps_from}
-use Rattle.mama_rules_rounds.specs.World.{Setting, is_empty}
+use Rattle.mama_rules_rounds.specs.Setting.{Setting}
+use Rattle.mama_rules_rounds.specs.World.{is_empty}
 use Rattle.mama_rules_rounds.specs.Stage.{Stage, AreRounds}
-use Rattle.mama_rules_rounds.specs.Round.{setting_of, start, record_of, last_image, group_told, watch_told, IsRound}
+use Rattle.mama_rules_rounds.specs.Sections.{setting_of}
+use Rattle.mama_rules_rounds.specs.Told.{last_image, group_told, watch_told}
+use Rattle.mama_rules_rounds.specs.Round.{start, record_of, IsRound}
 use Rattle.mama_seats.specs.Sender.{Sender, steps_in, steps_after}
 use Rattle.mama_seats.specs.Stand.{Stand, reading, left_after, standing_in}
 use Rattle.mama_seats.specs.Server.{all_told}

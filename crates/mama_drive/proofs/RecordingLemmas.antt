@@ -22,8 +22,9 @@ use Rattle.mama_dispatch.specs.Callbacks.{calls_to, without}
 use Rattle.mama_dispatch.proofs.CallbackLemmas.{others_stay}
 use Rattle.mama_record.specs.RunView.{calls_in, calls_of, groups_of, watches_of}
 use Rattle.mama_rules_rounds.specs.Client.{Planned}
-use Rattle.mama_rules_rounds.specs.World.{Setting, Grouped, Watched}
-use Rattle.mama_rules_rounds.specs.Round.{noted, groups_from, watches_from, group_told, watch_told}
+use Rattle.mama_rules_rounds.specs.Setting.{Setting, Grouped, Watched}
+use Rattle.mama_rules_rounds.specs.Sections.{groups_from, watches_from}
+use Rattle.mama_rules_rounds.specs.Told.{noted, group_told, watch_told}
 use Rattle.mama_seats.specs.Server.{Server}
 use Rattle.mama_seats.specs.Heard.{group_lists, watch_lists}
 use Rattle.mama_plans.specs.Lists.{group_row, watch_row, groups_on, watches_on, groups_on_each, watches_on_each}

@@ -9,7 +9,8 @@ use Rattle.mama_event.specs.Ports.{clients_of, publishers_of}
 use Rattle.mama_event.specs.declared.publisher_entry.PublisherEntry.{PublisherEntry}
 use Rattle.mama_rules_queue.specs.Queue.{QueuePut}
 use Rattle.mama_rules_rounds.specs.Client.{steps_from}
-use Rattle.mama_rules_rounds.specs.World.{Setting, World, with_puts, IsQuiet}
+use Rattle.mama_rules_rounds.specs.Setting.{Setting}
+use Rattle.mama_rules_rounds.specs.World.{World, with_puts, IsQuiet}
 use Rattle.mama_rules_rounds.specs.Round.{publisher_steps}
 use Rattle.mama_rules_rounds.specs.Stage.{Stage, IsStageDrained, AreSteps, IsOneRound, AreRounds, client_step, publisher_step, entries_done}
 use Rattle.mama_seats.specs.Sender.{Sender, first_step, later_steps, steps_in, steps_after}

@@ -7,7 +7,8 @@ use Rattle.mama_rules_services.specs.Bridge.{BridgePut, to_publisher, to_queue}
 use Rattle.mama_rules_services.specs.Bridge as bridge
 use Rattle.mama_rules_queue.specs.Queue.{QueuePut}
 use Rattle.mama_rules_queue.specs.Queue as queue
-use Rattle.mama_rules_rounds.specs.World.{Setting, World}
+use Rattle.mama_rules_rounds.specs.Setting.{Setting}
+use Rattle.mama_rules_rounds.specs.World.{World}
 use Rattle.mama_rules_rounds.specs.Stage.{Stage}
 use Rattle.mama_seats.specs.Stand.{Stand}
 use Rattle.mama_seats.specs.Server.{all_told}

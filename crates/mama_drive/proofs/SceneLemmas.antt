@@ -8,7 +8,8 @@ use Rattle.mama_event.specs.Ports.{bridge_port_of_publisher}
 use Rattle.mama_event.specs.declared.to_bridge.BridgeNote.{BridgeNote}
 use Rattle.mama_event.specs.declared.to_publisher.PublisherNote.{PublisherNote}
 use Rattle.mama_event.specs.declared.publisher_entry.PublisherEntry.TheVariants.{Took}
-use Rattle.mama_rules_rounds.specs.World.{Setting, World, no_section, publisher_turn, publisher_took, with_puts}
+use Rattle.mama_rules_rounds.specs.Setting.{Setting, no_section}
+use Rattle.mama_rules_rounds.specs.World.{World, publisher_turn, publisher_took, with_puts}
 use Rattle.mama_rules_rounds.specs.Client.{bridge_part, timers_part}
 use Rattle.mama_rules_queue.specs.Queue.{QueuePut}
 use Rattle.mama_event.specs.declared.to_timers.TimersNote.{TimersNote}

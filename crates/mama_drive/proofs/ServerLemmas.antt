@@ -12,7 +12,8 @@ use Rattle.mama_event.specs.Ports.{queues_of, bridge_port_of_queue, timers_port_
 use Rattle.mama_rules_queue.specs.Queue.{QueuePut}
 use Rattle.mama_rules_queue.specs.Watch.{watched_puts_at}
 use Rattle.mama_rules_rounds.specs.Client.{Planned, bridge_part, timers_part}
-use Rattle.mama_rules_rounds.specs.World.{World, Watched, is_on, rows_on, queue_turn, queue_took}
+use Rattle.mama_rules_rounds.specs.Setting.{Watched, is_on, rows_on}
+use Rattle.mama_rules_rounds.specs.World.{World, queue_turn, queue_took}
 use Rattle.mama_seats.specs.Server.{Server, rows_in, served, served_puts, all_told}
 use Rattle.mama_plans.specs.Orders.{orders_in}
 use Rattle.mama_plans.specs.Lists.{watch_row, watches_on, watches_on_each}

@@ -11,7 +11,8 @@ use Rattle.mama_event.specs.Ports.{clients_of, publishers_of, bridge_port_of_pub
 use Rattle.mama_event.specs.Publisher.{PublisherScript, publisher_puts_at}
 use Rattle.mama_event.specs.declared.publisher_entry.PublisherEntry.{PublisherEntry}
 use Rattle.mama_event.specs.declared.to_bridge.BridgeNote.{BridgeNote}
-use Rattle.mama_rules_rounds.specs.World.{Setting, World, with_puts, passes, no_section, publisher_did}
+use Rattle.mama_rules_rounds.specs.Setting.{Setting, no_section}
+use Rattle.mama_rules_rounds.specs.World.{World, with_puts, passes, publisher_did}
 use Rattle.mama_rules_rounds.specs.Stage.{Stage, client_step, client_stepped, publisher_step, publisher_stepped, entries_done, IsOneRound}
 use Rattle.mama_seats.specs.Sender.{Sender, first_step, later_steps, steps_in, IsSenderStep}
 use Rattle.mama_seats.specs.Stand.{Stand, client_left, reading, Ends, BeginsWith, IsStep}

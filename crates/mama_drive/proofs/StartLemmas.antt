@@ -19,8 +19,10 @@ use Rattle.mama_script.specs.Script.{ScriptData}
 use Rattle.mama_script.specs.Tree.{IsScript, topic_of_part}
 use Rattle.mama_script.specs.Within.{IsWithin, IsPublisherWithin}
 use Rattle.mama_rules_rounds.specs.Client.{Planned, clock_lines, client_steps}
-use Rattle.mama_rules_rounds.specs.World.{World, Grouped}
-use Rattle.mama_rules_rounds.specs.Round.{setting_of, groups_from, watches_from, publishers_from, sends_in, publisher_steps, all_client_steps}
+use Rattle.mama_rules_rounds.specs.Setting.{Grouped}
+use Rattle.mama_rules_rounds.specs.World.{World}
+use Rattle.mama_rules_rounds.specs.Sections.{setting_of, groups_from, watches_from, publishers_from, sends_in, all_client_steps}
+use Rattle.mama_rules_rounds.specs.Round.{publisher_steps}
 use Rattle.mama_plans.specs.Lists.{groups_on, groups_on_each, watches_on_each}
 use Rattle.mama_seats.specs.Sender.{Sender, steps_in}
 use Rattle.mama_seats.specs.Stand.{Stand, reading}

@@ -13,7 +13,7 @@ use Rattle.mama_script.specs.declared.publisher.PublisherPart.{PublisherPart}
 use Rattle.mama_plans.specs.Lists.{groups_on, watches_on, groups_on_each, watches_on_each}
 use Rattle.mama_plans.proofs.EachLemmas.{numbers_len}
 use Rattle.mama_rules_rounds.specs.Client.{Planned}
-use Rattle.mama_rules_rounds.specs.World.{Grouped, Watched}
+use Rattle.mama_rules_rounds.specs.Setting.{Grouped, Watched}
 use Rattle.mama_seats.specs.Server.{Server}
 use Rattle.mama_seats.specs.Stand.{Stand}
 use Rattle.mama_seats.specs.Sender.{Sender}

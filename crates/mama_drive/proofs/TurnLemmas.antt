@@ -1,7 +1,8 @@
 -- Turns of many actors, passes, and when nothing waits.
 use Rattle.std.proofs.Common.{◌≡◌, ℕ, zero, suc, ◌+◌, ◌<◌, ◌≤◌, true, List, [], ◌∷◌, map, get_or, refl, ◌∙◌, ap, subst, arith}
 use Rattle.std.specs.List.{list_all}
-use Rattle.mama_rules_rounds.specs.World.{Setting, World, is_empty, in_turn, publisher_turn, publisher_took, queue_turn, queue_took, pass, IsQuiet}
+use Rattle.mama_rules_rounds.specs.Setting.{Setting}
+use Rattle.mama_rules_rounds.specs.World.{World, is_empty, in_turn, publisher_turn, publisher_took, queue_turn, queue_took, pass, IsQuiet}
 use Rattle.mama_drive.specs.Scene.{Scene, Moves, setting_in, world_in, lane_in, waiting_in, Passes}
 use Rattle.mama_drive.proofs.SceneLemmas.{moves_then, moves_none}
 

@@ -4,7 +4,8 @@ use Rattle.std.specs.Prelude.{Option, Some, None, IfSome, Result, IfOk}
 use Rattle.std.proofs.lemmas.List.{length-map}
 use Rattle.mama_event.specs.declared.shape.Shape.{Shape}
 use Rattle.mama_event.specs.Ports.{publishers_of, queues_of}
-use Rattle.mama_rules_rounds.specs.World.{Setting, World, in_turn, bridge_turn, timers_turn, publisher_turn, queue_turn, pass, IsQuiet}
+use Rattle.mama_rules_rounds.specs.Setting.{Setting}
+use Rattle.mama_rules_rounds.specs.World.{World, in_turn, bridge_turn, timers_turn, publisher_turn, queue_turn, pass, IsQuiet}
 use Rattle.mama_drive.specs.declared.turn.Turn.{Turn}
 use Rattle.mama_drive.specs.declared.turn.Turn.TheVariants as turn
 use Rattle.mama_drive.specs.Scene.{Scene, Moves, Drains, setting_in, world_in, lane_in, waiting_in}

@@ -1,7 +1,7 @@
 -- inner: A run that is under way, as `new`, `go` and `into_record` hand it on. What comes of it is told in the words of rounds.
 use Rattle.std.specs.Prelude.{ℕ, Bool, false, List, Option}
 use Rattle.mama_script.specs.Script.{ScriptData}
-use Rattle.mama_rules_rounds.specs.Round.{setting_of}
+use Rattle.mama_rules_rounds.specs.Sections.{setting_of}
 use Rattle.mama_seats.specs.Moments.{Answered}
 use Rattle.mama_drive.specs.declared.place.Place.{Place}
 use Rattle.mama_drive.specs.declared.place.Place.TheVariants as place

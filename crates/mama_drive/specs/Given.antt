@@ -6,7 +6,7 @@ use Rattle.mama_rules_queue.specs.Queue.{deeds, calls_of}
 use Rattle.mama_dispatch.specs.Callbacks.{calls_to, without}
 use Rattle.mama_record.specs.RunData.{ObjectCalls}
 use Rattle.mama_rules_rounds.specs.Client.{Planned}
-use Rattle.mama_rules_rounds.specs.Round.{noted}
+use Rattle.mama_rules_rounds.specs.Told.{noted}
 use Rattle.mama_plans.specs.Orders.{orders_in}
 use Rattle.mama_seats.specs.Server.{Server}
 

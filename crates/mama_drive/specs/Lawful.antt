@@ -2,7 +2,8 @@
 use Rattle.std.specs.Prelude.{◌≡◌, ℕ, ◌<◌, Bool, true, List, [], length, slice_index_or}
 use Rattle.mama_event.specs.Ports.{clients_of, publishers_of}
 use Rattle.mama_rules_queue.specs.Queue.{QueuePut}
-use Rattle.mama_rules_rounds.specs.World.{Setting, World}
+use Rattle.mama_rules_rounds.specs.Setting.{Setting}
+use Rattle.mama_rules_rounds.specs.World.{World}
 use Rattle.mama_rules_rounds.specs.Stage.{Stage}
 use Rattle.mama_laws_legal.proofs.Whole.{Running}
 use Rattle.mama_laws_allowed.specs.Allowed.{ArePutsLawful}

@@ -6,7 +6,8 @@ use Rattle.mama_event.specs.declared.to_queue.QueueNote.{QueueNote}
 use Rattle.mama_rules_queue.specs.Queue.{deeds, calls_of}
 use Rattle.mama_record.specs.RunData.{RunData, ObjectCalls, LastImage}
 use Rattle.mama_rules_rounds.specs.Client.{Planned}
-use Rattle.mama_rules_rounds.specs.Round.{noted, record_of}
+use Rattle.mama_rules_rounds.specs.Told.{noted}
+use Rattle.mama_rules_rounds.specs.Round.{record_of}
 use Rattle.mama_plans.specs.Orders.{orders_in}
 use Rattle.mama_plans.specs.Image.{image_of}
 use Rattle.mama_seats.specs.Stand.{Stand}

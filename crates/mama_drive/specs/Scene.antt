@@ -18,7 +18,8 @@ use Rattle.mama_rules_services.specs.Bridge.{BridgePut, to_publisher, to_queue}
 use Rattle.mama_rules_services.specs.Bridge as bridge
 use Rattle.mama_rules_queue.specs.Queue.{QueuePut}
 use Rattle.mama_rules_rounds.specs.Client.{Planned}
-use Rattle.mama_rules_rounds.specs.World.{Setting, World, Grouped, Watched, extended, publisher_part, queue_part, timer_part, is_empty, passes, IsQuiet}
+use Rattle.mama_rules_rounds.specs.Setting.{Setting, Grouped, Watched, publisher_part, queue_part, timer_part}
+use Rattle.mama_rules_rounds.specs.World.{World, extended, is_empty, passes, IsQuiet}
 use Rattle.mama_rules_rounds.specs.Stage.{Stage, IsStageDrained, AreSteps, AreRounds}
 use Rattle.mama_seats.specs.Sender.{Sender, steps_in}
 use Rattle.mama_seats.specs.Stand.{Stand, client_left, reading, Ends, BeginsWith}

@@ -7,7 +7,8 @@ use Rattle.mama_script.specs.Script.{ScriptData}
 use Rattle.mama_rules_rounds.specs.Client.{Planned, clock_lines}
 use Rattle.mama_event.specs.declared.group.GroupRow.{GroupRow}
 use Rattle.mama_event.specs.declared.watch.WatchRow.{WatchRow}
-use Rattle.mama_rules_rounds.specs.Round.{setting_of, start, groups_from, watches_from}
+use Rattle.mama_rules_rounds.specs.Sections.{setting_of, groups_from, watches_from}
+use Rattle.mama_rules_rounds.specs.Round.{start}
 use Rattle.mama_plans.specs.Lists.{groups_on_each, watches_on_each}
 use Rattle.mama_seats.specs.Server.{Server}
 use Rattle.mama_seats.specs.Sender.{Sender, script_of}

@@ -2,7 +2,7 @@ ghost use Rattle.std.specs.Prelude.{◌≡◌, ◌^◌, ◌<◌, ◌≤◌, leng
 ghost use Rattle.std.specs.Arc.{arc_value};
 ghost use Rattle.std.specs.List.{AllByRecursion};
 ghost use Rattle.mama_script.specs.declared.publisher.PublisherPart.{PublisherPart};
-ghost use Rattle.mama_rules_rounds.specs.Round.{setting_of};
+ghost use Rattle.mama_rules_rounds.specs.Sections.{setting_of};
 ghost use Rattle.mama_seats.specs.Heard.{IsGroupList};
 ghost use Rattle.mama_timeout.specs.Table.{AreApart};
 ghost use Rattle.mama_drive.specs.Start.{stands_from, senders_from, new_servers, started};

@@ -38,7 +38,7 @@ pub struct System<'a> {
 
 impl<'a> Model for System<'a> {
     ghost use Rattle.std.specs.Arc.{arc_value};
-    ghost use Rattle.mama_rules_rounds.specs.Round.{groups_from, watches_from};
+    ghost use Rattle.mama_rules_rounds.specs.Sections.{groups_from, watches_from};
     ghost use Rattle.mama_drive.specs.Scene.{Scene, IsSystem};
 
     ghost Value = { Scene };

@@ -5,6 +5,7 @@ use Rattle.std.specs.Str.{bytes_eq}
 use Rattle.mama_msg.specs.Equality.{same_message}
 use Rattle.mama_link.specs.Equality.{same_rows}
 use Rattle.mama_event.specs.Object.{same_sub, same_timer, same_inbox, same_object}
+use Rattle.mama_event.specs.GroupStates.{same_group_state}
 use Rattle.mama_event.specs.declared.market.MsgKind.{MsgKind}
 use Rattle.mama_event.specs.declared.market.MsgKind.TheVariants.{Initial, Update, Recap}
 use Rattle.mama_event.specs.declared.market.Quality.{Quality}
@@ -24,8 +25,6 @@ use Rattle.mama_event.specs.declared.callback.Callback.TheVariants as call
 use Rattle.mama_event.specs.declared.callback.CallNote.{CallNote}
 use Rattle.mama_event.specs.declared.ids.SubId.{SubId}
 use Rattle.mama_event.specs.declared.group.GroupRow.{GroupRow}
-use Rattle.mama_event.specs.declared.group.GroupState.{GroupState}
-use Rattle.mama_event.specs.declared.group.GroupState.TheVariants as state
 use Rattle.mama_event.specs.declared.group.GroupNote.{GroupNote}
 use Rattle.mama_event.specs.declared.group.GroupNote.TheVariants as grouped
 use Rattle.mama_event.specs.declared.watch.WatchRow.{WatchRow}
@@ -132,14 +131,6 @@ same_members a b = pointwise same_sub a b
 
 abbrev pub same_group_row : GroupRow → GroupRow → Bool
 same_group_row a b = same_members a.members b.members
-
--- two states are one
-abbrev pub same_group_state : GroupState → GroupState → Bool
-same_group_state state.Waiting state.Waiting = true
-same_group_state state.Fresh state.Fresh = true
-same_group_state state.Stale state.Stale = true
-same_group_state state.Ended state.Ended = true
-same_group_state _ _ = false
 
 -- two notes of a group are one
 abbrev pub same_group_note : GroupNote → GroupNote → Bool

@@ -52,7 +52,8 @@ use Rattle.mama_event.specs.declared.ids.InboxId.{InboxId}
 use Rattle.mama_event.specs.declared.ids.ObjectId.{ObjectId}
 use Rattle.mama_event.specs.declared.ids.ObjectId.TheVariants.{Sub, Timer, Inbox}
 use Rattle.mama_event.specs.Object.{same_sub, same_timer, same_inbox, same_object}
-use Rattle.mama_event.specs.Equality.{same_kind, same_quality, same_sub_kind, same_strategy, same_make, same_market_msg, same_wire_msg, same_piece_msg, same_order, same_orders, same_plan_row, same_callback, same_call_note, same_members, same_group_row, same_group_state, same_group_note, same_watch_row, same_watch_note, same_sub_terms, same_inbox_terms, same_publisher_note, same_publisher_entry, same_queue_note, same_bridge_note}
+use Rattle.mama_event.specs.Equality.{same_kind, same_quality, same_sub_kind, same_strategy, same_make, same_market_msg, same_wire_msg, same_piece_msg, same_order, same_orders, same_plan_row, same_callback, same_call_note, same_members, same_group_row, same_group_note, same_watch_row, same_watch_note, same_sub_terms, same_inbox_terms, same_publisher_note, same_publisher_entry, same_queue_note, same_bridge_note}
+use Rattle.mama_event.specs.GroupStates.{same_group_state}
 
 -- two tests decide two facts
 and-Decides : {a b : Bool} {P Q : Type 0} → Decides a P → Decides b Q → Decides (a && b) (P × Q)

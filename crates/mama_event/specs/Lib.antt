@@ -4,8 +4,10 @@ pub mod EqualityLaws
 pub mod FidList
 pub mod Lawful
 pub mod LawfulLaws
+pub mod GroupStates
 pub mod Listener
 pub mod Object
+pub mod Plan
 pub mod Ports
 pub mod Publisher
 pub mod Record

@@ -1,13 +1,10 @@
 -- believed: a listener as contracts see it, and what each of its callbacks makes of it.
-use Rattle.std.specs.Prelude.{◌≡◌, ℕ, zero, suc, ◌+◌, nat_lt, ◌==◌, List, [], ◌∷◌, ◌++◌, map, filter, Option, None, Some, if◌then◌else◌, IsSomeAnd}
+use Rattle.std.specs.Prelude.{◌≡◌, ℕ, zero, suc, ◌+◌, nat_lt, List, [], ◌∷◌, ◌++◌, Option, None, Some, if◌then◌else◌, IsSomeAnd}
 use Rattle.mama_event.specs.declared.ids.ObjectId.{ObjectId}
 use Rattle.mama_event.specs.declared.callback.Callback.{Callback}
 use Rattle.mama_event.specs.declared.order.Order.{Order}
 use Rattle.mama_event.specs.declared.order.PlanRow.{PlanRow}
-
--- the orders of a plan for the callback of this number, in order
-abbrev pub planned : List PlanRow → ℕ → List Order
-planned plan call = map (λ r. r.order) (filter (λ r. r.call == call) plan)
+use Rattle.mama_event.specs.Plan.{planned}
 
 -- A listener: its object, how many callbacks it got, and, where it tells them, those callbacks, the orders that it gave
 -- in each, and its plan.

@@ -20,8 +20,9 @@ use Rattle.mama_script.specs.Script.{ScriptData}
 use Rattle.mama_record.specs.RunData.{GroupNotes}
 use Rattle.mama_rules_queue.specs.Group.{group_notes}
 use Rattle.mama_rules_rounds.specs.Client.{Planned}
-use Rattle.mama_rules_rounds.specs.World.{Grouped, orders_by}
-use Rattle.mama_rules_rounds.specs.Round.{setting_of, planned_in, groups_from, group_told}
+use Rattle.mama_rules_rounds.specs.Setting.{Grouped, orders_by}
+use Rattle.mama_rules_rounds.specs.Sections.{setting_of, planned_in, groups_from}
+use Rattle.mama_rules_rounds.specs.Told.{group_told}
 use Rattle.mama_plans.specs.Orders.{orders_in}
 use Rattle.mama_plans.specs.Lists.{group_row}
 use Rattle.mama_plans.specs.Numbered.{lists_put}

@@ -11,7 +11,8 @@ use Rattle.mama_event.specs.declared.to_queue.QueueNote.{QueueNote}
 use Rattle.mama_script.specs.Script.{ScriptData}
 use Rattle.mama_record.specs.RunData.{GroupNotes}
 use Rattle.mama_record.specs.RunView.{groups_of}
-use Rattle.mama_rules_rounds.specs.Round.{setting_of, group_told}
+use Rattle.mama_rules_rounds.specs.Sections.{setting_of}
+use Rattle.mama_rules_rounds.specs.Told.{group_told}
 use Rattle.mama_plans.specs.Numbered.{numbered, lists_put}
 use Rattle.mama_group.specs.Listener.{GroupListenerData}
 use Rattle.mama_group.specs.Table.{GroupData, GroupPart, part_of, part_given}

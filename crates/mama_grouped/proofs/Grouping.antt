@@ -12,8 +12,8 @@ use Rattle.mama_words.specs.Id.{sub_word}
 use Rattle.mama_script.specs.Placing.{has_id}
 use Rattle.mama_script.specs.Within.{AreIdsApart, all_grouped, HasMember}
 use Rattle.mama_rules_rounds.specs.Client.{Planned}
-use Rattle.mama_rules_rounds.specs.World.{Grouped}
-use Rattle.mama_rules_rounds.specs.Round.{groups_from, queue_of_members}
+use Rattle.mama_rules_rounds.specs.Setting.{Grouped}
+use Rattle.mama_rules_rounds.specs.Sections.{groups_from, queue_of_members}
 use Rattle.mama_plans.specs.Lists.{group_row, groups_on}
 use Rattle.mama_group.specs.Table.{AreApart, HaveMembers, has_member, are_distinct, all_members}
 use Rattle.mama_grouped.proofs.Serving.{other_way}

@@ -6,7 +6,7 @@ use Rattle.std.proofs.lemmas.List.{map-append}
 use Rattle.std.proofs.lemmas.List.Elements.{All-nil, All-push, All-same}
 use Rattle.mama_event.specs.declared.group.GroupRow.{GroupRow}
 use Rattle.mama_script.specs.Script.{ScriptData}
-use Rattle.mama_rules_rounds.specs.Round.{setting_of}
+use Rattle.mama_rules_rounds.specs.Sections.{setting_of}
 use Rattle.mama_crew.specs.Hall.{HallValue}
 use Rattle.mama_crew.specs.New as begun
 use Rattle.mama_crew.specs.Seat as crew

@@ -16,8 +16,8 @@ use Rattle.mama_event.specs.declared.to_queue.QueueNote.{QueueNote}
 use Rattle.mama_script.specs.Script.{ScriptData}
 use Rattle.mama_script.specs.Within.{IsWithin}
 use Rattle.mama_rules_queue.specs.Group.{group_notes}
-use Rattle.mama_rules_rounds.specs.World.{Grouped}
-use Rattle.mama_rules_rounds.specs.Round.{setting_of, planned_in}
+use Rattle.mama_rules_rounds.specs.Setting.{Grouped}
+use Rattle.mama_rules_rounds.specs.Sections.{setting_of, planned_in}
 use Rattle.mama_plans.specs.Orders.{orders_in}
 use Rattle.mama_plans.specs.Lists.{groups_on, groups_on_each}
 use Rattle.mama_group.specs.Listener.{GroupListenerData, HeardOn}

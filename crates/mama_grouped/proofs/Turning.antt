@@ -11,7 +11,7 @@ use Rattle.mama_event.specs.declared.ids.SubId.{SubId}
 use Rattle.mama_event.specs.declared.to_queue.QueueNote.{QueueNote}
 use Rattle.mama_script.specs.Script.{ScriptData}
 use Rattle.mama_rules_queue.specs.Group.{group_notes}
-use Rattle.mama_rules_rounds.specs.Round.{setting_of}
+use Rattle.mama_rules_rounds.specs.Sections.{setting_of}
 use Rattle.mama_plans.specs.Orders.{orders_in}
 use Rattle.mama_plans.specs.Lists.{groups_on}
 use Rattle.mama_group.specs.Table.{GroupData}

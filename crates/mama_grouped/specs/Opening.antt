@@ -5,7 +5,7 @@ use Rattle.std.specs.List.{AllZip}
 use Rattle.mama_edge.specs.declared.gate.GateActor.{GateActor}
 use Rattle.mama_edge.specs.declared.gate.GateActor.TheVariants as gate
 use Rattle.mama_event.specs.declared.group.GroupRow.{GroupRow}
-use Rattle.mama_rules_rounds.specs.World.{Grouped}
+use Rattle.mama_rules_rounds.specs.Setting.{Grouped}
 use Rattle.mama_plans.specs.Lists.{groups_on}
 use Rattle.mama_group.specs.Listener.{GroupListenerData, IsNew}
 

@@ -1,7 +1,7 @@
 ghost use Rattle.std.specs.Prelude.{◌≡◌, [], ◌∷◌, ◌++◌, map, Ok, IfOk, IfSome, OnOk};
 ghost use Rattle.std.specs.List.{All};
 ghost use Rattle.std.specs.Vec.Iter.{into_iter_items};
-ghost use Rattle.mama_rules_rounds.specs.Round.{setting_of};
+ghost use Rattle.mama_rules_rounds.specs.Sections.{setting_of};
 ghost use Rattle.mama_crew.specs.Seat as crew;
 ghost use Rattle.mama_crew.specs.New as begun;
 ghost use Rattle.mama_group.specs.Listener.{told};

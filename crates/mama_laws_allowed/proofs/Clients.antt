@@ -21,7 +21,7 @@ use Rattle.mama_script.specs.declared.client.QueueWord.{QueueWord}
 use Rattle.mama_script.specs.declared.client.QueueWord.TheVariants.{Number, Any}
 use Rattle.mama_script.specs.Within.{IsClientWithin, IsStepWithin, IsQueueWithin}
 use Rattle.mama_rules_rounds.specs.Client.{Standing, at_first, queue_named, after_line, steps_from, client_steps, bridge_part, timers_part, first_moment}
-use Rattle.mama_rules_rounds.specs.Round.{all_client_steps}
+use Rattle.mama_rules_rounds.specs.Sections.{all_client_steps}
 use Rattle.mama_rules_legal.specs.Edges.{all_steps}
 use Rattle.mama_laws_allowed.specs.Allowed.{ClientPutsAreLawful, ClientPutsAreItsOwn}
 use Rattle.mama_laws_allowed.proofs.Following.{ruled, comes, none_after}

@@ -31,7 +31,7 @@ use Rattle.mama_event.specs.declared.watch.WatchNote.TheVariants.{Retry, Timeout
 use Rattle.mama_rules_queue.specs.Queue.{Deed, handled, called, QueuePut, to_bridge, to_timers, order_put, wish_put, puts_of, is_fin, bye_put, deeds, deeds_at}
 use Rattle.mama_rules_queue.specs.Watch.{is_missed, counted, watch_note, watch_notes_at, wish_in, wishes_at, watched_puts_at}
 use Rattle.mama_rules_rounds.specs.Client.{bridge_part, timers_part}
-use Rattle.mama_rules_rounds.specs.World.{orders_by, rows_on}
+use Rattle.mama_rules_rounds.specs.Setting.{orders_by, rows_on}
 use Rattle.mama_laws_allowed.specs.Allowed.{QueuePutsAreLawful}
 use Rattle.mama_laws_allowed.proofs.Following.{ruled, is_calm, comes, calm_first}
 

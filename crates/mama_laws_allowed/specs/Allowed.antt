@@ -20,7 +20,7 @@ use Rattle.mama_script.specs.Within.{IsWithin}
 use Rattle.mama_record.specs.RunData.{RunData}
 use Rattle.mama_rules_queue.specs.Queue.{QueuePut}
 use Rattle.mama_rules_rounds.specs.Client.{client_steps, bridge_part, timers_part}
-use Rattle.mama_rules_rounds.specs.World.{Setting}
+use Rattle.mama_rules_rounds.specs.Setting.{Setting}
 use Rattle.mama_rules_legal.specs.Edges.{all_steps, client_puts, queue_puts, AreEdges}
 use Rattle.mama_rules_legal.specs.Lines.{is_done, takes_settle, IsSentOut}
 

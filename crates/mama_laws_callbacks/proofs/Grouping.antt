@@ -40,8 +40,9 @@ use Rattle.mama_rules_queue.specs.Group.{Member, waits, has, ended, member_after
 use Rattle.mama_rules_services.specs.Bridge.{heard, window}
 use Rattle.mama_script.specs.Script.{ScriptData}
 use Rattle.mama_record.specs.RunData.{RunData, LastImage}
-use Rattle.mama_rules_rounds.specs.World.{Grouped, orders_by}
-use Rattle.mama_rules_rounds.specs.Round.{setting_of, publishers_from, image_in}
+use Rattle.mama_rules_rounds.specs.Setting.{Grouped, orders_by}
+use Rattle.mama_rules_rounds.specs.Sections.{setting_of, publishers_from}
+use Rattle.mama_rules_rounds.specs.Told.{image_in}
 use Rattle.mama_rules_legal.specs.Streams.{is_of, events_of, terms_of, IsSubJournal}
 use Rattle.mama_rules_legal.specs.Legal.{IsLegal}
 use Rattle.mama_laws_legal.specs.Laws.{IsOrderly}

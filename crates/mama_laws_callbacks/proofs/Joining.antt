@@ -22,7 +22,7 @@ use Rattle.mama_script.specs.declared.client.ClientLine.TheVariants as line
 use Rattle.mama_script.specs.declared.client.QueueWord.{QueueWord}
 use Rattle.mama_script.specs.declared.client.QueueWord.TheVariants.{Number, Any}
 use Rattle.mama_rules_rounds.specs.Client.{Standing, Planned, at_first, queue_named, after_word, after_line, line_steps, steps_from, line_object, objects_from, client_objects}
-use Rattle.mama_rules_rounds.specs.Round.{all_client_steps, objects_of, is_sub, is_timer, is_inbox, by_kind}
+use Rattle.mama_rules_rounds.specs.Sections.{all_client_steps, objects_of, is_sub, is_timer, is_inbox, by_kind}
 use Rattle.mama_rules_legal.specs.Edges.{all_steps}
 use Rattle.mama_rules_legal.specs.Streams.{terms_put, inbox_terms_put}
 use Rattle.mama_rules_legal.specs.Ticks.{arming_put}

@@ -10,7 +10,7 @@ use Rattle.std.proofs.lemmas.Option.{slice_get_past}
 use Rattle.mama_journal.specs.Journal.{first_said}
 use Rattle.mama_event.specs.Object.{same_sub, same_object}
 use Rattle.mama_event.specs.Ports.{queues_of}
-use Rattle.mama_event.specs.Listener.{planned}
+use Rattle.mama_event.specs.Plan.{planned}
 use Rattle.mama_event.specs.declared.ids.SubId.{SubId}
 use Rattle.mama_event.specs.declared.ids.ObjectId.{ObjectId}
 use Rattle.mama_event.specs.declared.ids.ObjectId.TheVariants.{Sub, Timer, Inbox}
@@ -38,15 +38,17 @@ use Rattle.mama_script.specs.Within.{IsWithin, HasMember}
 use Rattle.mama_rules_queue.specs.Queue.{QueuePut, ends}
 use Rattle.mama_record.specs.RunData.{RunData}
 use Rattle.mama_rules_rounds.specs.Client.{Planned, Standing, at_first, queue_named, after_word, after_line, line_steps, steps_from, line_object, objects_from, client_objects}
-use Rattle.mama_rules_rounds.specs.World.{Grouped, plan_in, rows_of}
-use Rattle.mama_rules_rounds.specs.Round.{all_client_steps, objects_of, is_sub, is_timer, is_inbox, by_kind, queue_in, queue_of, queue_of_members, planned_in, groups_from, group_told, setting_of}
+use Rattle.mama_rules_rounds.specs.Setting.{Grouped, plan_in, rows_of}
+use Rattle.mama_rules_rounds.specs.Sections.{all_client_steps, objects_of, is_sub, is_timer, is_inbox, by_kind, queue_in, queue_of, queue_of_members, planned_in, groups_from, setting_of}
+use Rattle.mama_rules_rounds.specs.Told.{group_told}
 use Rattle.mama_rules_legal.specs.Edges.{all_steps}
 use Rattle.mama_rules_legal.specs.Streams.{terms_put, terms_of}
 use Rattle.mama_laws_genuine.proofs.Elements.{all_append, all_filter, all_left, all_right}
 use Rattle.mama_laws_genuine.proofs.Joining.{JoinsNone, none_first, pauses, ordered, of_client}
 use Rattle.mama_script.proofs.Keeping.{script_within}
 use Rattle.mama_laws_legal.specs.Laws.{IsOrderly}
-use Rattle.mama_laws_callbacks.specs.Grouped.{IsTrueGroup, LegalGroupsAreTrue}
+use Rattle.mama_laws_callbacks.specs.Grouped.{IsTrueGroup}
+use Rattle.mama_laws_callbacks.specs.Laws.{LegalGroupsAreTrue}
 use Rattle.mama_laws_callbacks.proofs.Grouping.{MayJoin, groups_are_true}
 use Rattle.mama_laws_callbacks.proofs.Placing.{StopsNot, all_stop_not, IsGroup, groups_behind, rostered_with, rostered, rosters_are}
 

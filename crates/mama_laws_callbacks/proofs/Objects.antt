@@ -24,8 +24,9 @@ use Rattle.mama_rules_queue.specs.Queue.{QueuePut, calls_of}
 use Rattle.mama_record.specs.RunData.{RunData, ObjectCalls}
 use Rattle.mama_script.specs.Script.{ScriptData}
 use Rattle.mama_rules_rounds.specs.Client.{Planned}
-use Rattle.mama_rules_rounds.specs.World.{orders_by}
-use Rattle.mama_rules_rounds.specs.Round.{setting_of, object_calls, noted, all_client_steps}
+use Rattle.mama_rules_rounds.specs.Setting.{orders_by}
+use Rattle.mama_rules_rounds.specs.Sections.{setting_of, all_client_steps}
+use Rattle.mama_rules_rounds.specs.Told.{object_calls, noted}
 use Rattle.mama_rules_legal.specs.Edges.{client_puts}
 use Rattle.mama_rules_legal.specs.Streams.{terms_of, terms_put, inbox_terms_of, inbox_terms_put, IsSubJournal, IsInboxJournal}
 use Rattle.mama_rules_legal.specs.Ticks.{arming_of, arming_put, ticks, IsTimerJournal}
@@ -33,7 +34,8 @@ use Rattle.mama_rules_legal.specs.HaveStreams.{HaveStreams}
 use Rattle.mama_rules_legal.specs.Legal.{IsLegal}
 use Rattle.mama_laws_legal.specs.Laws.{IsOrderly}
 use Rattle.mama_laws_legal.proofs.LegalRounds.{have_streams}
-use Rattle.mama_laws_callbacks.specs.Told.{call_in, call_of, tells, ticks_told, replies_told, deeds_on, IsTold, IsToldLink, IsToldTicks, IsToldReplies, IsToldObject, Of, LegalRecordsTellAll}
+use Rattle.mama_laws_callbacks.specs.Told.{call_in, call_of, tells, ticks_told, replies_told, deeds_on, IsTold, IsToldLink, IsToldTicks, IsToldReplies, IsToldObject, Of}
+use Rattle.mama_laws_callbacks.specs.Laws.{LegalRecordsTellAll}
 use Rattle.mama_laws_callbacks.proofs.Telling.{sub_told, sub_at_once, timer_told, timer_at_once, inbox_told, inbox_at_once}
 use Rattle.mama_laws_callbacks.proofs.Joining.{OfClient, PlannedOf, queue_in, timer_queue_in, inbox_queue_in, all_planned}
 

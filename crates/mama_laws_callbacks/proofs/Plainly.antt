@@ -16,7 +16,7 @@ use Rattle.mama_rules_services.specs.Bridge.{heard, window}
 use Rattle.mama_laws_genuine.proofs.Ordered.{windows_are_in_order}
 use Rattle.mama_laws_genuine.proofs.CalmLinks.{plain}
 use Rattle.mama_laws_callbacks.specs.Told.{told_from, tells}
-use Rattle.mama_laws_callbacks.specs.Plain.{LegalRecordsTellPlainly}
+use Rattle.mama_laws_callbacks.specs.Laws.{LegalRecordsTellPlainly}
 
 -- messages of which none is cut are told as the strategy calls them back
 told_plain : (c : ContextData) (messages : List MarketMsg) → told_from c (arriving messages) ≡ flat_map (λ (calls : List Callback). calls) (calls_after c messages)

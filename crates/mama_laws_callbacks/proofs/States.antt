@@ -13,7 +13,7 @@ use Rattle.mama_event.specs.declared.group.GroupState.{GroupState}
 use Rattle.mama_event.specs.declared.group.GroupState.TheVariants as state
 use Rattle.mama_event.specs.declared.to_queue.QueueNote.{QueueNote}
 use Rattle.mama_event.specs.Object.{same_sub}
-use Rattle.mama_event.specs.Equality.{same_group_state}
+use Rattle.mama_event.specs.GroupStates.{same_group_state}
 use Rattle.mama_event.specs.EqualityLaws.{same_group_state-Decides}
 use Rattle.mama_rules_queue.specs.Queue.{Deed, handled, called, deeds, deeds_at}
 use Rattle.mama_rules_queue.specs.Group.{heard_of, state_told, group_state, group_notes, group_notes_at}

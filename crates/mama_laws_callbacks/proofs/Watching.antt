@@ -24,11 +24,13 @@ use Rattle.mama_event.specs.declared.watch.WatchNote.TheVariants.{Retry, Timeout
 use Rattle.mama_dq.specs.Strategy.{callbacks_of}
 use Rattle.mama_rules_queue.specs.Queue.{Deed, handled, called, calls_of, is_destroy, is_muted, made, make_in, context_of, messages_of, served, deeds, deeds_at}
 use Rattle.mama_rules_queue.specs.Watch.{is_missed, ticked, counted_at, counted, watch_note, watch_notes_at, watch_notes}
-use Rattle.mama_rules_rounds.specs.World.{Setting, Watched, orders_by}
-use Rattle.mama_rules_rounds.specs.Round.{setting_of, watch_told}
+use Rattle.mama_rules_rounds.specs.Setting.{Setting, Watched, orders_by}
+use Rattle.mama_rules_rounds.specs.Sections.{setting_of}
+use Rattle.mama_rules_rounds.specs.Told.{watch_told}
 use Rattle.mama_laws_genuine.proofs.Elements.{all_append, all_weaker}
 use Rattle.mama_laws_genuine.proofs.Truths.{all_zipped}
-use Rattle.mama_laws_callbacks.specs.Watched.{timeouts_in, retries_in, IsTimedOut, IsTrueWatch, LegalWatchesAreTrue}
+use Rattle.mama_laws_callbacks.specs.Watched.{timeouts_in, retries_in, IsTimedOut, IsTrueWatch}
+use Rattle.mama_laws_callbacks.specs.Laws.{LegalWatchesAreTrue}
 
 -- ---- an entry ticks a timer at most once
 

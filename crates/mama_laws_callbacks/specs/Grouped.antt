@@ -17,11 +17,10 @@ use Rattle.mama_event.specs.declared.to_queue.QueueNote.{QueueNote}
 use Rattle.mama_rules_queue.specs.Queue.{make_in, context_of, messages_of, deeds}
 use Rattle.mama_rules_queue.specs.Group.{is_ended, member_in, group_state, group_notes}
 use Rattle.mama_script.specs.Script.{ScriptData}
-use Rattle.mama_script.specs.Tree.{IsScript}
 use Rattle.mama_record.specs.RunData.{RunData, LastImage, GroupNotes}
-use Rattle.mama_rules_rounds.specs.World.{Grouped, orders_by}
-use Rattle.mama_rules_rounds.specs.Round.{setting_of, publishers_from, image_in}
-use Rattle.mama_rules_legal.specs.Legal.{IsLegal}
+use Rattle.mama_rules_rounds.specs.Setting.{Grouped, orders_by}
+use Rattle.mama_rules_rounds.specs.Sections.{setting_of, publishers_from}
+use Rattle.mama_rules_rounds.specs.Told.{image_in}
 use Rattle.mama_laws_genuine.specs.Records.{IsRecord}
 
 -- after some entries of its queue's journal a subscription has an image that is ok, and it is its sender's record at its number
@@ -59,7 +58,3 @@ pub record IsTrueGroup (script : ScriptData) (run : RunData) (g : Grouped) (told
 -- so it is with each group of a script
 abbrev pub AreTrueGroups : ScriptData → RunData → Type 0
 AreTrueGroups script run = AllZip (IsTrueGroup script run) (setting_of script).groups run.groups
-
--- a law: so it is in each legal record of a script that a text spells
-abbrev pub LegalGroupsAreTrue : Type 0
-LegalGroupsAreTrue = (script : ScriptData) (run : RunData) → IsScript script → IsLegal script run → AreTrueGroups script run

@@ -3,3 +3,4 @@ pub mod Plain
 pub mod Word
 pub mod Watched
 pub mod Grouped
+pub mod Laws

@@ -9,8 +9,6 @@ use Rattle.mama_rules_services.specs.Bridge.{heard, window}
 use Rattle.mama_record.specs.RunData.{RunData}
 use Rattle.mama_script.specs.Script.{ScriptData}
 use Rattle.mama_rules_legal.specs.Streams.{terms_of}
-use Rattle.mama_rules_legal.specs.Legal.{IsLegal}
-use Rattle.mama_laws_legal.specs.Laws.{IsOrderly}
 use Rattle.mama_laws_genuine.specs.CalmLinks.{HasPlainLink}
 use Rattle.mama_laws_callbacks.specs.Told.{tells}
 
@@ -24,7 +22,3 @@ pub record IsToldPlainly (script : ScriptData) (run : RunData) (s : SubId) (link
 -- so it is with each market subscription that has a plain link
 abbrev pub ArePlainlyTold : ScriptData → RunData → Type 0
 ArePlainlyTold script run = (s : SubId) (link : HasPlainLink script s) → link.terms.kind ≡ Market → IsToldPlainly script run s link
-
--- so it is in every legal record, whichever thread ran what when
-abbrev pub LegalRecordsTellPlainly : Type 0
-LegalRecordsTellPlainly = (script : ScriptData) (run : RunData) → IsOrderly script → IsLegal script run → ArePlainlyTold script run

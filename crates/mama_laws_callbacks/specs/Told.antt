@@ -29,12 +29,10 @@ use Rattle.mama_rules_queue.specs.Queue.{Deed, called, calls_of, deeds, is_muted
 use Rattle.mama_record.specs.RunData.{RunData, ObjectCalls}
 use Rattle.mama_script.specs.Script.{ScriptData}
 use Rattle.mama_rules_rounds.specs.Client.{Planned}
-use Rattle.mama_rules_rounds.specs.World.{orders_by}
-use Rattle.mama_rules_rounds.specs.Round.{setting_of}
+use Rattle.mama_rules_rounds.specs.Setting.{orders_by}
+use Rattle.mama_rules_rounds.specs.Sections.{setting_of}
 use Rattle.mama_rules_legal.specs.Streams.{events_of, terms_of, inbox_terms_of}
 use Rattle.mama_rules_legal.specs.Ticks.{arming_of, ticks}
-use Rattle.mama_rules_legal.specs.Legal.{IsLegal}
-use Rattle.mama_laws_legal.specs.Laws.{IsOrderly}
 
 -- the callbacks that some deeds make of an object
 abbrev pub call_in : Callback × List Order → Callback
@@ -151,7 +149,3 @@ pub record IsToldObject (script : ScriptData) (run : RunData) (p : Planned) (c :
 -- so it is with each object of the script
 abbrev pub AreTold : ScriptData → RunData → Type 0
 AreTold script run = AllZip (IsToldObject script run) (setting_of script).objects run.calls
-
--- so it is in every legal record
-abbrev pub LegalRecordsTellAll : Type 0
-LegalRecordsTellAll = (script : ScriptData) (run : RunData) → IsOrderly script → IsLegal script run → AreTold script run

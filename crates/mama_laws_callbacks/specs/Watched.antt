@@ -11,9 +11,8 @@ use Rattle.mama_rules_queue.specs.Queue.{deeds, deeds_at}
 use Rattle.mama_rules_queue.specs.Watch.{is_missed, ticked, counted}
 use Rattle.mama_script.specs.Script.{ScriptData}
 use Rattle.mama_record.specs.RunData.{RunData, WatchNotes}
-use Rattle.mama_rules_rounds.specs.World.{Setting, Watched, orders_by}
-use Rattle.mama_rules_rounds.specs.Round.{setting_of}
-use Rattle.mama_rules_legal.specs.Legal.{IsLegal}
+use Rattle.mama_rules_rounds.specs.Setting.{Setting, Watched, orders_by}
+use Rattle.mama_rules_rounds.specs.Sections.{setting_of}
 
 -- the moments of the timeouts among some notes, and of the retries
 abbrev pub timeouts_in : WatchNote → List ℕ
@@ -47,7 +46,3 @@ pub record IsTrueWatch (setting : Setting) (queues : List (List (ℕ × QueueNot
 -- so it is with each watch of a script
 abbrev pub AreTrueWatches : ScriptData → RunData → Type 0
 AreTrueWatches script run = AllZip (IsTrueWatch (setting_of script) run.queues) (setting_of script).watches run.watches
-
--- a law: so it is in each legal record
-abbrev pub LegalWatchesAreTrue : Type 0
-LegalWatchesAreTrue = (script : ScriptData) (run : RunData) → IsLegal script run → AreTrueWatches script run

@@ -1,7 +1,6 @@
-ghost use Rattle.mama_laws_callbacks.specs.Grouped.{LegalGroupsAreTrue};
-ghost use Rattle.mama_laws_callbacks.specs.Plain.{LegalRecordsTellPlainly};
-ghost use Rattle.mama_laws_callbacks.specs.Told.{LegalRecordsTellAll};
-ghost use Rattle.mama_laws_callbacks.specs.Watched.{LegalWatchesAreTrue};
+ghost use Rattle.mama_laws_callbacks.specs.Laws.{LegalGroupsAreTrue, LegalWatchesAreTrue};
+ghost use Rattle.mama_laws_callbacks.specs.Laws.{LegalRecordsTellPlainly};
+ghost use Rattle.mama_laws_callbacks.specs.Laws.{LegalRecordsTellAll};
 ghost use Rattle.mama_laws_callbacks.specs.Word.{LastWordsAreTrue};
 
 /// A law: in a legal record of a script each subscription of the script is told what its strategy makes of exactly the

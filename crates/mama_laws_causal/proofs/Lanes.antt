@@ -29,8 +29,9 @@ use Rattle.mama_script.specs.declared.client.ClientLine.{ClientLine}
 use Rattle.mama_script.specs.Script.{ScriptData}
 use Rattle.mama_record.specs.RunData.{RunData}
 use Rattle.mama_rules_rounds.specs.Client.{Standing, at_first, after_line, bridge_part, timers_part}
-use Rattle.mama_rules_rounds.specs.World.{Setting, World, no_section, puts_on, publisher_part, queue_part, timer_part}
-use Rattle.mama_rules_rounds.specs.Round.{setting_of}
+use Rattle.mama_rules_rounds.specs.Setting.{Setting, no_section, puts_on, publisher_part, queue_part, timer_part}
+use Rattle.mama_rules_rounds.specs.World.{World}
+use Rattle.mama_rules_rounds.specs.Sections.{setting_of}
 use Rattle.mama_rules_legal.specs.Edges.{taken_by, put_on_bridge, put_on_timers, put_to_publisher, put_on_queue}
 use Rattle.mama_laws_legal.proofs.Worlds.{Holds}
 use Rattle.mama_laws_legal.proofs.Putters.{by_bridge_port, by_timers_port, by_queue_port}

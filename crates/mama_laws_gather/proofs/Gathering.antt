@@ -15,9 +15,10 @@ use Rattle.mama_rules_services.specs.Timers as timing
 use Rattle.mama_rules_services.specs.Ports.{queue_putter}
 use Rattle.mama_script.specs.Script.{ScriptData}
 use Rattle.mama_record.specs.RunData.{RunData}
-use Rattle.mama_rules_rounds.specs.World.{is_empty, no_section}
-use Rattle.mama_rules_rounds.specs.World as world
-use Rattle.mama_rules_rounds.specs.Round.{setting_of}
+use Rattle.mama_rules_rounds.specs.Setting.{no_section}
+use Rattle.mama_rules_rounds.specs.World.{is_empty}
+use Rattle.mama_rules_rounds.specs.Setting as world
+use Rattle.mama_rules_rounds.specs.Sections.{setting_of}
 use Rattle.mama_rules_legal.specs.Edges.{client_puts, put_on_bridge, put_on_timers, put_on_queue, AreEdges}
 use Rattle.mama_laws_lawful.specs.Streams as stream
 use Rattle.mama_laws_lawful.proofs.Fins.{fins_tell}

@@ -4,8 +4,8 @@ use Rattle.mama_event.specs.declared.publisher_entry.PublisherEntry.TheVariants.
 use Rattle.mama_script.specs.Script.{ScriptData}
 use Rattle.mama_record.specs.RunData.{RunData}
 use Rattle.mama_rules_rounds.specs.Client.{clock_lines}
-use Rattle.mama_rules_rounds.specs.World.{no_section}
-use Rattle.mama_rules_rounds.specs.Round.{setting_of}
+use Rattle.mama_rules_rounds.specs.Setting.{no_section}
+use Rattle.mama_rules_rounds.specs.Sections.{setting_of}
 use Rattle.mama_rules_legal.specs.Lines.{AreLines}
 use Rattle.mama_laws_legal.specs.Laws.{IsOrderly}
 use Rattle.mama_laws_allowed.specs.Allowed.{own_by, StopsInTime}

@@ -10,7 +10,7 @@ use Rattle.mama_event.specs.ToQueue as queue
 use Rattle.mama_rules_services.specs.Ports.{bridge_putter, timers_putter, queue_putter}
 use Rattle.mama_script.specs.Script.{ScriptData}
 use Rattle.mama_record.specs.RunData.{RunData}
-use Rattle.mama_rules_rounds.specs.Round.{setting_of}
+use Rattle.mama_rules_rounds.specs.Sections.{setting_of}
 use Rattle.mama_rules_legal.specs.Edges.{client_puts, put_on_bridge, put_on_timers, put_to_publisher, put_on_queue, taken_by}
 use Rattle.mama_rules_legal.specs.Lines.{AreLines}
 use Rattle.mama_rules_legal.specs.Calls.{IsShapedFor, AreCalls, AreLists}

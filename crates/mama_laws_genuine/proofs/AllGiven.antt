@@ -28,15 +28,17 @@ use Rattle.mama_rules_queue.specs.Queue.{Deed, calls_of, messages_of, deeds}
 use Rattle.mama_script.specs.Script.{ScriptData}
 use Rattle.mama_record.specs.RunData.{RunData}
 use Rattle.mama_rules_rounds.specs.Client.{Planned}
-use Rattle.mama_rules_rounds.specs.World.{orders_by}
-use Rattle.mama_rules_rounds.specs.Round.{setting_of, object_calls, noted}
+use Rattle.mama_rules_rounds.specs.Setting.{orders_by}
+use Rattle.mama_rules_rounds.specs.Sections.{setting_of}
+use Rattle.mama_rules_rounds.specs.Told.{object_calls, noted}
 use Rattle.mama_laws_legal.specs.Laws.{IsOrderly}
 use Rattle.mama_rules_legal.specs.Streams.{is_of, events_of, IsSubJournal}
 use Rattle.mama_laws_legal.proofs.Lives.{same_sub-itself}
 use Rattle.mama_rules_legal.specs.Legal.{IsLegal}
 use Rattle.mama_laws_legal.proofs.LegalRounds.{have_streams}
 use Rattle.mama_laws_genuine.specs.CalmLinks.{HasPlainLink, joined_terms}
-use Rattle.mama_laws_genuine.specs.GivenAll.{given_in, given, updates_among, IsGivenAll, was_muted, AreGivenFor, HasAllGiven, LegalUpdatesAreGiven}
+use Rattle.mama_laws_genuine.specs.GivenAll.{given_in, given, updates_among, IsGivenAll, was_muted, AreGivenFor, HasAllGiven}
+use Rattle.mama_laws_genuine.specs.Laws.{LegalUpdatesAreGiven}
 use Rattle.mama_laws_genuine.proofs.Calm.{not_of}
 use Rattle.mama_laws_genuine.proofs.CalmLinks.{IsPlain, plain, calls_on}
 use Rattle.mama_laws_genuine.proofs.Elements.{all_each}

@@ -37,8 +37,8 @@ use Rattle.mama_script.specs.Script.{ScriptData}
 use Rattle.mama_script.specs.Tree.{IsShaped, first_sender}
 use Rattle.mama_record.specs.RunData.{RunData}
 use Rattle.mama_rules_rounds.specs.Client.{bridge_part}
-use Rattle.mama_rules_rounds.specs.World.{Setting, no_section, orders_by, rows_on, publisher_part, queue_part}
-use Rattle.mama_rules_rounds.specs.Round.{setting_of}
+use Rattle.mama_rules_rounds.specs.Setting.{Setting, no_section, orders_by, rows_on, publisher_part, queue_part}
+use Rattle.mama_rules_rounds.specs.Sections.{setting_of}
 use Rattle.mama_rules_legal.specs.Edges.{AreEdges, client_puts, queue_puts, put_on_bridge, put_to_publisher, put_on_queue, taken_by}
 use Rattle.mama_rules_legal.specs.Streams.{terms_of}
 use Rattle.mama_laws_legal.proofs.AllSent.{count_publishers}

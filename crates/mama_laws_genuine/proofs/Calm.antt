@@ -47,8 +47,9 @@ use Rattle.mama_event.specs.declared.to_bridge.SubTerms.{SubTerms}
 use Rattle.mama_event.specs.declared.shape.Strategy.{Strategy}
 use Rattle.mama_script.specs.Script.{ScriptData}
 use Rattle.mama_record.specs.RunData.{RunData}
-use Rattle.mama_rules_rounds.specs.World.{orders_by, queue_part}
-use Rattle.mama_rules_rounds.specs.Round.{setting_of, noted}
+use Rattle.mama_rules_rounds.specs.Setting.{orders_by, queue_part}
+use Rattle.mama_rules_rounds.specs.Sections.{setting_of}
+use Rattle.mama_rules_rounds.specs.Told.{noted}
 use Rattle.mama_rules_legal.specs.Edges.{put_on_queue, AreEdges}
 use Rattle.mama_rules_legal.specs.Streams.{is_of, put_for, stream_of, IsSubStream}
 use Rattle.mama_laws_legal.proofs.SubStreams.{subs_streams}

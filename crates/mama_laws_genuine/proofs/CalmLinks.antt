@@ -16,8 +16,9 @@ use Rattle.mama_rules_queue.specs.Queue.{calls_of, deeds}
 use Rattle.mama_script.specs.Script.{ScriptData}
 use Rattle.mama_record.specs.RunData.{RunData}
 use Rattle.mama_rules_rounds.specs.Client.{Planned}
-use Rattle.mama_rules_rounds.specs.World.{orders_by}
-use Rattle.mama_rules_rounds.specs.Round.{setting_of, object_calls, noted}
+use Rattle.mama_rules_rounds.specs.Setting.{orders_by}
+use Rattle.mama_rules_rounds.specs.Sections.{setting_of}
+use Rattle.mama_rules_rounds.specs.Told.{object_calls, noted}
 use Rattle.mama_laws_legal.specs.Laws.{IsOrderly}
 use Rattle.mama_rules_legal.specs.Streams.{terms_of}
 use Rattle.mama_laws_legal.proofs.AllSent.{count_publishers}
@@ -26,7 +27,8 @@ use Rattle.mama_laws_legal.proofs.SubJournals.{came_by_lines}
 use Rattle.mama_rules_legal.specs.Legal.{IsLegal}
 use Rattle.mama_laws_genuine.specs.Faultless.{IsCalm}
 use Rattle.mama_laws_genuine.specs.Order.{IsFedBy}
-use Rattle.mama_laws_genuine.specs.CalmLinks.{HasPlainLink, AreCalmFor, HasCalmCalls, LegalLinksAreCalm}
+use Rattle.mama_laws_genuine.specs.CalmLinks.{HasPlainLink, AreCalmFor, HasCalmCalls}
+use Rattle.mama_laws_genuine.specs.Laws.{LegalLinksAreCalm}
 use Rattle.mama_laws_genuine.proofs.Alone.{only, fed_alone}
 use Rattle.mama_laws_genuine.proofs.Calm.{faultless_is_calm}
 use Rattle.mama_laws_genuine.proofs.Joining.{of_client, same_terms}

@@ -23,8 +23,8 @@ use Rattle.mama_rules_queue.specs.Queue as queue
 use Rattle.mama_script.specs.Script.{ScriptData}
 use Rattle.mama_record.specs.RunData.{RunData}
 use Rattle.mama_rules_rounds.specs.Client.{bridge_part}
-use Rattle.mama_rules_rounds.specs.World.{no_section, orders_by, rows_on, publisher_part, queue_part}
-use Rattle.mama_rules_rounds.specs.Round.{publishers_from, all_client_steps, setting_of}
+use Rattle.mama_rules_rounds.specs.Setting.{no_section, orders_by, rows_on, publisher_part, queue_part}
+use Rattle.mama_rules_rounds.specs.Sections.{publishers_from, all_client_steps, setting_of}
 use Rattle.mama_rules_legal.specs.Calls.{IsShapedFor}
 use Rattle.mama_rules_legal.specs.Edges.{client_puts, queue_puts, put_on_bridge, put_on_queue, taken_by, AreEdges}
 use Rattle.mama_laws_genuine.specs.Sent.{IsReply, IsSent, Delivers, AreSent}

@@ -24,16 +24,16 @@ use Rattle.mama_dq.specs.Strategy.{fold}
 use Rattle.mama_rules_queue.specs.Queue.{deeds, messages_of, context_of, make_in}
 use Rattle.mama_record.specs.RunData.{RunData, LastImage}
 use Rattle.mama_script.specs.Script.{ScriptData}
-use Rattle.mama_rules_rounds.specs.World.{Setting, orders_by}
+use Rattle.mama_rules_rounds.specs.Setting.{Setting, orders_by}
 use Rattle.mama_rules_rounds.specs.Client.{Planned}
-use Rattle.mama_rules_rounds.specs.Round.{publishers_from, setting_of, image_in, last_image}
+use Rattle.mama_rules_rounds.specs.Sections.{publishers_from, setting_of}
+use Rattle.mama_rules_rounds.specs.Told.{image_in, last_image, object_calls, noted}
 use Rattle.mama_event.specs.declared.callback.Callback.{Callback}
 use Rattle.mama_event.specs.declared.callback.CallNote.{CallNote}
 use Rattle.mama_event.specs.declared.order.Order.{Order}
 use Rattle.mama_event.specs.declared.shape.Strategy.{Strategy}
 use Rattle.mama_event.specs.declared.shape.Strategy.TheVariants.{One}
 use Rattle.mama_rules_queue.specs.Queue.{calls_of}
-use Rattle.mama_rules_rounds.specs.Round.{object_calls, noted}
 use Rattle.mama_record.specs.RunData.{ObjectCalls}
 use Rattle.mama_rules_legal.specs.Calls.{IsShapedFor, AreCalls}
 use Rattle.mama_rules_legal.specs.Edges.{AreEdges}

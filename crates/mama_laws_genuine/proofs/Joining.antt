@@ -23,7 +23,7 @@ use Rattle.mama_script.specs.declared.client.QueueWord.TheVariants.{Number, Any}
 use Rattle.mama_script.specs.Script.{ScriptData}
 use Rattle.mama_event.specs.Ports.{queues_of}
 use Rattle.mama_rules_rounds.specs.Client.{Standing, at_first, later_moments, queue_named, after_word, after_line, line_steps, steps_from}
-use Rattle.mama_rules_rounds.specs.Round.{all_client_steps}
+use Rattle.mama_rules_rounds.specs.Sections.{all_client_steps}
 use Rattle.mama_rules_legal.specs.Edges.{all_steps, client_puts}
 use Rattle.mama_rules_legal.specs.Streams.{terms_put}
 

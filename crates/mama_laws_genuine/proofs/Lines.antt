@@ -9,8 +9,8 @@ use Rattle.mama_script.specs.declared.client.ClientLine.TheVariants as line
 use Rattle.mama_script.specs.declared.publisher.PublisherPart.{PublisherPart}
 use Rattle.mama_rules_queue.specs.Queue.{QueuePut}
 use Rattle.mama_rules_rounds.specs.Client.{Standing, after_line, line_steps, steps_from, at_first}
-use Rattle.mama_rules_rounds.specs.World.{no_section}
-use Rattle.mama_rules_rounds.specs.Round.{publishers_from, all_client_steps}
+use Rattle.mama_rules_rounds.specs.Setting.{no_section}
+use Rattle.mama_rules_rounds.specs.Sections.{publishers_from, all_client_steps}
 use Rattle.mama_laws_genuine.proofs.Elements.{all_append, all_replicated}
 use Rattle.mama_laws_genuine.proofs.Carried.{InQueuePut}
 use Rattle.mama_laws_genuine.proofs.Timing.{ordered}

@@ -28,8 +28,8 @@ use Rattle.mama_publisher.proofs.Sending.{count_of-send, updates_sent-update, up
 use Rattle.mama_rules_services.specs.Ports.{Putter, bridge_putter}
 use Rattle.mama_rules_services.specs.Bridge.{BridgeEvent, put_by, heard, terms_in, joins_sub, leaves_sub, lives, has_ending, is_live, sent_to, sent_with, window, from_publisher}
 use Rattle.std.specs.Option.{option_or}
-use Rattle.mama_rules_rounds.specs.World.{no_section}
-use Rattle.mama_rules_rounds.specs.Round.{publishers_from, setting_of}
+use Rattle.mama_rules_rounds.specs.Setting.{no_section}
+use Rattle.mama_rules_rounds.specs.Sections.{publishers_from, setting_of}
 use Rattle.mama_rules_legal.specs.Edges.{client_puts, put_on_bridge}
 use Rattle.mama_laws_genuine.specs.Order.{WindowsAreInOrder}
 use Rattle.mama_laws_genuine.proofs.Lines.{length-publishers, number-publishers}

@@ -18,7 +18,7 @@ use Rattle.mama_script.specs.declared.client.ClientLine.{ClientLine}
 use Rattle.mama_script.specs.declared.client.ClientLine.TheVariants as line
 use Rattle.mama_script.specs.Script.{ScriptData}
 use Rattle.mama_rules_rounds.specs.Client.{Standing, Planned, at_first, queue_named, after_line, line_steps, steps_from, line_object, objects_from}
-use Rattle.mama_rules_rounds.specs.Round.{all_client_steps, objects_of, is_sub, is_timer, is_inbox, setting_of}
+use Rattle.mama_rules_rounds.specs.Sections.{all_client_steps, objects_of, is_sub, is_timer, is_inbox, setting_of}
 use Rattle.mama_rules_legal.specs.Edges.{all_steps}
 use Rattle.mama_rules_legal.specs.Streams.{terms_put}
 use Rattle.mama_laws_legal.proofs.Lives.{same_sub-itself}

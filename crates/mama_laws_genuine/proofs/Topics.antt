@@ -19,8 +19,8 @@ use Rattle.mama_script.specs.Script.{ScriptData}
 use Rattle.mama_script.specs.Tree.{topic_in, topics_in, first_sender, sender_or_none, sender_of, HasSender, IsShaped}
 use Rattle.mama_record.specs.RunData.{RunData}
 use Rattle.mama_rules_rounds.specs.Client.{Planned, Standing, at_first, queue_named, after_line, line_steps, steps_from}
-use Rattle.mama_rules_rounds.specs.Round.{all_client_steps, watches_from, planned_in, setting_of}
-use Rattle.mama_rules_rounds.specs.World.{Watched, is_on, rows_on}
+use Rattle.mama_rules_rounds.specs.Sections.{all_client_steps, watches_from, planned_in, setting_of}
+use Rattle.mama_rules_rounds.specs.Setting.{Watched, is_on, rows_on}
 use Rattle.mama_rules_legal.specs.Edges.{all_steps}
 use Rattle.mama_rules_legal.specs.Streams.{terms_put, terms_of}
 use Rattle.mama_laws_legal.proofs.Lives.{same_sub-is}

@@ -11,8 +11,9 @@ use Rattle.mama_event.specs.declared.order.Order.{Order}
 use Rattle.mama_event.specs.declared.to_queue.QueueNote.{QueueNote}
 use Rattle.mama_rules_queue.specs.Queue.{calls_of, deeds, messages_of, make_in}
 use Rattle.mama_rules_rounds.specs.Client.{Planned}
-use Rattle.mama_rules_rounds.specs.World.{Setting, orders_by}
-use Rattle.mama_rules_rounds.specs.Round.{setting_of, object_calls, noted}
+use Rattle.mama_rules_rounds.specs.Setting.{Setting, orders_by}
+use Rattle.mama_rules_rounds.specs.Sections.{setting_of}
+use Rattle.mama_rules_rounds.specs.Told.{object_calls, noted}
 use Rattle.mama_laws_genuine.specs.Told.{TellsOf, strategy_of, kind_of, size_of}
 use Rattle.mama_laws_genuine.specs.Gaps.{TellTrueGaps, HasTrueGaps, ToldGapsAreTrue}
 use Rattle.mama_laws_genuine.proofs.Elements.{all_map}

@@ -11,11 +11,9 @@ use Rattle.mama_event.specs.declared.to_bridge.SubTerms.{SubTerms}
 use Rattle.mama_record.specs.RunData.{RunData, ObjectCalls}
 use Rattle.mama_script.specs.Script.{ScriptData}
 use Rattle.mama_rules_rounds.specs.Client.{Planned}
-use Rattle.mama_rules_rounds.specs.Round.{setting_of}
+use Rattle.mama_rules_rounds.specs.Sections.{setting_of}
 use Rattle.mama_rules_legal.specs.Edges.{client_puts}
 use Rattle.mama_rules_legal.specs.Streams.{terms_put}
-use Rattle.mama_rules_legal.specs.Legal.{IsLegal}
-use Rattle.mama_laws_legal.specs.Laws.{IsOrderly}
 use Rattle.mama_laws_genuine.specs.Faultless.{IsCalm}
 
 -- how many publishers a topic has
@@ -48,7 +46,3 @@ pub record HasCalmCalls (script : ScriptData) (p : Planned) (c : ObjectCalls) : 
 -- quality, no late update and no error, and no callback of it asks for a recap, as a watch may.
 abbrev pub AreLinksCalm : ScriptData → RunData → Type 0
 AreLinksCalm script run = AllZip (HasCalmCalls script) (setting_of script).objects run.calls
-
--- so it is in every legal record, whichever thread ran what when
-abbrev pub LegalLinksAreCalm : Type 0
-LegalLinksAreCalm = (script : ScriptData) (run : RunData) → IsOrderly script → IsLegal script run → AreLinksCalm script run

@@ -13,7 +13,8 @@ use Rattle.mama_rules_services.specs.Bridge.{heard, is_live, terms_in}
 use Rattle.mama_record.specs.RunData.{RunData}
 use Rattle.mama_script.specs.Script.{ScriptData}
 use Rattle.mama_rules_rounds.specs.Client.{Planned}
-use Rattle.mama_rules_rounds.specs.Round.{object_calls, setting_of}
+use Rattle.mama_rules_rounds.specs.Sections.{setting_of}
+use Rattle.mama_rules_rounds.specs.Told.{object_calls}
 use Rattle.mama_rules_legal.specs.Calls.{IsShapedFor}
 use Rattle.mama_rules_legal.specs.Edges.{AreEdges}
 use Rattle.mama_rules_legal.specs.Streams.{WasAlive}

@@ -12,8 +12,8 @@ use Rattle.mama_rules_queue.specs.Queue.{deeds, messages_of, make_in}
 use Rattle.mama_record.specs.RunData.{RunData, ObjectCalls}
 use Rattle.mama_script.specs.Script.{ScriptData}
 use Rattle.mama_rules_rounds.specs.Client.{Planned}
-use Rattle.mama_rules_rounds.specs.World.{Setting, orders_by}
-use Rattle.mama_rules_rounds.specs.Round.{setting_of}
+use Rattle.mama_rules_rounds.specs.Setting.{Setting, orders_by}
+use Rattle.mama_rules_rounds.specs.Sections.{setting_of}
 use Rattle.mama_rules_legal.specs.Calls.{AreCalls}
 use Rattle.mama_laws_genuine.specs.Told.{TellsOf, strategy_of, kind_of, size_of}
 

@@ -16,10 +16,8 @@ use Rattle.mama_rules_queue.specs.Queue.{deeds, is_muted}
 use Rattle.mama_record.specs.RunData.{RunData, ObjectCalls}
 use Rattle.mama_script.specs.Script.{ScriptData}
 use Rattle.mama_rules_rounds.specs.Client.{Planned}
-use Rattle.mama_rules_rounds.specs.World.{Setting, orders_by}
-use Rattle.mama_rules_rounds.specs.Round.{setting_of}
-use Rattle.mama_rules_legal.specs.Legal.{IsLegal}
-use Rattle.mama_laws_legal.specs.Laws.{IsOrderly}
+use Rattle.mama_rules_rounds.specs.Setting.{Setting, orders_by}
+use Rattle.mama_rules_rounds.specs.Sections.{setting_of}
 use Rattle.mama_laws_genuine.specs.CalmLinks.{HasPlainLink}
 
 -- the message that a callback gives
@@ -71,7 +69,3 @@ pub record HasAllGiven (script : ScriptData) (run : RunData) (p : Planned) (c : 
 -- was sent to it while it was live, and is numbered above its first image, once; unless it was muted.
 abbrev pub AreAllGiven : ScriptData → RunData → Type 0
 AreAllGiven script run = AllZip (HasAllGiven script run) (setting_of script).objects run.calls
-
--- so it is in every legal record, whichever thread ran what when
-abbrev pub LegalUpdatesAreGiven : Type 0
-LegalUpdatesAreGiven = (script : ScriptData) (run : RunData) → IsOrderly script → IsLegal script run → AreAllGiven script run

@@ -6,3 +6,4 @@ pub mod Order
 pub mod Faultless
 pub mod CalmLinks
 pub mod GivenAll
+pub mod Laws

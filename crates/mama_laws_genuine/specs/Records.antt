@@ -7,7 +7,7 @@ use Rattle.mama_event.specs.Publisher.{PublisherScript, updates_of}
 use Rattle.mama_event.specs.Record.{record_after}
 use Rattle.mama_record.specs.RunData.{RunData, LastImage}
 use Rattle.mama_script.specs.Script.{ScriptData}
-use Rattle.mama_rules_rounds.specs.Round.{publishers_from}
+use Rattle.mama_rules_rounds.specs.Sections.{publishers_from}
 use Rattle.mama_rules_legal.specs.Calls.{IsShapedFor, AreCalls}
 use Rattle.mama_rules_legal.specs.Edges.{AreEdges}
 

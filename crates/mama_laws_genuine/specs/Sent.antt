@@ -12,7 +12,7 @@ use Rattle.mama_event.specs.declared.callback.Callback.TheVariants as on
 use Rattle.mama_event.specs.declared.callback.CallNote.{CallNote}
 use Rattle.mama_record.specs.RunData.{RunData, ObjectCalls}
 use Rattle.mama_script.specs.Script.{ScriptData}
-use Rattle.mama_rules_rounds.specs.Round.{publishers_from}
+use Rattle.mama_rules_rounds.specs.Sections.{publishers_from}
 use Rattle.mama_rules_legal.specs.Calls.{IsShapedFor, AreCalls}
 use Rattle.mama_rules_legal.specs.Edges.{AreEdges}
 

@@ -1,7 +1,6 @@
-ghost use Rattle.mama_laws_genuine.specs.CalmLinks.{LegalLinksAreCalm};
+ghost use Rattle.mama_laws_genuine.specs.Laws.{LegalLinksAreCalm, LegalUpdatesAreGiven};
 ghost use Rattle.mama_laws_genuine.specs.Faultless.{FaultlessLinksAreCalm};
 ghost use Rattle.mama_laws_genuine.specs.Order.{WindowsAreInOrder};
-ghost use Rattle.mama_laws_genuine.specs.GivenAll.{LegalUpdatesAreGiven};
 ghost use Rattle.mama_laws_genuine.specs.Gaps.{ToldGapsAreTrue};
 ghost use Rattle.mama_laws_genuine.specs.Records.{OkImagesAreRecords};
 ghost use Rattle.mama_laws_genuine.specs.Sent.{DeliveredMessagesAreSent, GivenMessagesAreSent};

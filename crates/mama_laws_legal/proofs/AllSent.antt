@@ -23,8 +23,9 @@ use Rattle.mama_script.specs.Script.{ScriptData}
 use Rattle.mama_script.specs.Tree.{IsShaped, topic_of_part}
 use Rattle.mama_record.specs.RunData.{RunData}
 use Rattle.mama_rules_rounds.specs.Client.{Standing, at_first, bridge_part, steps_from}
-use Rattle.mama_rules_rounds.specs.World.{Setting, no_section}
-use Rattle.mama_rules_rounds.specs.Round.{publisher_steps, all_client_steps, setting_of, start, IsRound}
+use Rattle.mama_rules_rounds.specs.Setting.{Setting, no_section}
+use Rattle.mama_rules_rounds.specs.Sections.{all_client_steps, setting_of}
+use Rattle.mama_rules_rounds.specs.Round.{publisher_steps, start, IsRound}
 use Rattle.mama_rules_legal.specs.Edges.{all_steps, client_puts, put_on_bridge, put_to_publisher, taken_by, AreEdges}
 use Rattle.mama_rules_legal.specs.Lines.{takes_settle, AreLines, is_done}
 use Rattle.mama_laws_legal.specs.Laws.{RoundsDoAllLines}

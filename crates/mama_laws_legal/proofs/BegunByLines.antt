@@ -18,7 +18,7 @@ use Rattle.mama_rules_queue.specs.Queue as queue
 use Rattle.mama_rules_rounds.specs.Client.{bridge_part}
 use Rattle.mama_script.specs.Script.{ScriptData}
 use Rattle.mama_record.specs.RunData.{RunData}
-use Rattle.mama_rules_rounds.specs.Round.{setting_of}
+use Rattle.mama_rules_rounds.specs.Sections.{setting_of}
 use Rattle.mama_rules_legal.specs.Edges.{client_puts, put_on_bridge, AreEdges}
 use Rattle.mama_rules_legal.specs.Lines.{AreLines}
 use Rattle.mama_rules_legal.specs.Streams.{WasAlive}

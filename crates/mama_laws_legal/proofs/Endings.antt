@@ -26,7 +26,7 @@ use Rattle.mama_event.specs.declared.to_queue.Make.TheVariants as make
 use Rattle.mama_event.specs.declared.to_bridge.SubTerms.{SubTerms}
 use Rattle.mama_event.specs.Ports.{clients_of, publishers_of, queues_of}
 use Rattle.mama_rules_services.specs.Bridge.{BridgeEvent, joins, leaves, opens, closes, asks, publishes, images, replies, wishes, client_done, sends_done, settled, bye, no_event, BridgePut, to_publisher, to_queue, to_timers, ends_client, ends_sends, settles, is_settling, has_ending, is_live, is_open, joins_sub, opens_inbox, terms_in, inbox_terms_in, faults_of, inbox_faults_of, window, reply_window, passed_on, sent_with, replied_to, free_slot, is_recap_want, live_subs, open_inboxes, may_wish, to_place, to_found, to_first, wants_image, delivered, replied, gone, passed, passed_reply, ended, ended_inbox, answer, settle_begins, ending_comes, bridge_reaction}
-use Rattle.mama_rules_rounds.specs.World.{publisher_part}
+use Rattle.mama_rules_rounds.specs.Setting.{publisher_part}
 use Rattle.mama_journal.specs.EntryLaws.{all_puts-push}
 
 -- Settle or Fin

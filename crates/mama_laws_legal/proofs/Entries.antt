@@ -15,8 +15,9 @@ use Rattle.mama_event.specs.Publisher.{SendLine, is_send}
 use Rattle.mama_script.specs.declared.publisher.PublisherLine.{PublisherLine}
 use Rattle.mama_script.specs.declared.publisher.PublisherLine.TheVariants as line
 use Rattle.mama_script.specs.declared.publisher.PublisherPart.{PublisherPart}
-use Rattle.mama_rules_rounds.specs.World.{no_section}
-use Rattle.mama_rules_rounds.specs.Round.{sends_in, publishers_from, publisher_line_steps, publisher_steps}
+use Rattle.mama_rules_rounds.specs.Setting.{no_section}
+use Rattle.mama_rules_rounds.specs.Sections.{sends_in, publishers_from}
+use Rattle.mama_rules_rounds.specs.Round.{publisher_line_steps, publisher_steps}
 use Rattle.mama_rules_legal.specs.Edges.{all_steps, taken_in, taken_by}
 use Rattle.mama_rules_legal.specs.Lines.{is_take, is_done, takes_settle, IsSentOut}
 use Rattle.mama_journal.specs.EntryLaws.{by_entries, puts-push}

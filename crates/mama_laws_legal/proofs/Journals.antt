@@ -21,7 +21,7 @@ use Rattle.mama_rules_services.specs.Bridge.{BridgePut, to_publisher, to_queue, 
 use Rattle.mama_rules_services.specs.Timers.{TimersEvent, arms, disarms, now, timers_puts, timers_reaction, live_timers}
 use Rattle.mama_rules_services.specs.Timers as timing
 use Rattle.mama_rules_services.specs.Ports.{queue_putter}
-use Rattle.mama_rules_rounds.specs.World.{queue_part}
+use Rattle.mama_rules_rounds.specs.Setting.{queue_part}
 use Rattle.mama_rules_legal.specs.Edges.{put_on_queue}
 use Rattle.mama_rules_legal.specs.Streams.{is_of, stream_of, events_of}
 use Rattle.mama_laws_legal.proofs.Lists.{by_port-append}

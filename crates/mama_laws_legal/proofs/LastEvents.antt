@@ -29,8 +29,8 @@ use Rattle.mama_script.specs.Script.{ScriptData}
 use Rattle.mama_script.specs.Tree.{IsShaped}
 use Rattle.mama_record.specs.RunData.{RunData}
 use Rattle.mama_rules_rounds.specs.Client.{Standing, timers_part, bridge_part, after_line, line_steps, steps_from}
-use Rattle.mama_rules_rounds.specs.World.{timer_part, queue_part}
-use Rattle.mama_rules_rounds.specs.Round.{setting_of}
+use Rattle.mama_rules_rounds.specs.Setting.{timer_part, queue_part}
+use Rattle.mama_rules_rounds.specs.Sections.{setting_of}
 use Rattle.mama_rules_legal.specs.Edges.{all_steps, client_puts, queue_puts, put_on_bridge, put_on_timers, AreEdges}
 use Rattle.mama_rules_legal.specs.Last.{HaveLast}
 use Rattle.mama_rules_legal.specs.Lines.{AreLines}

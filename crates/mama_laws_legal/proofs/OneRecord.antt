@@ -2,9 +2,11 @@
 use Rattle.std.proofs.Common.{◌≡◌, ℕ, zero, suc, ◌+◌, ◌-◌, ◌≤◌, List, refl, sym, ◌∙◌, ap, subst, arith, ⊎_elim}
 use Rattle.std.proofs.lemmas.Bool.{cases_lt}
 use Rattle.mama_event.specs.Ports.{clients_of, publishers_of, queues_of}
-use Rattle.mama_rules_rounds.specs.World.{Setting, World, bridge_took, bridge_turn, timers_took, timers_turn, publisher_took, publisher_turn, queue_took, queue_turn, in_turn, pass, passes, IsQuiet, IsDrained}
+use Rattle.mama_rules_rounds.specs.Setting.{Setting}
+use Rattle.mama_rules_rounds.specs.World.{World, bridge_took, bridge_turn, timers_took, timers_turn, publisher_took, publisher_turn, queue_took, queue_turn, in_turn, pass, passes, IsQuiet, IsDrained}
 use Rattle.mama_rules_rounds.specs.Stage.{Stage, client_stepped, client_step, publisher_stepped, publisher_step, IsStageDrained, AreSteps, IsOneRound, AreRounds, IsOver}
-use Rattle.mama_rules_rounds.specs.Round.{setting_of, start, record_of}
+use Rattle.mama_rules_rounds.specs.Sections.{setting_of}
+use Rattle.mama_rules_rounds.specs.Round.{start, record_of}
 use Rattle.mama_laws_legal.specs.Laws.{RoundsGiveOneRecord}
 use Rattle.mama_laws_legal.proofs.Lists.{all_empty}
 use Rattle.mama_laws_legal.proofs.Whole.{at_rest}

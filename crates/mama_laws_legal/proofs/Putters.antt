@@ -20,7 +20,7 @@ use Rattle.mama_rules_services.specs.Timers as timers
 use Rattle.mama_rules_services.specs.Ports.{ByPublisher, ByQueue, ByBridge, ByTimers, ByNobody, bridge_putter, timers_putter, queue_putter}
 use Rattle.mama_rules_queue.specs.Queue.{QueuePut}
 use Rattle.mama_rules_rounds.specs.Client.{bridge_part, timers_part}
-use Rattle.mama_rules_rounds.specs.World.{Setting, no_section, puts_on, queue_part, timer_part}
+use Rattle.mama_rules_rounds.specs.Setting.{Setting, no_section, puts_on, queue_part, timer_part}
 use Rattle.mama_rules_legal.specs.Edges.{put_on_bridge, put_on_timers, put_on_queue, queue_puts}
 pub use Rattle.mama_rules_services.proofs.PutterPorts.{by_bridge_port, by_timers_port, by_queue_port}
 use Rattle.mama_laws_legal.proofs.Lists.{by_port-append, grows}

@@ -21,7 +21,7 @@ use Rattle.mama_script.specs.declared.client.QueueWord.{QueueWord}
 use Rattle.mama_script.specs.declared.client.QueueWord.TheVariants.{Number, Any}
 use Rattle.mama_script.specs.Within.{IsQueueWithin, IsStepWithin, IsClientWithin}
 use Rattle.mama_rules_rounds.specs.Client.{Standing, at_first, queue_named, after_line, line_steps, steps_from}
-use Rattle.mama_rules_rounds.specs.Round.{all_client_steps}
+use Rattle.mama_rules_rounds.specs.Sections.{all_client_steps}
 use Rattle.mama_rules_legal.specs.Edges.{all_steps, client_puts}
 use Rattle.mama_rules_legal.specs.Streams.{terms_put, inbox_terms_put}
 use Rattle.mama_rules_legal.specs.Ticks.{arming_put}

@@ -20,7 +20,8 @@ use Rattle.mama_script.specs.Script.{ScriptData}
 use Rattle.mama_record.specs.RunData.{RunData}
 use Rattle.mama_rules_rounds.specs.World.{passes}
 use Rattle.mama_rules_rounds.specs.Stage.{Stage, client_step}
-use Rattle.mama_rules_rounds.specs.Round.{setting_of, start, record_of}
+use Rattle.mama_rules_rounds.specs.Sections.{setting_of}
+use Rattle.mama_rules_rounds.specs.Round.{start, record_of}
 use Rattle.mama_rules_legal.specs.Edges.{client_puts, put_on_bridge, put_on_timers, put_on_queue}
 use Rattle.mama_rules_legal.specs.Streams.{events_of}
 

@@ -21,7 +21,8 @@ use Rattle.mama_event.specs.Ports.{clients_of, publishers_of}
 use Rattle.mama_event.specs.Publisher.{PublisherScript, SendLine, Update, Recap, publisher_puts, publisher_puts_at, sent_of, answer_of}
 use Rattle.mama_rules_services.specs.Bridge.{BridgeEvent, bridge_reaction, answer, heard, is_settling, has_ending, ends_sends}
 use Rattle.mama_rules_queue.specs.Queue.{QueuePut}
-use Rattle.mama_rules_rounds.specs.World.{Setting, World, no_section, publisher_did, bridge_took, bridge_turn, timers_took, timers_turn, publisher_took, publisher_turn, queue_took, queue_turn}
+use Rattle.mama_rules_rounds.specs.Setting.{Setting, no_section}
+use Rattle.mama_rules_rounds.specs.World.{World, publisher_did, bridge_took, bridge_turn, timers_took, timers_turn, publisher_took, publisher_turn, queue_took, queue_turn}
 use Rattle.mama_rules_rounds.specs.Stage.{Stage, client_stepped, client_step, entries_done, publisher_stepped, publisher_step, IsStageDrained}
 use Rattle.mama_rules_legal.specs.Edges.{all_steps, put_on_bridge, put_to_publisher, taken_by}
 use Rattle.mama_rules_legal.specs.Lines.{is_done, takes_settle}

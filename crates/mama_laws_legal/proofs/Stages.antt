@@ -1,7 +1,8 @@
 -- Induction over the rounds of a run.
 use Rattle.std.proofs.Common.{ℕ, zero, suc, ◌<◌, ◌≤◌, sym, subst, arith}
 use Rattle.mama_event.specs.Ports.{clients_of, publishers_of, queues_of}
-use Rattle.mama_rules_rounds.specs.World.{Setting, World, bridge_turn, timers_turn, publisher_turn, queue_turn, in_turn, pass, passes, IsDrained}
+use Rattle.mama_rules_rounds.specs.Setting.{Setting}
+use Rattle.mama_rules_rounds.specs.World.{World, bridge_turn, timers_turn, publisher_turn, queue_turn, in_turn, pass, passes, IsDrained}
 use Rattle.mama_rules_rounds.specs.Stage.{Stage, client_step, publisher_step, IsStageDrained, AreSteps, IsOneRound, AreRounds}
 
 -- what every turn keeps

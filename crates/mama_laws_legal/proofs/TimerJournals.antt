@@ -30,7 +30,7 @@ use Rattle.mama_script.specs.Script.{ScriptData}
 use Rattle.mama_script.specs.Tree.{IsShaped}
 use Rattle.mama_record.specs.RunData.{RunData}
 use Rattle.mama_rules_rounds.specs.Client.{Standing, timers_part, line_steps, after_line, steps_from}
-use Rattle.mama_rules_rounds.specs.Round.{setting_of}
+use Rattle.mama_rules_rounds.specs.Sections.{setting_of}
 use Rattle.mama_rules_legal.specs.Edges.{all_steps, client_puts, put_on_timers, put_on_queue, AreEdges}
 use Rattle.mama_rules_legal.specs.Streams.{is_of, WasAlive}
 use Rattle.mama_rules_legal.specs.Lines.{AreLines}

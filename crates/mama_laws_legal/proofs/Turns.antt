@@ -21,7 +21,7 @@ use Rattle.mama_rules_services.specs.Timers.{TimersEvent, live_timers, gone, tim
 use Rattle.mama_rules_services.specs.Timers as timers
 use Rattle.mama_rules_queue.specs.Queue.{QueuePut, is_fin, bye_put, queue_puts_at, deeds_at, puts_of}
 use Rattle.mama_rules_queue.specs.Queue as lane
-use Rattle.mama_rules_rounds.specs.World.{Setting, orders_by, rows_on, puts_on}
+use Rattle.mama_rules_rounds.specs.Setting.{Setting, orders_by, rows_on, puts_on}
 use Rattle.mama_rules_queue.specs.Watch.{wishes_at}
 use Rattle.mama_rules_legal.specs.Edges.{queue_puts}
 use Rattle.mama_journal.specs.EntryLaws.{by_entries, puts-push, all_puts-push}

@@ -20,9 +20,11 @@ use Rattle.mama_script.specs.declared.publisher.PublisherPart.{PublisherPart}
 use Rattle.mama_script.specs.Script.{ScriptData}
 use Rattle.mama_record.specs.RunData.{RunData}
 use Rattle.mama_rules_rounds.specs.Client.{bridge_part, timers_part}
-use Rattle.mama_rules_rounds.specs.World.{Setting, World, no_section, publisher_did, is_empty, IsQuiet}
+use Rattle.mama_rules_rounds.specs.Setting.{Setting, no_section}
+use Rattle.mama_rules_rounds.specs.World.{World, publisher_did, is_empty, IsQuiet}
 use Rattle.mama_rules_rounds.specs.Stage.{Stage, client_stepped, client_step, entries_done, publisher_stepped, publisher_step, IsStageDrained, IsOver}
-use Rattle.mama_rules_rounds.specs.Round.{publishers_from, publisher_line_steps, publisher_steps, setting_of, no_journals, start, record_of, IsRound}
+use Rattle.mama_rules_rounds.specs.Sections.{publishers_from, setting_of}
+use Rattle.mama_rules_rounds.specs.Round.{publisher_line_steps, publisher_steps, no_journals, start, record_of, IsRound}
 use Rattle.mama_rules_legal.specs.Edges.{all_steps, client_puts, queue_puts, put_on_bridge, put_on_timers, put_on_queue, taken_in, taken_by, AreEdges}
 use Rattle.mama_rules_legal.specs.Calls.{AreCalls, AreLists}
 use Rattle.mama_laws_legal.specs.Laws.{RoundsAreWhole, RoundsAreShaped, RoundsTellCalls}

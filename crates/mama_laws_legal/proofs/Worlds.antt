@@ -19,7 +19,8 @@ use Rattle.mama_rules_services.specs.Timers.{timers_puts_at}
 use Rattle.mama_rules_services.specs.Ports.{bridge_putter, timers_putter, queue_putter}
 use Rattle.mama_rules_queue.specs.Queue.{QueuePut}
 use Rattle.mama_rules_rounds.specs.Client.{bridge_part, timers_part}
-use Rattle.mama_rules_rounds.specs.World.{Setting, World, no_section, puts_on, publisher_part, queue_part, timer_part, with_puts, bridge_did, bridge_took, bridge_turn, timers_did, timers_took, timers_turn, publisher_did, publisher_took, publisher_turn, queue_did, queue_took, queue_turn}
+use Rattle.mama_rules_rounds.specs.Setting.{Setting, no_section, puts_on, publisher_part, queue_part, timer_part}
+use Rattle.mama_rules_rounds.specs.World.{World, with_puts, bridge_did, bridge_took, bridge_turn, timers_did, timers_took, timers_turn, publisher_did, publisher_took, publisher_turn, queue_did, queue_took, queue_turn}
 use Rattle.mama_rules_legal.specs.Edges.{put_on_bridge, put_on_timers, put_on_queue, put_to_publisher, taken_in, taken_by}
 use Rattle.mama_laws_legal.proofs.Lists.{within, extended-length, extended-first, taken_first, put_last}
 use Rattle.mama_laws_legal.proofs.Putters.{client_more, publisher_more, queue_more, client_more_t, queue_more_t, bridge_more_t, bridge_more_q, timers_more_q, bridge_part-push}

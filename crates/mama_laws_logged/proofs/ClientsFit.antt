@@ -17,7 +17,7 @@ use Rattle.mama_script.specs.Script.{ScriptData}
 use Rattle.mama_script.specs.Tree.{IsScript}
 use Rattle.mama_script.specs.Within.{IsWithin, IsClientWithin, IsStepWithin, IsStepNamed, AreStepsNamed, made_of}
 use Rattle.mama_rules_rounds.specs.Client.{Standing, at_first, first_moment, later_moments, queue_named, after_word, after_line, line_steps, steps_from}
-use Rattle.mama_rules_rounds.specs.Round.{all_client_steps}
+use Rattle.mama_rules_rounds.specs.Sections.{all_client_steps}
 use Rattle.mama_rules_legal.specs.Edges.{all_steps, client_puts}
 use Rattle.mama_log_line.specs.declared.names.TimerTerms.{TimerTerms}
 use Rattle.mama_log_line.specs.Names.{ClientData, NamesData, no_data, turns_after, data_with, data_after, data_of, names_of}

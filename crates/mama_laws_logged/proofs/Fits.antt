@@ -24,7 +24,7 @@ use Rattle.mama_rules_services.specs.Timers.{TimersEvent, arms}
 use Rattle.mama_rules_queue.specs.Queue.{QueuePut, Deed, handled, called}
 use Rattle.mama_rules_queue.specs.Queue as queue
 use Rattle.mama_rules_rounds.specs.Client.{Planned}
-use Rattle.mama_event.specs.Listener.{planned}
+use Rattle.mama_event.specs.Plan.{planned}
 use Rattle.mama_words.specs.declared.nums.Nums.{Nums}
 use Rattle.mama_log_line.specs.Names.{NamesData, terms_of, inbox_terms_of, make_of, IsSub, IsTimer, IsInbox}
 use Rattle.mama_log_line.specs.Entering.{AreFids, IsBody, IsMarketMsg, IsPublisherNote, BridgeFromClient, BridgeFromQueue, TimersFromClient, TimersFromQueue, IsLinked, MayHear, MayOrder}

@@ -5,7 +5,7 @@ use Rattle.std.proofs.Common.{◌≡◌, ℕ, suc, ◌^◌, ◌<◌, ◌≤◌, 
 use Rattle.std.proofs.lemmas.Bool.{and_parts, leb-true}
 use Rattle.mama_journal.specs.Journal.{first_said, puts}
 use Rattle.mama_event.specs.Object.{same_sub, same_timer, same_object}
-use Rattle.mama_event.specs.Equality.{same_group_state}
+use Rattle.mama_event.specs.GroupStates.{same_group_state}
 use Rattle.mama_event.specs.EqualityLaws.{same_object-Decides}
 use Rattle.mama_event.specs.declared.ids.SubId.{SubId}
 use Rattle.mama_event.specs.declared.ids.TimerId.{TimerId}

@@ -34,8 +34,9 @@ use Rattle.mama_script.specs.Tree.{IsScript, script_text}
 use Rattle.mama_script.specs.Within.{IsWithin}
 use Rattle.mama_record.specs.RunData.{RunData}
 use Rattle.mama_rules_rounds.specs.Client.{Planned, bridge_part, timers_part}
-use Rattle.mama_rules_rounds.specs.World.{Setting, Grouped, Watched, no_section, orders_by, rows_on, publisher_part, queue_part, timer_part}
-use Rattle.mama_rules_rounds.specs.Round.{setting_of, object_calls, noted, last_image, group_told, watch_told}
+use Rattle.mama_rules_rounds.specs.Setting.{Setting, Grouped, Watched, no_section, orders_by, rows_on, publisher_part, queue_part, timer_part}
+use Rattle.mama_rules_rounds.specs.Sections.{setting_of}
+use Rattle.mama_rules_rounds.specs.Told.{object_calls, noted, last_image, group_told, watch_told}
 use Rattle.mama_rules_legal.specs.Form.{IsFormed}
 use Rattle.mama_rules_legal.specs.Legal.{IsLegal}
 use Rattle.mama_rules_legal.specs.Edges.{AreEdges, client_puts, queue_puts, put_on_bridge, put_on_timers, put_on_queue, taken_by}

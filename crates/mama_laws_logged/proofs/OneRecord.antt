@@ -15,7 +15,7 @@ use Rattle.mama_rules_legal.specs.Form.{objects_of}
 use Rattle.mama_record.specs.RunData.{RunData}
 use Rattle.mama_record.specs.LogText.{lines_text, log_text}
 use Rattle.mama_rules_rounds.specs.Client.{Planned}
-use Rattle.mama_rules_rounds.specs.Round.{setting_of}
+use Rattle.mama_rules_rounds.specs.Sections.{setting_of}
 use Rattle.mama_log_line.specs.Names.{NamesData, names_of}
 use Rattle.mama_log_read.specs.Logged.{IsLogged}
 use Rattle.mama_log_read.specs.Section.{HasPlainHead, sections}

@@ -6,7 +6,7 @@ use Rattle.std.proofs.Common.{◌≡◌, ℕ, suc, ◌+◌, ◌≤◌, ◌==◌,
 use Rattle.mama_journal.specs.Journal.{first_said}
 use Rattle.mama_event.specs.Object.{same_object}
 use Rattle.mama_event.specs.Ports.{queues_of}
-use Rattle.mama_event.specs.Listener.{planned}
+use Rattle.mama_event.specs.Plan.{planned}
 use Rattle.mama_event.specs.declared.ids.ObjectId.{ObjectId}
 use Rattle.mama_event.specs.declared.order.PlanRow.{PlanRow}
 use Rattle.mama_event.specs.declared.to_bridge.SubTerms.{SubTerms}
@@ -20,8 +20,8 @@ use Rattle.mama_script.specs.Tree.{IsScript, fault_line, plan_line, object_lines
 use Rattle.mama_script.specs.Within as within
 use Rattle.mama_script.specs.Within.{IsWithin, IsClientWithin, IsStepWithin, IsStepNamed, AreStepsNamed, IsPlanWithin, AreOrdersWithin, ArePlanned, made_of}
 use Rattle.mama_rules_rounds.specs.Client.{Planned, Standing, at_first, queue_named, after_line, line_object, objects_from}
-use Rattle.mama_rules_rounds.specs.World.{plan_in, rows_of, orders_by}
-use Rattle.mama_rules_rounds.specs.Round.{objects_of, is_sub, is_timer, is_inbox, setting_of}
+use Rattle.mama_rules_rounds.specs.Setting.{plan_in, rows_of, orders_by}
+use Rattle.mama_rules_rounds.specs.Sections.{objects_of, is_sub, is_timer, is_inbox, setting_of}
 use Rattle.mama_log_line.specs.declared.names.TimerTerms.{TimerTerms}
 use Rattle.mama_log_line.specs.Names.{ClientData, NamesData, no_data, turns_after, data_with, data_after, data_of, names_of}
 use Rattle.mama_log_line.specs.Entering.{MayOrder}

@@ -27,8 +27,8 @@ use Rattle.mama_event.specs.declared.shape.Strategy.TheVariants.{One}
 use Rattle.mama_dq.specs.Strategy.{callbacks_of}
 use Rattle.mama_rules_queue.specs.Queue.{Deed, handled, called, to_bridge, to_timers, calls_in, calls_of, messages_in, messages_of, is_muted, is_destroy, made, make_in, context_of, served, deeds, deeds_at, order_put, wish_put, puts_of, is_fin, bye_put, queue_puts_at}
 use Rattle.mama_rules_rounds.specs.Client.{Planned}
-use Rattle.mama_rules_rounds.specs.World.{Setting, orders_by}
-use Rattle.mama_rules_rounds.specs.Round.{noted, image_in, last_image}
+use Rattle.mama_rules_rounds.specs.Setting.{Setting, orders_by}
+use Rattle.mama_rules_rounds.specs.Told.{noted, image_in, last_image}
 use Rattle.mama_words.specs.declared.nums.Nums.{Nums}
 use Rattle.mama_log_line.specs.Names.{NamesData, IsSub}
 use Rattle.mama_log_line.specs.Entering.{SubHears, MayHear, MayOrder, IsLastImage}

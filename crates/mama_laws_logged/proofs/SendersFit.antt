@@ -26,7 +26,7 @@ use Rattle.mama_script.specs.Reading.{first_line, version_of}
 use Rattle.mama_script.specs.Script.{ScriptData}
 use Rattle.mama_script.specs.Tree.{topic_line, publisher_line, publisher_lines, client_lines, strategy_lines, last_lines, lines_of, script_text, IsScript}
 use Rattle.mama_script.specs.Within.{AreSendsWithin, IsPublisherWithin, IsWithin}
-use Rattle.mama_rules_rounds.specs.Round.{sends_in, publishers_from}
+use Rattle.mama_rules_rounds.specs.Sections.{sends_in, publishers_from}
 use Rattle.mama_rules_legal.specs.Edges.{taken_in, taken_by}
 use Rattle.mama_log_line.specs.Names.{NamesData}
 use Rattle.mama_log_line.specs.Entering.{IsBody, IsPublisherNote}

@@ -25,7 +25,7 @@ use Rattle.mama_dq.specs.Context.{ContextData, new_context}
 use Rattle.mama_dq.specs.Strategy.{Step, settled, unchanged, if_ok, if_stale, with_update, with_cached, turned_to, waiting_for, with_image_of, stale_calls, gap_calls, switch_calls, adopt_calls, update_acted, updated, as_message, handled, cached_above, started, reached_last, stopped_short, healed, acted, action_of, snapshot_acted, step_by, after, callbacks_of, after_all, fold}
 use Rattle.mama_dq.proofs.Comparisons.{eq_true}
 use Rattle.mama_dq.proofs.ImageLaw.{all_added, all_put, all_above}
-use Rattle.mama_rules_rounds.specs.Round.{image_in}
+use Rattle.mama_rules_rounds.specs.Told.{image_in}
 use Rattle.mama_log_line.specs.Names.{NamesData, IsSub}
 use Rattle.mama_log_line.specs.Entering.{IsBody, SubHears, IsLastImage}
 use Rattle.mama_laws_genuine.proofs.Elements.{all_append, all_if}

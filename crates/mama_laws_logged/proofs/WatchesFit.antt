@@ -9,8 +9,8 @@ use Rattle.mama_script.specs.Script.{ScriptData}
 use Rattle.mama_script.specs.Tree.{topic_of_part, first_sender, sender_or_none, sender_of, HasSender, IsScript}
 use Rattle.mama_script.specs.Within.{IsWithin}
 use Rattle.mama_rules_rounds.specs.Client.{Planned}
-use Rattle.mama_rules_rounds.specs.World.{Watched, is_on, rows_on}
-use Rattle.mama_rules_rounds.specs.Round.{watches_from, setting_of}
+use Rattle.mama_rules_rounds.specs.Setting.{Watched, is_on, rows_on}
+use Rattle.mama_rules_rounds.specs.Sections.{watches_from, setting_of}
 use Rattle.mama_laws_genuine.proofs.Elements.{all_map, all_filter}
 use Rattle.mama_laws_logged.proofs.Fits.{IsWatch}
 use Rattle.mama_laws_logged.proofs.Accepted.{retries_few}

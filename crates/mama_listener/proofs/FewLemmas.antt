@@ -4,7 +4,7 @@ use Rattle.std.proofs.Common.{◌≡◌, ℕ, ◌+◌, ◌<◌, ◌≤◌, Bool,
 use Rattle.std.proofs.lemmas.Bool.{cases_eq, eq-eqb, ne_eqb}
 use Rattle.std.proofs.lemmas.List.{take_all}
 use Rattle.mama_event.specs.declared.order.PlanRow.{PlanRow}
-use Rattle.mama_event.specs.Listener.{planned}
+use Rattle.mama_event.specs.Plan.{planned}
 use Rattle.mama_listener.specs.Plan.{HasFewRows}
 use Rattle.mama_listener.proofs.Plans.{planned_taken, planned_left, room_for_planned}
 

@@ -11,7 +11,7 @@ use Rattle.std.proofs.lemmas.Grind.{common_steps}
 use Rattle.mama_event.specs.declared.order.Order.{Order}
 use Rattle.mama_event.specs.declared.order.Order.TheVariants as order
 use Rattle.mama_event.specs.declared.order.PlanRow.{PlanRow}
-use Rattle.mama_event.specs.Listener.{planned}
+use Rattle.mama_event.specs.Plan.{planned}
 use Rattle.mama_listener.specs.Passed.{IsPassed}
 use Rattle.mama_listener.specs.Plan.{call_of, HasFewRows, IsSameByCall}
 

@@ -1,7 +1,7 @@
 -- believed: The rows of a plan, by the calls that they are for.
 use Rattle.std.specs.Prelude.{◌≡◌, ℕ, ◌≤◌, List, length}
 use Rattle.mama_event.specs.declared.order.PlanRow.{PlanRow}
-use Rattle.mama_event.specs.Listener.{planned}
+use Rattle.mama_event.specs.Plan.{planned}
 
 abbrev pub call_of : PlanRow → ℕ
 call_of row = row.call

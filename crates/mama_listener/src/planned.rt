@@ -1,6 +1,6 @@
 ghost use Rattle.std.specs.Prelude.{◌≡◌, ℕ, ◌<◌, ◌≤◌, ◌+◌, [], length, IsTrue};
 ghost use Rattle.std.specs.List.Sorted.{IsNonDecreasingBy};
-ghost use Rattle.mama_event.specs.Listener.{planned};
+ghost use Rattle.mama_event.specs.Plan.{planned};
 ghost use Rattle.mama_listener.specs.Passed.{IsPassed};
 ghost use Rattle.mama_listener.specs.Plan.{call_of, HasFewRows, IsSameByCall};
 

@@ -13,7 +13,7 @@ use Rattle.mama_check.specs.Causal.{IsCausal}
 use Rattle.mama_check.specs.Verdict.{Judges, IsTrue, LegalIsTrue}
 use Rattle.mama_check.specs.declared.verdict.Verdict.{Verdict}
 use Rattle.mama_check.specs.declared.verdict.Verdict.TheVariants as verdict
-use Rattle.mama_plain.specs.Promises.{LegalRecordsKeepPromises}
+use Rattle.mama_plain.specs.LawfulRun.{LegalRecordsKeepPromises}
 use Rattle.mama_plain.proofs.PlayLemmas.{own_version}
 use Rattle.mama_plain.specs.Own.{with_log, LogsOfSerialAreLawful, LogsOfSerialAreLegal}
 

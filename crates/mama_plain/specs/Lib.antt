@@ -6,6 +6,7 @@ pub mod Judging
 pub mod Answers
 pub mod Causes
 pub mod Promises
+pub mod LawfulRun
 pub mod Status
 pub mod Own
 pub mod Rewritten

@@ -5,7 +5,7 @@ use Rattle.mama_check.specs.declared.verdict.Verdict.{Verdict}
 use Rattle.mama_check.specs.declared.verdict.Verdict.TheVariants.{Legal}
 use Rattle.mama_gen.specs.Generated.{generated}
 use Rattle.mama_plain.specs.Answers.{IsAccepted, IsLogOf}
-use Rattle.mama_plain.specs.Promises.{IsLawfulRun}
+use Rattle.mama_plain.specs.LawfulRun.{IsLawfulRun}
 use Rattle.mama_plain.specs.Verdict.{IsChecked, IsVerdictOf}
 
 -- the record of every log of serial is legal and causal, and keeps all promises

@@ -4,10 +4,8 @@ use Rattle.std.specs.List.{AllZip}
 use Rattle.mama_event.specs.Publisher.{PublisherScript}
 use Rattle.mama_record.specs.RunData.{RunData, ObjectCalls}
 use Rattle.mama_script.specs.Script.{ScriptData}
-use Rattle.mama_script.specs.Tree.{IsScript}
 use Rattle.mama_rules_rounds.specs.Client.{Planned}
-use Rattle.mama_rules_rounds.specs.Round.{setting_of, publishers_from}
-use Rattle.mama_rules_legal.specs.Legal.{IsLegal}
+use Rattle.mama_rules_rounds.specs.Sections.{setting_of, publishers_from}
 use Rattle.mama_rules_legal.specs.Streams.{AreSubStreams, AreInboxStreams}
 use Rattle.mama_rules_legal.specs.Ticks.{AreTimerStreams}
 use Rattle.mama_rules_legal.specs.Last.{HaveLast}
@@ -20,7 +18,6 @@ use Rattle.mama_laws_genuine.specs.Records.{AreRecords}
 use Rattle.mama_laws_genuine.specs.Gaps.{HasTrueGaps}
 use Rattle.mama_laws_genuine.specs.CalmLinks.{HasCalmCalls}
 use Rattle.mama_laws_genuine.specs.GivenAll.{HasAllGiven}
-use Rattle.mama_check.specs.Causal.{IsCausal}
 
 -- of each object of the script, with the callbacks that the record has of it
 abbrev pub OfEachObject : ScriptData → RunData → (Planned → ObjectCalls → Type 0) → Type 0
@@ -72,15 +69,3 @@ pub record KeepsPromises (script : ScriptData) (run : RunData) : Type 0 where
   -- muted and had no image, after as many such ticks as it has retries; at most one, and no more retries than its row has, as many where
   -- it noted a timeout.
   pub watches : AreTrueWatches script run
-
--- a law: all this is so of every legal record of a script that a text spells
-abbrev pub LegalRecordsKeepPromises : Type 0
-LegalRecordsKeepPromises = (script : ScriptData) (run : RunData) → IsScript script → IsLegal script run → KeepsPromises script run
-
--- A run on one thread keeps the promises. And it is legal: every line was done, on every edge what was taken is all that was
--- put, in order, and the callbacks and images, and what groups heard and watches noted, are those that the queues' journals
--- make. And it is causal: one order of all entries and lines has each event taken after it was put.
-pub record IsLawfulRun (script : ScriptData) (run : RunData) : Type 0 where
-  pub legal : IsLegal script run
-  pub causal : IsCausal script run
-  pub promises : KeepsPromises script run

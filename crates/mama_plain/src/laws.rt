@@ -1,4 +1,4 @@
-ghost use Rattle.mama_plain.specs.Promises.{LegalRecordsKeepPromises};
+ghost use Rattle.mama_plain.specs.LawfulRun.{LegalRecordsKeepPromises};
 ghost use Rattle.mama_plain.specs.Own.{LogsOfSerialAreLawful, LogsOfSerialAreLegal, ScriptsOfSeedsAreAccepted};
 ghost use Rattle.mama_plain.specs.Kept.{RewrittenIsKept};
 

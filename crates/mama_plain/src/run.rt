@@ -19,7 +19,8 @@ ghost use Rattle.mama_plain.specs.Answers.{GaveAll, IsAccepted, IsLogOf, IsEndOf
 ghost use Rattle.mama_plain.specs.Causes.{IsCause};
 ghost use Rattle.mama_plain.specs.Rewritten.{IsInTwo, IsTaken};
 ghost use Rattle.mama_plain.specs.Replayed.{IsReplayed, IsUnfollowed};
-ghost use Rattle.mama_plain.specs.Promises.{KeepsPromises, IsLawfulRun};
+ghost use Rattle.mama_plain.specs.Promises.{KeepsPromises};
+ghost use Rattle.mama_plain.specs.LawfulRun.{IsLawfulRun};
 
 use crate::check::judge_input;
 use crate::command::{Command, command_of};

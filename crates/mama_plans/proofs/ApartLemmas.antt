@@ -8,7 +8,7 @@ use Rattle.mama_event.specs.Object.{same_object}
 use Rattle.mama_script.specs.declared.client.ClientLine.{ClientLine}
 use Rattle.mama_script.specs.declared.client.ClientLine.TheVariants as line
 use Rattle.mama_rules_rounds.specs.Client.{Planned, Standing, after_word, after_line, line_object, objects_from, at_first, client_objects}
-use Rattle.mama_rules_rounds.specs.Round.{is_sub, is_timer, is_inbox, by_kind, objects_of}
+use Rattle.mama_rules_rounds.specs.Sections.{is_sub, is_timer, is_inbox, by_kind, objects_of}
 use Rattle.mama_plans.specs.Plans.{AreApart}
 use Rattle.mama_plans.proofs.IdLemmas.{same_object_true}
 use Rattle.mama_plans.proofs.RoomLemmas.{word_subs, word_timers, word_inboxes}

@@ -10,8 +10,8 @@ use Rattle.mama_event.specs.declared.group.GroupRow.{GroupRow}
 use Rattle.mama_event.specs.declared.watch.WatchRow.{WatchRow}
 use Rattle.mama_event.specs.declared.ids.ObjectId.TheVariants.{Timer}
 use Rattle.mama_rules_rounds.specs.Client.{Planned}
-use Rattle.mama_rules_rounds.specs.World.{Grouped, Watched}
-use Rattle.mama_rules_rounds.specs.Round.{queue_of, queue_of_members, groups_from, watches_from}
+use Rattle.mama_rules_rounds.specs.Setting.{Grouped, Watched}
+use Rattle.mama_rules_rounds.specs.Sections.{queue_of, queue_of_members, groups_from, watches_from}
 use Rattle.mama_plans.specs.Numbered.{numbered, list_put}
 
 -- NUMBERS IN ORDER

@@ -7,15 +7,15 @@ use Rattle.mama_journal.specs.Journal.{first_said}
 use Rattle.mama_event.specs.declared.ids.ObjectId.{ObjectId}
 use Rattle.mama_event.specs.declared.order.PlanRow.{PlanRow}
 use Rattle.mama_event.specs.Object.{same_object}
-use Rattle.mama_event.specs.Listener.{planned}
+use Rattle.mama_event.specs.Plan.{planned}
 use Rattle.mama_script.specs.declared.client.ClientLine.{ClientLine}
 use Rattle.mama_script.specs.declared.client.ClientLine.TheVariants as line
 use Rattle.mama_script.specs.Script.{ScriptData}
 use Rattle.mama_script.specs.Within.{IsPlanWithin, IsStepWithin, IsClientWithin, IsWithin}
 use Rattle.mama_script.specs.Within as within
 use Rattle.mama_rules_rounds.specs.Client.{Planned, Standing, line_object, after_line, objects_from, at_first, client_objects}
-use Rattle.mama_rules_rounds.specs.World.{plan_in, rows_of}
-use Rattle.mama_rules_rounds.specs.Round.{is_sub, is_timer, is_inbox, objects_of, setting_of}
+use Rattle.mama_rules_rounds.specs.Setting.{plan_in, rows_of}
+use Rattle.mama_rules_rounds.specs.Sections.{is_sub, is_timer, is_inbox, objects_of, setting_of}
 use Rattle.mama_plans.specs.Plans.{IsFew, AreFew}
 
 -- the orders for a call are as many as are counted for it

@@ -18,7 +18,7 @@ use Rattle.mama_dq.specs.Context.{ContextData, new_context, quality_in}
 use Rattle.mama_dq.specs.Strategy.{step_by, after, after_all}
 use Rattle.mama_dq.proofs.SameKind.{after_kind}
 use Rattle.mama_rules_queue.specs.Queue.{context_of}
-use Rattle.mama_rules_rounds.specs.Round as round
+use Rattle.mama_rules_rounds.specs.Told as round
 use Rattle.mama_plans.specs.Image.{found_image}
 
 -- a context's image, if it has one, as a seat tells it

@@ -8,8 +8,8 @@ use Rattle.std.proofs.lemmas.List.Concat.{flat_map-append}
 use Rattle.std.proofs.lemmas.List.Folds.{list_any-append}
 use Rattle.mama_journal.specs.Journal.{numbers_below}
 use Rattle.mama_rules_rounds.specs.Client.{Planned}
-use Rattle.mama_rules_rounds.specs.World.{Grouped, Watched}
-use Rattle.mama_rules_rounds.specs.Round.{groups_from, watches_from}
+use Rattle.mama_rules_rounds.specs.Setting.{Grouped, Watched}
+use Rattle.mama_rules_rounds.specs.Sections.{groups_from, watches_from}
 use Rattle.mama_event.specs.declared.group.GroupRow.{GroupRow}
 use Rattle.mama_event.specs.declared.watch.WatchRow.{WatchRow}
 use Rattle.mama_plans.specs.Numbered.{list_put, lists_put}

@@ -13,8 +13,8 @@ use Rattle.mama_journal.specs.Journal.{first_said}
 use Rattle.mama_event.specs.declared.ids.ObjectId.{ObjectId}
 use Rattle.mama_event.specs.declared.order.PlanRow.{PlanRow}
 use Rattle.mama_event.specs.Object.{same_object}
-use Rattle.mama_rules_rounds.specs.World.{plan_in, rows_of}
-use Rattle.mama_rules_rounds.specs.Round.{queue_of}
+use Rattle.mama_rules_rounds.specs.Setting.{plan_in, rows_of}
+use Rattle.mama_rules_rounds.specs.Sections.{queue_of}
 use Rattle.mama_plans.specs.declared.plans.PlannedObject.{PlannedObject}
 use Rattle.mama_plans.specs.Plans.{planned_object, planned_objects}
 use Rattle.mama_plans.specs.Places.{objects_in, IsPlaceOf, ArePlaced}

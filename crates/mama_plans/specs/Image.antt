@@ -9,7 +9,7 @@ use Rattle.mama_event.specs.declared.to_queue.QueueNote.{QueueNote}
 use Rattle.mama_rules_queue.specs.Queue.{deeds, messages_of, context_of, make_in}
 use Rattle.mama_record.specs.RunData.{LastImage}
 use Rattle.mama_rules_rounds.specs.Client.{Planned}
-use Rattle.mama_rules_rounds.specs.Round.{image_in}
+use Rattle.mama_rules_rounds.specs.Told.{image_in}
 use Rattle.mama_plans.specs.Orders.{orders_in}
 
 -- an image that was found, as the record has it

@@ -3,7 +3,7 @@ use Rattle.std.specs.Prelude.{ℕ, ◌==◌, List, map, filter}
 use Rattle.mama_journal.specs.Journal.{numbers_below}
 use Rattle.mama_event.specs.declared.group.GroupRow.{GroupRow}
 use Rattle.mama_event.specs.declared.watch.WatchRow.{WatchRow}
-use Rattle.mama_rules_rounds.specs.World.{Grouped, Watched, is_on}
+use Rattle.mama_rules_rounds.specs.Setting.{Grouped, Watched, is_on}
 
 -- a group and a watch with its number
 abbrev pub group_row : Grouped → ℕ × GroupRow

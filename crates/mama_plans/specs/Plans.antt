@@ -2,7 +2,7 @@
 use Rattle.std.specs.Prelude.{◌≡◌, ℕ, ◌≤◌, false, List, [], ◌∷◌, length, map}
 use Rattle.std.specs.List.{AllByRecursion}
 use Rattle.mama_event.specs.declared.order.PlanRow.{PlanRow}
-use Rattle.mama_event.specs.Listener.{planned}
+use Rattle.mama_event.specs.Plan.{planned}
 use Rattle.mama_event.specs.Object.{same_object}
 use Rattle.mama_rules_rounds.specs.Client.{Planned}
 use Rattle.mama_plans.specs.declared.plans.PlannedObject.{PlannedObject}

@@ -2,7 +2,7 @@
 ghost use Rattle.std.specs.Prelude.{◌≡◌, ◌++◌, ◌∷◌, [], map, slice_index_or, slice_set, IfOk, OnOk};
 ghost use Rattle.mama_journal.specs.Journal.{numbers_below};
 ghost use Rattle.mama_event.specs.Ports.{queues_of};
-ghost use Rattle.mama_rules_rounds.specs.Round.{setting_of, queue_of_members};
+ghost use Rattle.mama_rules_rounds.specs.Sections.{setting_of, queue_of_members};
 ghost use Rattle.mama_plans.specs.Lists.{groups_on_each, watches_on_each};
 
 use crate::Plans;

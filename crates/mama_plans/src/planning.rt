@@ -4,7 +4,7 @@ ghost use Rattle.mama_event.specs.declared.market.SubKind.{SubKind};
 ghost use Rattle.mama_link.specs.declared.faults.FaultRow.{FaultRow};
 ghost use Rattle.mama_script.specs.declared.client.ClientLine.TheVariants as line;
 ghost use Rattle.mama_rules_rounds.specs.Client.{Planned, objects_from, at_first};
-ghost use Rattle.mama_rules_rounds.specs.Round.{by_kind, objects_of, setting_of};
+ghost use Rattle.mama_rules_rounds.specs.Sections.{by_kind, objects_of, setting_of};
 ghost use Rattle.mama_plans.specs.Plans.{planned_object, planned_objects};
 ghost use Rattle.mama_plans.specs.Planning.{Makes, MakesOr};
 ghost use Rattle.mama_plans.specs.Room.{HasRoom, MakesFew};

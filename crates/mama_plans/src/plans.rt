@@ -1,6 +1,6 @@
 ghost use Rattle.std.specs.Prelude.{◌≡◌, ◌++◌, ◌∷◌, [], List, length, IfOk, OnOk};
-ghost use Rattle.mama_rules_rounds.specs.World.{plan_in, rows_of};
-ghost use Rattle.mama_rules_rounds.specs.Round.{queue_of};
+ghost use Rattle.mama_rules_rounds.specs.Setting.{plan_in, rows_of};
+ghost use Rattle.mama_rules_rounds.specs.Sections.{queue_of};
 ghost use Rattle.mama_journal.specs.Journal.{first_said};
 ghost use Rattle.mama_event.specs.declared.ids.ObjectId.{ObjectId};
 ghost use Rattle.mama_plans.specs.Plans.{planned_objects, AreFew, AreApart};

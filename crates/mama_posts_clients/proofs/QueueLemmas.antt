@@ -17,7 +17,8 @@ use Rattle.mama_event.specs.ToQueue.{is_last, fits, note_of, delivered_note, rep
 use Rattle.mama_event.specs.Wire.{Arrival, ReplyArrival, arrival_of, reply_of}
 use Rattle.mama_event.specs.declared.ids.SubId.{SubId}
 use Rattle.mama_event.specs.declared.ids.InboxId.{InboxId}
-use Rattle.mama_event.specs.Listener.{ListenerData, planned}
+use Rattle.mama_event.specs.Listener.{ListenerData}
+use Rattle.mama_event.specs.Plan.{planned}
 use Rattle.mama_event.specs.Object.{same_object}
 use Rattle.mama_event.specs.Ports.{queue_port_of_timers}
 use Rattle.mama_event.specs.declared.ids.ObjectId.{ObjectId}
@@ -37,7 +38,7 @@ use Rattle.mama_event.specs.declared.ids.TimerId.{TimerId}
 use Rattle.mama_event.specs.declared.watch.WatchRow.{WatchRow}
 use Rattle.mama_rules_queue.specs.Queue.{QueuePut}
 use Rattle.mama_rules_queue.specs.Watch.{wishes_at, watched_puts_at}
-use Rattle.mama_rules_rounds.specs.World.{Watched, rows_on}
+use Rattle.mama_rules_rounds.specs.Setting.{Watched, rows_on}
 use Rattle.mama_dispatch.specs.declared.turn.Turn.{Turn}
 use Rattle.mama_timeout.specs.Table.{WatchData, watch_by, new_watch}
 use Rattle.mama_timeout.specs.Turns.{tick_in, watches_after, wishes_after, missed_by, AreWatched}

@@ -21,7 +21,7 @@ use Rattle.mama_rules_queue.specs.Queue.{QueuePut, deeds, is_destroy}
 use Rattle.mama_rules_queue.specs.Watch.{watched_puts_at}
 use Rattle.mama_timeout.specs.Table.{WatchData, watch_by}
 use Rattle.mama_rules_rounds.specs.Client.{Planned, bridge_part, timers_part}
-use Rattle.mama_rules_rounds.specs.World.{plan_in, rows_of}
+use Rattle.mama_rules_rounds.specs.Setting.{plan_in, rows_of}
 use Rattle.mama_laws_allowed.specs.Allowed.{IsTakenLawfully}
 use Rattle.mama_plans.specs.Orders.{orders_in}
 use Rattle.mama_carry.specs.Fresh.{IsFresh}

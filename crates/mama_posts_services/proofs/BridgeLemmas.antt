@@ -20,7 +20,7 @@ use Rattle.mama_rules_services.specs.Ports.{bridge_putter}
 use Rattle.mama_laws_bridge.specs.Byes.{all_left}
 use Rattle.mama_laws_lawful.specs.Streams as streams
 use Rattle.mama_laws_lawful.specs.Laws.{StreamsAreLawful, LawfulClientsGetLawfulStreams}
-use Rattle.mama_rules_rounds.specs.World.{publisher_part, queue_part, timer_part}
+use Rattle.mama_rules_rounds.specs.Setting.{publisher_part, queue_part, timer_part}
 use Rattle.mama_rules_legal.specs.Edges.{put_to_publisher}
 use Rattle.mama_bridge.specs.Routing.{Routing, routed, is_last_bye}
 use Rattle.mama_ends.specs.Inlet.{InletValue, AreLawful}

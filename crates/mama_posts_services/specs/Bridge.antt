@@ -12,7 +12,7 @@ use Rattle.mama_event.specs.ToBridge.{is_last, fits}
 use Rattle.mama_event.specs.Ports.{publishers_of, queues_of, bridge_ports, timers_port_of_bridge, queue_port_of_bridge}
 use Rattle.mama_rules_services.specs.Bridge.{BridgePut, heard, bridge_puts}
 use Rattle.mama_laws_bridge.specs.Byes.{all_left}
-use Rattle.mama_rules_rounds.specs.World.{publisher_part, queue_part, timer_part}
+use Rattle.mama_rules_rounds.specs.Setting.{publisher_part, queue_part, timer_part}
 use Rattle.mama_rules_legal.specs.Edges.{put_to_publisher}
 use Rattle.mama_lane.specs.Values.{PortValue}
 use Rattle.mama_posts_services.specs.Ports.{place_of, IsPutting, ArePutting}

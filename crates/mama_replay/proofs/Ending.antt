@@ -22,9 +22,12 @@ use Rattle.mama_script.specs.declared.publisher.PublisherPart.{PublisherPart}
 use Rattle.mama_script.specs.Script.{ScriptData}
 use Rattle.mama_script.specs.Tree.{IsShaped}
 use Rattle.mama_record.specs.RunData.{RunData, ObjectCalls, LastImage, GroupNotes, WatchNotes}
-use Rattle.mama_rules_rounds.specs.World.{Setting, World, no_section}
+use Rattle.mama_rules_rounds.specs.Setting.{Setting, no_section}
+use Rattle.mama_rules_rounds.specs.World.{World}
 use Rattle.mama_rules_rounds.specs.Stage.{Stage}
-use Rattle.mama_rules_rounds.specs.Round.{sends_in, publishers_from, publisher_line_steps, publisher_steps, setting_of, no_journals, record_of, object_calls, last_image, group_told, watch_told}
+use Rattle.mama_rules_rounds.specs.Sections.{sends_in, publishers_from, setting_of}
+use Rattle.mama_rules_rounds.specs.Told.{object_calls, last_image, group_told, watch_told}
+use Rattle.mama_rules_rounds.specs.Round.{publisher_line_steps, publisher_steps, no_journals, record_of}
 use Rattle.mama_rules_legal.specs.Lines.{is_take, is_done, IsSentOut}
 use Rattle.mama_rules_legal.specs.Edges.{client_puts}
 use Rattle.mama_rules_legal.specs.Legal.{IsLegal}

@@ -18,9 +18,10 @@ use Rattle.mama_script.specs.declared.client.ClientLine.{ClientLine}
 use Rattle.mama_script.specs.Script.{ScriptData}
 use Rattle.mama_script.specs.Tree.{IsShaped}
 use Rattle.mama_record.specs.RunData.{RunData}
-use Rattle.mama_rules_rounds.specs.World.{Setting, World, bridge_took, timers_took, queue_took}
+use Rattle.mama_rules_rounds.specs.Setting.{Setting}
+use Rattle.mama_rules_rounds.specs.World.{World, bridge_took, timers_took, queue_took}
 use Rattle.mama_rules_rounds.specs.Stage.{Stage}
-use Rattle.mama_rules_rounds.specs.Round.{all_client_steps, setting_of}
+use Rattle.mama_rules_rounds.specs.Sections.{all_client_steps, setting_of}
 use Rattle.mama_rules_legal.specs.Edges.{all_steps, put_on_bridge, put_on_timers, put_on_queue, AreEdges}
 use Rattle.mama_laws_legal.proofs.Worlds.{Holds}
 use Rattle.mama_check.specs.Causal.{publisher_actor, bridge_actor, timers_actor, queue_actor, actors_to_bridge, all_to_bridge, actors_to_timers, all_to_timers, actors_to_queue, all_to_queue, all_needs, bridge_needs, timers_needs, queue_needs}

@@ -23,9 +23,10 @@ use Rattle.mama_script.specs.Script.{ScriptData}
 use Rattle.mama_script.specs.Tree.{IsShaped}
 use Rattle.mama_record.specs.RunData.{RunData}
 use Rattle.mama_rules_rounds.specs.Client.{Standing, at_first, after_line, steps_from, client_steps}
-use Rattle.mama_rules_rounds.specs.World.{Setting, World, publisher_did, publisher_took, publisher_turn}
+use Rattle.mama_rules_rounds.specs.Setting.{Setting}
+use Rattle.mama_rules_rounds.specs.World.{World, publisher_did, publisher_took, publisher_turn}
 use Rattle.mama_rules_rounds.specs.Stage.{Stage, client_stepped, publisher_stepped}
-use Rattle.mama_rules_rounds.specs.Round.{setting_of}
+use Rattle.mama_rules_rounds.specs.Sections.{setting_of}
 use Rattle.mama_rules_legal.specs.Edges.{all_steps, taken_in, taken_by, put_to_publisher, AreEdges}
 use Rattle.mama_laws_legal.proofs.Worlds.{Holds, client_keeps, own_keeps, publisher_turn_keeps}
 use Rattle.mama_laws_legal.proofs.Lists.{within}

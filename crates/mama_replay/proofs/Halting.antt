@@ -12,7 +12,7 @@ use Rattle.mama_check_order.proofs.Searches.{exists, left, left_less}
 use Rattle.mama_script.specs.Script.{ScriptData}
 use Rattle.mama_record.specs.RunData.{RunData}
 use Rattle.mama_rules_rounds.specs.Stage.{Stage}
-use Rattle.mama_rules_rounds.specs.Round.{setting_of}
+use Rattle.mama_rules_rounds.specs.Sections.{setting_of}
 use Rattle.mama_check.specs.declared.verdict.Actor.{Actor}
 use Rattle.mama_replay.specs.declared.step.Step.{Step}
 use Rattle.mama_replay.specs.Followed.{after_steps}

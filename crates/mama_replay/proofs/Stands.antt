@@ -24,8 +24,9 @@ use Rattle.mama_script.specs.Script.{ScriptData}
 use Rattle.mama_script.specs.Tree.{IsShaped}
 use Rattle.mama_record.specs.RunData.{RunData}
 use Rattle.mama_rules_rounds.specs.Client.{at_first, client_steps, steps_from, bridge_part, timers_part}
-use Rattle.mama_rules_rounds.specs.World.{Setting, World, no_section, puts_on, publisher_part, queue_part, timer_part}
-use Rattle.mama_rules_rounds.specs.Round.{all_client_steps, setting_of}
+use Rattle.mama_rules_rounds.specs.Setting.{Setting, no_section, puts_on, publisher_part, queue_part, timer_part}
+use Rattle.mama_rules_rounds.specs.World.{World}
+use Rattle.mama_rules_rounds.specs.Sections.{all_client_steps, setting_of}
 use Rattle.mama_rules_legal.specs.Edges.{all_steps, put_on_bridge, put_on_timers, put_to_publisher, put_on_queue}
 use Rattle.mama_laws_legal.proofs.Putters.{by_bridge_port, by_timers_port, by_queue_port}
 use Rattle.mama_check_puts.specs.Puts.{AreLists, tick_part, bridge_put_to_publisher, bridge_put_to_timers}

@@ -9,7 +9,8 @@ use Rattle.mama_event.specs.declared.to_timers.TimersNote.{TimersNote}
 use Rattle.mama_event.specs.declared.to_queue.QueueNote.{QueueNote}
 use Rattle.mama_event.specs.Ports.{queues_of}
 use Rattle.mama_rules_queue.specs.Queue.{QueuePut}
-use Rattle.mama_rules_rounds.specs.World.{Setting, World, bridge_took, timers_took, queue_did, queue_took, queue_turn}
+use Rattle.mama_rules_rounds.specs.Setting.{Setting}
+use Rattle.mama_rules_rounds.specs.World.{World, bridge_took, timers_took, queue_did, queue_took, queue_turn}
 use Rattle.mama_rules_services.specs.Ports.{queue_putter}
 use Rattle.mama_rules_legal.specs.Edges.{put_on_queue}
 use Rattle.mama_laws_legal.proofs.Worlds.{Holds, bridge_turn_keeps, timers_turn_keeps, queue_turn_keeps}

@@ -8,9 +8,11 @@ use Rattle.mama_script.specs.declared.publisher.PublisherLine.{PublisherLine}
 use Rattle.mama_script.specs.declared.publisher.PublisherLine.TheVariants as publisher
 use Rattle.mama_script.specs.Script.{ScriptData}
 use Rattle.mama_record.specs.RunData.{RunData}
-use Rattle.mama_rules_rounds.specs.World.{Setting, World, bridge_took, timers_took, queue_took, publisher_turn}
+use Rattle.mama_rules_rounds.specs.Setting.{Setting}
+use Rattle.mama_rules_rounds.specs.World.{World, bridge_took, timers_took, queue_took, publisher_turn}
 use Rattle.mama_rules_rounds.specs.Stage.{Stage, client_step, publisher_step}
-use Rattle.mama_rules_rounds.specs.Round.{all_client_steps, publisher_steps, setting_of, no_journals, record_of}
+use Rattle.mama_rules_rounds.specs.Sections.{all_client_steps, setting_of}
+use Rattle.mama_rules_rounds.specs.Round.{publisher_steps, no_journals, record_of}
 use Rattle.mama_check.specs.declared.verdict.Actor.{Actor}
 use Rattle.mama_check.specs.declared.verdict.Actor.TheVariants as actor
 use Rattle.mama_replay.specs.declared.step.Step.{Step}

@@ -9,9 +9,9 @@ use Rattle.mama_event.specs.declared.to_publisher.PublisherNote.{PublisherNote}
 use Rattle.mama_event.specs.Ports.{clients_of, publishers_of, queues_of}
 use Rattle.mama_script.specs.Script.{ScriptData}
 use Rattle.mama_record.specs.RunData.{RunData}
-use Rattle.mama_rules_rounds.specs.World.{Setting}
+use Rattle.mama_rules_rounds.specs.Setting.{Setting}
 use Rattle.mama_rules_rounds.specs.Stage.{Stage}
-use Rattle.mama_rules_rounds.specs.Round.{setting_of}
+use Rattle.mama_rules_rounds.specs.Sections.{setting_of}
 use Rattle.mama_check.specs.declared.verdict.Actor.{Actor}
 use Rattle.mama_check.specs.declared.verdict.Actor.TheVariants as actor
 use Rattle.mama_replay.specs.declared.step.Step.{Step}

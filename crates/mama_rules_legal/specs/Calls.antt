@@ -6,7 +6,8 @@ use Rattle.mama_event.specs.Ports.{queues_of}
 use Rattle.mama_script.specs.Script.{ScriptData}
 use Rattle.mama_record.specs.RunData.{RunData}
 use Rattle.mama_rules_rounds.specs.Client.{clock_lines}
-use Rattle.mama_rules_rounds.specs.Round.{setting_of, object_calls, last_image, group_told, watch_told}
+use Rattle.mama_rules_rounds.specs.Sections.{setting_of}
+use Rattle.mama_rules_rounds.specs.Told.{object_calls, last_image, group_told, watch_told}
 
 -- A record has a journal of each publisher and queue of the script, and the moments of each client, who read one for
 -- each of its lines that read the clock.

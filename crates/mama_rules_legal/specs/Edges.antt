@@ -19,8 +19,8 @@ use Rattle.mama_rules_queue.specs.Queue.{QueuePut}
 use Rattle.mama_script.specs.Script.{ScriptData}
 use Rattle.mama_record.specs.RunData.{RunData}
 use Rattle.mama_rules_rounds.specs.Client.{bridge_part, timers_part}
-use Rattle.mama_rules_rounds.specs.World.{Setting, no_section, puts_on, publisher_part, queue_part, timer_part}
-use Rattle.mama_rules_rounds.specs.Round.{all_client_steps, setting_of}
+use Rattle.mama_rules_rounds.specs.Setting.{Setting, no_section, puts_on, publisher_part, queue_part, timer_part}
+use Rattle.mama_rules_rounds.specs.Sections.{all_client_steps, setting_of}
 
 -- what the steps of an actor hold, one step after another
 abbrev pub all_steps : {A : Type 0} → List (List A) → List A

@@ -8,7 +8,7 @@ use Rattle.mama_event.specs.Object.{same_object}
 use Rattle.mama_event.specs.Ports.{queues_of}
 use Rattle.mama_script.specs.Script.{ScriptData}
 use Rattle.mama_record.specs.RunData.{RunData}
-use Rattle.mama_rules_rounds.specs.Round.{setting_of}
+use Rattle.mama_rules_rounds.specs.Sections.{setting_of}
 
 -- the objects of a script in the order of its record: subscriptions, timers, inboxes, each kind by client and number
 abbrev pub objects_of : ScriptData → List ObjectId

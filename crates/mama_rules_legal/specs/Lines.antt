@@ -9,8 +9,8 @@ use Rattle.mama_event.specs.Publisher.{is_send}
 use Rattle.mama_script.specs.Script.{ScriptData}
 use Rattle.mama_record.specs.RunData.{RunData}
 use Rattle.mama_rules_rounds.specs.Client.{clock_lines}
-use Rattle.mama_rules_rounds.specs.World.{no_section}
-use Rattle.mama_rules_rounds.specs.Round.{setting_of}
+use Rattle.mama_rules_rounds.specs.Setting.{no_section}
+use Rattle.mama_rules_rounds.specs.Sections.{setting_of}
 
 -- an entry that takes an event
 abbrev pub is_take : PublisherEntry → Bool

@@ -16,7 +16,7 @@ use Rattle.mama_event.specs.declared.group.GroupNote.{GroupNote}
 use Rattle.mama_event.specs.declared.group.GroupNote.TheVariants as note
 use Rattle.mama_event.specs.declared.to_queue.QueueNote.{QueueNote}
 use Rattle.mama_event.specs.Object.{same_sub}
-use Rattle.mama_event.specs.Equality.{same_group_state}
+use Rattle.mama_event.specs.GroupStates.{same_group_state}
 use Rattle.mama_rules_queue.specs.Queue.{Deed, handled, called, calls_of, deeds, deeds_at}
 
 -- a member of a group: it waits for its first message, or has an image of this quality, or is ended

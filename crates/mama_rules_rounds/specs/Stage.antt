@@ -4,7 +4,8 @@ use Rattle.std.specs.List.{list_all}
 use Rattle.mama_event.specs.declared.publisher_entry.PublisherEntry.{PublisherEntry}
 use Rattle.mama_event.specs.Ports.{clients_of, publishers_of, bridge_port_of_client, timers_port_of_client}
 use Rattle.mama_rules_queue.specs.Queue.{QueuePut}
-use Rattle.mama_rules_rounds.specs.World.{Setting, World, with_puts, publisher_did, is_empty, IsDrained}
+use Rattle.mama_rules_rounds.specs.Setting.{Setting}
+use Rattle.mama_rules_rounds.specs.World.{World, with_puts, publisher_did, is_empty, IsDrained}
 
 -- a run between two steps: the steps that each client and each publisher has still to make, and the world
 pub record Stage : Type 0 where

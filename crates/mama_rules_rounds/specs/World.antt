@@ -1,80 +1,20 @@
 -- believed: a run in one thread: the journals of all actors, and what was put on each lane and not taken.
-use Rattle.std.specs.Prelude.{◌≡◌, ℕ, zero, suc, ◌+◌, Bool, true, false, ◌==◌, List, [], ◌∷◌, ◌++◌, map, filter, slice_index_or, slice_set, if◌then◌else◌, Option, None, Some}
+use Rattle.std.specs.Prelude.{◌≡◌, ℕ, zero, suc, ◌+◌, Bool, true, false, List, [], ◌∷◌, ◌++◌, slice_index_or, slice_set}
 use Rattle.std.specs.List.{flat_map, list_all}
-use Rattle.mama_journal.specs.Journal.{puts, first_said}
 use Rattle.mama_journal.specs.Lane.{by_port, from_port}
-use Rattle.mama_event.specs.declared.ids.ObjectId.{ObjectId}
-use Rattle.mama_event.specs.declared.shape.Shape.{Shape}
-use Rattle.mama_event.specs.declared.order.PlanRow.{PlanRow}
 use Rattle.mama_event.specs.declared.to_bridge.BridgeNote.{BridgeNote}
 use Rattle.mama_event.specs.declared.to_publisher.PublisherNote.{PublisherNote}
 use Rattle.mama_event.specs.declared.to_timers.TimersNote.{TimersNote}
 use Rattle.mama_event.specs.declared.to_queue.QueueNote.{QueueNote}
 use Rattle.mama_event.specs.Ports.{publishers_of, queues_of, bridge_port_of_publisher, bridge_port_of_queue, timers_port_of_queue, timers_port_of_bridge, queue_port_of_bridge, queue_port_of_timers}
-use Rattle.mama_rules_services.specs.Bridge.{BridgePut, to_publisher, to_queue, bridge_puts_at}
-use Rattle.mama_rules_services.specs.Bridge as bridge
+use Rattle.mama_rules_services.specs.Bridge.{bridge_puts_at}
 use Rattle.mama_rules_services.specs.Timers.{timers_puts_at}
-use Rattle.mama_event.specs.Object.{same_object}
-use Rattle.mama_event.specs.declared.order.Order.{Order}
-use Rattle.mama_event.specs.Listener.{planned}
-use Rattle.mama_event.specs.declared.ids.SubId.{SubId}
-use Rattle.mama_event.specs.declared.watch.WatchRow.{WatchRow}
 use Rattle.mama_rules_queue.specs.Queue.{QueuePut}
-use Rattle.mama_rules_queue.specs.Watch.{watched_puts_at}
 use Rattle.mama_event.specs.declared.publisher_entry.PublisherEntry.{PublisherEntry}
 use Rattle.mama_event.specs.declared.publisher_entry.PublisherEntry.TheVariants.{Took}
-use Rattle.mama_event.specs.Publisher.{PublisherScript, publisher_puts_at}
-use Rattle.mama_rules_rounds.specs.Client.{bridge_part, timers_part, Planned}
-
--- a group of a script, with its number, the queue of its members, and the members
-pub record Grouped : Type 0 where
-  pub number : ℕ
-  pub queue : ℕ
-  pub members : List SubId
-
--- a watch of a script, with its number and the queue of its timer
-pub record Watched : Type 0 where
-  pub number : ℕ
-  pub queue : ℕ
-  pub row : WatchRow
-
--- What does not change in a run: how many actors there are, what the publishers send, the objects with their plans, and the
--- groups and the watches.
-pub record Setting : Type 0 where
-  pub shape : Shape
-  pub publishers : List PublisherScript
-  pub objects : List Planned
-  pub groups : List Grouped
-  pub watches : List Watched
-
-abbrev pub no_section : PublisherScript
-no_section = record { number = 0; base = []; lines = [] }
-
-abbrev pub plan_in : ObjectId → Planned → Option (List PlanRow)
-plan_in o p = if same_object p.object o then Some p.plan else None
-
-abbrev pub rows_of : Option (List PlanRow) → List PlanRow
-rows_of None = []
-rows_of (Some rows) = rows
-
--- the plan of an object
-abbrev pub plan_of : Setting → ObjectId → List PlanRow
-plan_of setting o = rows_of (first_said (plan_in o) setting.objects)
-
--- what the listener of an object orders in its callback of this number
-abbrev pub orders_by : Setting → ObjectId → ℕ → List Order
-orders_by setting o call = planned (plan_of setting o) call
-
--- the watches of a queue
-abbrev pub is_on : ℕ → Watched → Bool
-is_on q w = w.queue == q
-
-abbrev pub rows_on : ℕ → List Watched → List WatchRow
-rows_on q watches = map (λ w. w.row) (filter (is_on q) watches)
-
--- what a queue puts at an entry, given its journal before it: what it puts by serving, and what its watches wish for
-abbrev pub puts_on : Setting → ℕ → List (ℕ × QueueNote) → ℕ × QueueNote → List QueuePut
-puts_on setting q before e = watched_puts_at (orders_by setting) (rows_on q setting.watches) before e
+use Rattle.mama_event.specs.Publisher.{publisher_puts_at}
+use Rattle.mama_rules_rounds.specs.Client.{bridge_part, timers_part}
+use Rattle.mama_rules_rounds.specs.Setting.{Setting, no_section, puts_on, publisher_part, queue_part, timer_part}
 
 -- the journals, and what was put on each lane and not taken
 pub record World : Type 0 where
@@ -86,22 +26,6 @@ pub record World : Type 0 where
   pub to_timers : List (ℕ × TimersNote)
   pub to_publishers : List (List PublisherNote)
   pub to_queues : List (List (ℕ × QueueNote))
-
--- the part of the bridge's puts for one publisher, for one queue, and for the timers
-abbrev pub publisher_part : ℕ → BridgePut → List PublisherNote
-publisher_part p (to_publisher r note) = if r == p then note ∷ [] else []
-publisher_part p (to_queue q note) = []
-publisher_part p (bridge.to_timers note) = []
-
-abbrev pub queue_part : ℕ → BridgePut → List QueueNote
-queue_part q (to_publisher p note) = []
-queue_part q (to_queue r note) = if r == q then note ∷ [] else []
-queue_part q (bridge.to_timers note) = []
-
-abbrev pub timer_part : BridgePut → List TimersNote
-timer_part (to_publisher p note) = []
-timer_part (to_queue q note) = []
-timer_part (bridge.to_timers note) = note ∷ []
 
 -- each lane of a list with what its number says put at its end
 abbrev pub extended : {V : Type 0} → (ℕ → List V) → ℕ → List (List V) → List (List V)

@@ -17,7 +17,8 @@ use Rattle.mama_publisher.specs.Standing.{Standing}
 use Rattle.mama_rules_queue.specs.Queue.{QueuePut}
 use Rattle.mama_rules_rounds.specs.Client as client
 use Rattle.mama_rules_rounds.specs.Client.{steps_from, clock_lines}
-use Rattle.mama_rules_rounds.specs.Round.{sends_in, publisher_steps}
+use Rattle.mama_rules_rounds.specs.Sections.{sends_in}
+use Rattle.mama_rules_rounds.specs.Round.{publisher_steps}
 use Rattle.mama_seats.specs.Moments.{client_reads}
 use Rattle.mama_seats.specs.Past.{past, is_empty_line, is_empty_send}
 use Rattle.mama_seats.specs.Sender.{Sender, Progress, sender_in, first_step, later_steps, steps_after, IsSenderStep, IsSeated}

@@ -19,7 +19,8 @@ use Rattle.mama_publisher.specs.Laws.{StandsAt, SendingUpdates, SendingRecaps, T
 use Rattle.mama_event.specs.ToPublisher.{note_of}
 use Rattle.mama_event.specs.declared.to_publisher.ToPublisher.{ToPublisher}
 use Rattle.mama_publisher.specs.Standing.{Standing, advanced}
-use Rattle.mama_rules_rounds.specs.Round.{sends_in, publisher_line_steps}
+use Rattle.mama_rules_rounds.specs.Sections.{sends_in}
+use Rattle.mama_rules_rounds.specs.Round.{publisher_line_steps}
 use Rattle.mama_seats.specs.Sender.{Sender, first_step, later_steps, steps_after, IsSenderStep, IsSeated, script_of}
 use Rattle.mama_event.specs.declared.market.MarketMsg.{MarketMsg}
 use Rattle.mama_seats.proofs.StandLemmas.{next_line}

@@ -12,7 +12,8 @@ use Rattle.mama_script.specs.declared.publisher.PublisherLine.{PublisherLine}
 use Rattle.mama_script.specs.declared.publisher.PublisherPart.{PublisherPart}
 use Rattle.mama_publisher.specs.Laws.{StandsAt}
 use Rattle.mama_publisher.specs.Standing.{Standing}
-use Rattle.mama_rules_rounds.specs.Round.{sends_in, publisher_steps}
+use Rattle.mama_rules_rounds.specs.Sections.{sends_in}
+use Rattle.mama_rules_rounds.specs.Round.{publisher_steps}
 
 -- its script, its journal, what waits on its lane, whether it has sent all it has to send, how many steps it still
 -- pauses, and the lines that are left

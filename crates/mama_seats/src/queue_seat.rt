@@ -10,7 +10,7 @@ ghost use Rattle.mama_dispatch.specs.Seats.{Fits};
 ghost use Rattle.mama_dispatch.specs.Callbacks.{calls_to};
 ghost use Rattle.mama_dispatch.specs.Journals.{may_come};
 ghost use Rattle.mama_rules_rounds.specs.World.{is_empty};
-ghost use Rattle.mama_rules_rounds.specs.Round.{noted};
+ghost use Rattle.mama_rules_rounds.specs.Told.{noted};
 ghost use Rattle.mama_plans.specs.Put.{own_tag, notes_of};
 ghost use Rattle.mama_seats.specs.Server.{first_may_come, served, served_puts, all_told};
 ghost use Rattle.mama_seats.specs.Heard.{group_lists, watch_lists, heard_in, noted_in, IsGroupList};

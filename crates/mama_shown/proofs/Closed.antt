@@ -12,8 +12,9 @@ use Rattle.mama_script.specs.Script.{ScriptData}
 use Rattle.mama_record.specs.RunData.{RunData}
 use Rattle.mama_record.specs.RunView.{images_of}
 use Rattle.mama_rules_rounds.specs.Client.{Planned}
-use Rattle.mama_rules_rounds.specs.World.{Setting}
-use Rattle.mama_rules_rounds.specs.Round.{setting_of, last_image}
+use Rattle.mama_rules_rounds.specs.Setting.{Setting}
+use Rattle.mama_rules_rounds.specs.Sections.{setting_of}
+use Rattle.mama_rules_rounds.specs.Told.{last_image}
 use Rattle.mama_crew.specs.Hall.{HallValue}
 use Rattle.mama_crew.specs.declared.seat.Seat.{Seat}
 use Rattle.mama_crew.specs.Journals.{AreJournalsOf, events_in}

@@ -3,7 +3,7 @@ use Rattle.std.proofs.lemmas.List.{length-map}
 use Rattle.mama_event.specs.Ports.{queues_of}
 use Rattle.mama_event.specs.declared.group.GroupRow.{GroupRow}
 use Rattle.mama_event.specs.declared.watch.WatchRow.{WatchRow}
-use Rattle.mama_rules_rounds.specs.Round.{setting_of}
+use Rattle.mama_rules_rounds.specs.Sections.{setting_of}
 use Rattle.mama_plans.specs.Lists.{groups_on, groups_on_each, watches_on}
 use Rattle.mama_check_queue.specs.Listed.{AreAllListed}
 use Rattle.mama_check.proofs.Listed.{all_listed, lists_many}

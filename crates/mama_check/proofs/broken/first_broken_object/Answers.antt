@@ -1,5 +1,5 @@
 use Rattle.std.proofs.Common.{length}
-use Rattle.mama_rules_rounds.specs.Round.{setting_of}
+use Rattle.mama_rules_rounds.specs.Sections.{setting_of}
 use Rattle.mama_check.specs.Rules.{KeepsCalls}
 use Rattle.mama_check.proofs.BrokenLemmas.{none_breaks, broken_calls, broken_images}
 use Rattle.mama_check.proofs.broken.first_broken_object.Goals as goal

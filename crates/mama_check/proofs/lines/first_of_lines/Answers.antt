@@ -1,8 +1,8 @@
 use Rattle.std.proofs.Common.{◌<◌, ℕ, List, [], length, sym, subst, ◌∙◌, below_more, true≢false}
 use Rattle.std.specs.Prelude.{slice_index_or}
 use Rattle.std.specs.List.{flat_map}
-use Rattle.mama_rules_rounds.specs.World.{no_section}
-use Rattle.mama_rules_rounds.specs.Round.{sends_in, publishers_from}
+use Rattle.mama_rules_rounds.specs.Setting.{no_section}
+use Rattle.mama_rules_rounds.specs.Sections.{sends_in, publishers_from}
 use Rattle.mama_rules_legal.specs.Lines.{IsSentOut}
 use Rattle.mama_check.proofs.LineLemmas.{sends_at, items_at, carried}
 use Rattle.mama_check.proofs.lines.first_of_lines.Goals as goal

@@ -4,7 +4,7 @@ use Rattle.mama_event.specs.declared.group.GroupRow.{GroupRow}
 use Rattle.mama_record.specs.RunData.{GroupNotes}
 use Rattle.mama_record.specs.RunView as view
 use Rattle.mama_rules_rounds.specs.Client.{Planned}
-use Rattle.mama_rules_rounds.specs.Round.{queue_of_members}
+use Rattle.mama_rules_rounds.specs.Sections.{queue_of_members}
 use Rattle.mama_check_queue.specs.Served.{group_given, groups_heard}
 use Rattle.mama_check.proofs.ListLemmas.{groups_left, group_heard, group_left, group_kept, group_back, lists_many, lists_told, many_more, stands_at, recorded_many}
 use Rattle.mama_check.proofs.lists.first_of_groups.Goals as goal

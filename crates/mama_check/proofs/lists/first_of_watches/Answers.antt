@@ -6,7 +6,7 @@ use Rattle.mama_event.specs.declared.watch.WatchRow.{WatchRow}
 use Rattle.mama_record.specs.RunData.{WatchNotes}
 use Rattle.mama_record.specs.RunView as view
 use Rattle.mama_rules_rounds.specs.Client.{Planned}
-use Rattle.mama_rules_rounds.specs.Round.{queue_of}
+use Rattle.mama_rules_rounds.specs.Sections.{queue_of}
 use Rattle.mama_check_queue.specs.Served.{watch_given, watches_noted}
 use Rattle.mama_check.proofs.ListLemmas.{watches_left, watch_noted, watch_left, watch_kept, watch_back, lists_many, lists_told, many_more, stands_at, recorded_many}
 use Rattle.mama_check.proofs.lists.first_of_watches.Goals as goal

@@ -1,7 +1,7 @@
 use Rattle.std.specs.Prelude.{map, drop}
 use Rattle.std.proofs.Common.{◌≡◌, ℕ, ◌<◌, length}
-use Rattle.mama_rules_rounds.specs.World.{Watched}
-use Rattle.mama_rules_rounds.specs.Round.{setting_of}
+use Rattle.mama_rules_rounds.specs.Setting.{Watched}
+use Rattle.mama_rules_rounds.specs.Sections.{setting_of}
 use Rattle.mama_check_queue.specs.Served.{watch_given}
 use Rattle.mama_check.specs.Rules.{KeepsWatch}
 use Rattle.mama_check.proofs.ListLemmas.{AreLeft, told_watch}

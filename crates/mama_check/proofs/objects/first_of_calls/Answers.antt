@@ -1,6 +1,7 @@
 use Rattle.std.proofs.Common.{◌≡◌, ◌<◌, ℕ, List, length, sym, subst, ◌∙◌, arith, below_more, true≢false}
 use Rattle.mama_event.specs.declared.callback.CallNote.{CallNote}
-use Rattle.mama_rules_rounds.specs.Round.{setting_of, object_calls}
+use Rattle.mama_rules_rounds.specs.Sections.{setting_of}
+use Rattle.mama_rules_rounds.specs.Told.{object_calls}
 use Rattle.mama_plans.specs.Plans.{planned_object, planned_objects}
 use Rattle.mama_check.proofs.CallLemmas.{as_planned, planned_within, recorded_within, calls_kept, calls_back, told_calls}
 use Rattle.mama_check.proofs.objects.first_of_calls.Goals as goal

@@ -6,8 +6,8 @@ use Rattle.mama_event.specs.declared.publisher_entry.PublisherEntry.{PublisherEn
 use Rattle.mama_event.specs.Publisher.{PublisherScript, publisher_puts_at}
 use Rattle.mama_check_order.specs.Numbered.{numbered}
 use Rattle.mama_script.specs.declared.publisher.PublisherPart.{PublisherPart}
-use Rattle.mama_rules_rounds.specs.World.{no_section}
-use Rattle.mama_rules_rounds.specs.Round.{publishers_from}
+use Rattle.mama_rules_rounds.specs.Setting.{no_section}
+use Rattle.mama_rules_rounds.specs.Sections.{publishers_from}
 use Rattle.mama_check_puts.specs.Puts.{script_of}
 use Rattle.mama_check.specs.Puts.{publisher_to_bridge}
 use Rattle.mama_check.proofs.LineLemmas.{items_at}

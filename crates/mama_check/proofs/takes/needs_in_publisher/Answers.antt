@@ -7,7 +7,7 @@ use Rattle.mama_event.specs.declared.publisher_entry.PublisherEntry.{PublisherEn
 use Rattle.mama_event.specs.Ports.{publishers_of}
 use Rattle.mama_check_order.specs.Numbered.{second}
 use Rattle.mama_check_order.specs.declared.order.Need.{Need}
-use Rattle.mama_rules_rounds.specs.World.{publisher_part}
+use Rattle.mama_rules_rounds.specs.Setting.{publisher_part}
 use Rattle.mama_rules_legal.specs.Edges.{taken_by}
 use Rattle.mama_check_order.specs.Taken.{sender_needs_of}
 use Rattle.mama_check_puts.specs.Puts.{bridge_put_to_publisher}

@@ -3,7 +3,7 @@ use Rattle.std.proofs.lemmas.List.{take_all}
 use Rattle.mama_event.specs.Ports.{publishers_of, queues_of}
 use Rattle.mama_event.specs.declared.to_bridge.BridgeNote.{BridgeNote}
 use Rattle.mama_rules_services.specs.Bridge.{bridge_puts_at}
-use Rattle.mama_rules_rounds.specs.World.{publisher_part, queue_part}
+use Rattle.mama_rules_rounds.specs.Setting.{publisher_part, queue_part}
 use Rattle.mama_bridge.specs.Outs.{put_note}
 use Rattle.mama_check_puts.specs.Puts.{AreLists, bridge_put_to_publisher, bridge_put_to_queue, bridge_put_to_timers, publishers_in, queues_in}
 use Rattle.mama_check_puts.specs.Dealing.{own_tag}

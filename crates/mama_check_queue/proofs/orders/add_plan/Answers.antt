@@ -4,7 +4,7 @@ use Rattle.std.proofs.Common.{Bool, cond, List, ap, sym, ◌∙◌}
 use Rattle.mama_event.specs.contracts.ids.ObjectIdPartialEq.TheImpl.{eq-value}
 use Rattle.mama_event.specs.declared.order.PlanRow.{PlanRow}
 use Rattle.mama_event.specs.Object.{same_object}
-use Rattle.mama_event.specs.Listener.{planned}
+use Rattle.mama_event.specs.Plan.{planned}
 use Rattle.mama_dispatch.proofs.Ids.{same_ids}
 use Rattle.mama_plans.specs.Plans.{planned_object}
 use Rattle.mama_check_queue.proofs.OrderLemmas.{lookup_same, found_new, found_kept}

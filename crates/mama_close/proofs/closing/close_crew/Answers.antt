@@ -4,7 +4,8 @@ use Rattle.std.specs.List.{flat_map}
 use Rattle.mama_event.specs.declared.group.GroupRow.{GroupRow}
 use Rattle.mama_event.specs.declared.to_queue.QueueNote.{QueueNote}
 use Rattle.mama_record.specs.RunView.{groups_of}
-use Rattle.mama_rules_rounds.specs.Round.{setting_of, groups_from, planned_in, group_told}
+use Rattle.mama_rules_rounds.specs.Sections.{setting_of, groups_from, planned_in}
+use Rattle.mama_rules_rounds.specs.Told.{group_told}
 use Rattle.mama_crew.specs.Journals.{AreJournalsOf, events_in}
 use Rattle.mama_close.specs.Kinds.{record_of}
 use Rattle.mama_close.specs.InKinds.{kinds_in}

@@ -5,8 +5,9 @@ use Rattle.mama_event.specs.declared.to_queue.QueueNote.{QueueNote}
 use Rattle.mama_record.specs.RunData.{RunData}
 use Rattle.mama_record.specs.RunView.{groups_of, images_of}
 use Rattle.mama_rules_rounds.specs.Client.{Planned}
-use Rattle.mama_rules_rounds.specs.World.{Setting}
-use Rattle.mama_rules_rounds.specs.Round.{setting_of, group_told, last_image}
+use Rattle.mama_rules_rounds.specs.Setting.{Setting}
+use Rattle.mama_rules_rounds.specs.Sections.{setting_of}
+use Rattle.mama_rules_rounds.specs.Told.{group_told, last_image}
 use Rattle.mama_crew.specs.Hall.{HallValue}
 use Rattle.mama_crew.specs.Journals.{AreJournalsOf}
 use Rattle.mama_gather.specs.Left.{events_by}

@@ -1,6 +1,6 @@
 use Rattle.std.proofs.Common.{◌≡◌, ℕ, zero, suc, ◌<◌, ◌≤◌, List, [], ◌∷◌, length, get_or, sym, subst, arith}
 use Rattle.mama_event.specs.declared.order.PlanRow.{PlanRow}
-use Rattle.mama_event.specs.Listener.{planned}
+use Rattle.mama_event.specs.Plan.{planned}
 use Rattle.mama_plans.specs.declared.plans.PlannedObject.{PlannedObject}
 use Rattle.mama_plans.specs.Plans.{planned_objects, AreFew, IsFew}
 use Rattle.mama_crew.proofs.listeners.make_listeners.Goals as goal

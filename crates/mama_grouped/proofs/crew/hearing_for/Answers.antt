@@ -1,6 +1,6 @@
 use Rattle.std.proofs.Common.{sym, ap, ◌∙◌}
 use Rattle.std.proofs.lemmas.Result.{IfOk-from_err}
-use Rattle.mama_rules_rounds.specs.Round.{setting_of}
+use Rattle.mama_rules_rounds.specs.Sections.{setting_of}
 use Rattle.mama_grouped.specs.Opening.{rows_given}
 use Rattle.mama_grouped.proofs.Opening.{unheard}
 use Rattle.mama_grouped.proofs.crew.hearing_for.Goals as goal

@@ -1,4 +1,4 @@
-use Rattle.mama_rules_rounds.specs.Round.{setting_of}
+use Rattle.mama_rules_rounds.specs.Sections.{setting_of}
 use Rattle.mama_grouped.proofs.Opening.{on_ok_always}
 use Rattle.mama_grouped.proofs.crew.next_hearing.Goals as goal
 

@@ -1,5 +1,5 @@
 use Rattle.std.proofs.Common.{◌≡◌, ℕ, ◌+◌, ◌<◌, [], ◌∷◌, ◌++◌, length, take, ap, sym, ◌∙◌, arith}
-use Rattle.mama_event.specs.Listener.{planned}
+use Rattle.mama_event.specs.Plan.{planned}
 use Rattle.mama_listener.specs.Plan.{call_of}
 use Rattle.mama_listener.proofs.Plans.{on_ok, planned_taken, planned_left, planned_passed, planned_before, room_for_planned, passed_more, passed_later}
 use Rattle.mama_listener.proofs.planned.give_from.Goals as goal

@@ -2,8 +2,8 @@ use Rattle.std.proofs.Common.{◌≡◌, ◌<◌, ℕ, List, ◌++◌, ◌∷◌
 use Rattle.mama_event.specs.Ports.{queues_of}
 use Rattle.mama_event.specs.declared.group.GroupRow.{GroupRow}
 use Rattle.mama_event.specs.declared.ids.SubId.{SubId}
-use Rattle.mama_rules_rounds.specs.World.{Grouped}
-use Rattle.mama_rules_rounds.specs.Round.{groups_from}
+use Rattle.mama_rules_rounds.specs.Setting.{Grouped}
+use Rattle.mama_rules_rounds.specs.Sections.{groups_from}
 use Rattle.mama_rules_rounds.specs.Client.{Planned}
 use Rattle.mama_plans.specs.Lists.{group_row, groups_on_each}
 use Rattle.mama_plans.proofs.EachLemmas.{grouped, groups_more, each_added}

@@ -1,6 +1,6 @@
 use Rattle.std.proofs.Common.{◌≡◌, map, take}
 use Rattle.mama_event.specs.Ports.{queues_of}
-use Rattle.mama_rules_rounds.specs.Round.{groups_from}
+use Rattle.mama_rules_rounds.specs.Sections.{groups_from}
 use Rattle.mama_plans.specs.Lists.{groups_on_each}
 use Rattle.mama_plans.proofs.lists.groups_by_queue.Given as goal
 

@@ -2,8 +2,8 @@ use Rattle.std.proofs.Common.{◌≡◌, ◌<◌, ℕ, List, ◌++◌, ◌∷◌
 use Rattle.std.proofs.lemmas.List.{get_or_default}
 use Rattle.mama_event.specs.Ports.{queues_of}
 use Rattle.mama_event.specs.declared.watch.WatchRow.{WatchRow}
-use Rattle.mama_rules_rounds.specs.World.{Watched}
-use Rattle.mama_rules_rounds.specs.Round.{watches_from}
+use Rattle.mama_rules_rounds.specs.Setting.{Watched}
+use Rattle.mama_rules_rounds.specs.Sections.{watches_from}
 use Rattle.mama_rules_rounds.specs.Client.{Planned}
 use Rattle.mama_plans.specs.Lists.{watch_row, watches_on_each}
 use Rattle.mama_plans.proofs.EachLemmas.{watched, watches_more, each_added}

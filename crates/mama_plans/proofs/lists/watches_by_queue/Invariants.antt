@@ -1,6 +1,6 @@
 use Rattle.std.proofs.Common.{◌≡◌, map, take}
 use Rattle.mama_event.specs.Ports.{queues_of}
-use Rattle.mama_rules_rounds.specs.Round.{watches_from}
+use Rattle.mama_rules_rounds.specs.Sections.{watches_from}
 use Rattle.mama_plans.specs.Lists.{watches_on_each}
 use Rattle.mama_plans.proofs.lists.watches_by_queue.Given as goal
 

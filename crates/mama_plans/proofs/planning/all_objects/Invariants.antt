@@ -1,5 +1,5 @@
 use Rattle.std.proofs.Common.{◌≡◌, ◌++◌, drop}
-use Rattle.mama_rules_rounds.specs.Round.{objects_of}
+use Rattle.mama_rules_rounds.specs.Sections.{objects_of}
 use Rattle.mama_plans.specs.Plans.{planned_objects}
 use Rattle.mama_plans.proofs.planning.all_objects.Given as goal
 

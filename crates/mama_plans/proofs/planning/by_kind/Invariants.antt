@@ -1,5 +1,5 @@
 use Rattle.std.proofs.Common.{◌≡◌, filter}
-use Rattle.mama_rules_rounds.specs.Round.{is_sub, is_timer, is_inbox}
+use Rattle.mama_rules_rounds.specs.Sections.{is_sub, is_timer, is_inbox}
 use Rattle.mama_plans.specs.Plans.{planned_objects}
 use Rattle.mama_plans.proofs.planning.by_kind.Given as goal
 

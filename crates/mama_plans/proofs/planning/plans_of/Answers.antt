@@ -2,7 +2,7 @@ use Rattle.std.specs.List.{AllByRecursion}
 use Rattle.std.proofs.Common.{List, ap, sym, subst, ◌∙◌}
 use Rattle.mama_event.specs.declared.shape.Shape.{Shape}
 use Rattle.mama_script.specs.declared.client.ClientLine.{ClientLine}
-use Rattle.mama_rules_rounds.specs.Round.{by_kind, objects_of}
+use Rattle.mama_rules_rounds.specs.Sections.{by_kind, objects_of}
 use Rattle.mama_plans.specs.Plans.{AreFew, AreApart}
 use Rattle.mama_plans.specs.Room.{MakesFew}
 use Rattle.mama_plans.proofs.FewLemmas.{objects_few}

@@ -2,7 +2,8 @@ use Rattle.std.specs.Prelude.{Some}
 use Rattle.std.proofs.Common.{List, length, ◌≤◌, refl, ap, sym, subst, ◌∙◌}
 use Rattle.mama_event.specs.declared.order.Order.{Order}
 use Rattle.mama_event.specs.declared.order.PlanRow.{PlanRow}
-use Rattle.mama_event.specs.Listener.{ListenerData, planned}
+use Rattle.mama_event.specs.Listener.{ListenerData}
+use Rattle.mama_event.specs.Plan.{planned}
 use Rattle.mama_dispatch.specs.Hearing.{ListensAs}
 use Rattle.mama_plans.specs.Plans.{IsFew}
 use Rattle.mama_plans.specs.Orders.{orders_in}

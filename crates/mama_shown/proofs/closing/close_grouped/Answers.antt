@@ -1,7 +1,8 @@
 use Rattle.std.specs.List.{All, flat_map}
 use Rattle.std.proofs.Common.{◌≡◌, ℕ, List, length, map, sym, ap, subst, ◌∙◌, arith}
 use Rattle.std.proofs.lemmas.Result.{IfOk-from_err}
-use Rattle.mama_rules_rounds.specs.Round.{setting_of, group_told, last_image}
+use Rattle.mama_rules_rounds.specs.Sections.{setting_of}
+use Rattle.mama_rules_rounds.specs.Told.{group_told, last_image}
 use Rattle.mama_group.specs.Listener.{told}
 use Rattle.mama_crew.specs.Journals.{AreJournalsOf, events_in}
 use Rattle.mama_crew.specs.Crew as crews

@@ -1,5 +1,5 @@
 use Rattle.std.specs.List.{flat_map}
-use Rattle.mama_rules_rounds.specs.Round.{sends_in}
+use Rattle.mama_rules_rounds.specs.Sections.{sends_in}
 use Rattle.mama_check_puts.specs.Sender.{unsent}
 use Rattle.mama_check_puts.proofs.SenderSteps.{recap_done}
 use Rattle.mama_check_puts.proofs.publisher.Sender.recap.Goals as goal

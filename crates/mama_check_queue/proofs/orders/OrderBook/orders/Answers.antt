@@ -4,7 +4,7 @@ use Rattle.mama_journal.specs.Journal.{first_said}
 use Rattle.mama_event.specs.contracts.ids.ObjectIdPartialEq.TheImpl.{eq-value}
 use Rattle.mama_event.specs.Object.{same_object}
 use Rattle.mama_rules_rounds.specs.Client.{Planned}
-use Rattle.mama_rules_rounds.specs.World.{plan_in}
+use Rattle.mama_rules_rounds.specs.Setting.{plan_in}
 use Rattle.mama_dispatch.proofs.Ids.{same_ids}
 use Rattle.mama_plans.specs.Orders.{orders_in}
 use Rattle.mama_check_queue.proofs.OrderLemmas.{lookup_same, orders_found}

@@ -1,7 +1,7 @@
 use Rattle.std.specs.Prelude.{map}
 use Rattle.std.proofs.Common.{ap, ◌∙◌}
 use Rattle.mama_rules_queue.specs.Queue.{deeds, calls_of}
-use Rattle.mama_rules_rounds.specs.Round.{noted}
+use Rattle.mama_rules_rounds.specs.Told.{noted}
 use Rattle.mama_plans.specs.Orders.{orders_in}
 use Rattle.mama_check_queue.specs.Seen.{SeenData}
 use Rattle.mama_check_queue.specs.Served.{ServedData}

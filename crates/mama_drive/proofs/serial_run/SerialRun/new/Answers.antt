@@ -1,5 +1,5 @@
 use Rattle.std.proofs.Common.{refl, ap, false}
-use Rattle.mama_rules_rounds.specs.Round.{setting_of}
+use Rattle.mama_rules_rounds.specs.Sections.{setting_of}
 use Rattle.mama_drive.specs.declared.place.Place.TheVariants as place
 use Rattle.mama_drive.specs.Scene.{Scene}
 use Rattle.mama_drive.specs.Course.{Course}

@@ -10,7 +10,7 @@ use Rattle.mama_event.specs.declared.shape.Shape.{Shape}
 use Rattle.mama_event.specs.Ports.{bridge_ports, clients_of, publishers_of}
 use Rattle.mama_journal.specs.Journal.{numbers_below}
 use Rattle.mama_event.specs.Ports.{queues_of}
-use Rattle.mama_rules_rounds.specs.Round.{setting_of}
+use Rattle.mama_rules_rounds.specs.Sections.{setting_of}
 use Rattle.mama_plans.specs.Lists.{groups_on, watches_on}
 use Rattle.mama_timeout.specs.Table.{AreApart}
 use Rattle.mama_seats.specs.Heard.{IsGroupList}

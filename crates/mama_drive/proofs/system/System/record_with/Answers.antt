@@ -4,8 +4,8 @@ use Rattle.std.proofs.Common.{◌≡◌, ◌≤◌, true, List, refl, length, ma
 use Rattle.std.proofs.lemmas.List.{length-map}
 use Rattle.mama_plans.specs.Plans.{planned_object, AreApart}
 use Rattle.mama_drive.specs.Scene.{Scene, script_in, journal_in, heard_in}
-use Rattle.mama_rules_rounds.specs.World.{Setting}
-use Rattle.mama_rules_rounds.specs.Round.{groups_from, watches_from}
+use Rattle.mama_rules_rounds.specs.Setting.{Setting}
+use Rattle.mama_rules_rounds.specs.Sections.{groups_from, watches_from}
 use Rattle.mama_journal.specs.Journal.{numbers_below}
 use Rattle.mama_event.specs.declared.group.GroupNote.{GroupNote}
 use Rattle.mama_event.specs.declared.watch.WatchNote.{WatchNote}

@@ -4,7 +4,7 @@ use Rattle.mama_event.specs.contracts.ids.ObjectIdPartialEq.TheImpl.{eq-value}
 use Rattle.mama_event.specs.Object.{same_object}
 use Rattle.mama_journal.specs.Journal.{first_said}
 use Rattle.mama_rules_rounds.specs.Client.{Planned}
-use Rattle.mama_rules_rounds.specs.World.{plan_in, rows_of}
+use Rattle.mama_rules_rounds.specs.Setting.{plan_in, rows_of}
 use Rattle.mama_plans.specs.declared.plans.PlannedObject.{PlannedObject}
 use Rattle.mama_plans.specs.Places.{objects_in, IsPlaceOf}
 use Rattle.mama_plans.proofs.IdLemmas.{same_ids, lookup_same}

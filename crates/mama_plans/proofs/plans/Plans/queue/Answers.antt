@@ -3,7 +3,7 @@ use Rattle.std.proofs.Common.{◌<◌, List, length, arith, ap, sym, ◌∙◌, 
 use Rattle.mama_event.specs.contracts.ids.ObjectIdPartialEq.TheImpl.{eq-value}
 use Rattle.mama_event.specs.Object.{same_object}
 use Rattle.mama_rules_rounds.specs.Client.{Planned}
-use Rattle.mama_rules_rounds.specs.Round.{queue_of}
+use Rattle.mama_rules_rounds.specs.Sections.{queue_of}
 use Rattle.mama_plans.specs.declared.plans.PlannedObject.{PlannedObject}
 use Rattle.mama_plans.specs.Places.{objects_in, IsPlaceOf}
 use Rattle.mama_plans.proofs.IdLemmas.{same_ids, lookup_same}

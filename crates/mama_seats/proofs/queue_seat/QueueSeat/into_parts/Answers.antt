@@ -4,7 +4,7 @@ use Rattle.std.proofs.Common.{ℕ, List, ap, ◌∙◌}
 use Rattle.mama_event.specs.declared.ids.ObjectId.{ObjectId}
 use Rattle.mama_event.specs.declared.order.Order.{Order}
 use Rattle.mama_rules_queue.specs.Queue.{deeds, calls_of}
-use Rattle.mama_rules_rounds.specs.Round.{noted}
+use Rattle.mama_rules_rounds.specs.Told.{noted}
 use Rattle.mama_seats.specs.Server.{Server}
 use Rattle.mama_plans.specs.Orders.{orders_in}
 use Rattle.mama_seats.specs.Heard.{group_lists, watch_lists}
