@@ -10,7 +10,9 @@ ghost use Rattle.mama_check_queue.specs.Lists.{is_missed_row};
 
 use mama_dispatch::ImageRow;
 use mama_dq::{Calls, DqContext};
-use mama_event::{CallNote, Callback, ImageHead, Make, MarketMsg, Orders, Strategy, SubKind};
+use mama_event::{
+    CallNote, Callback, GivenOrders, ImageHead, Make, MarketMsg, Orders, Strategy, SubKind,
+};
 use mama_memory::{Duplicate, OutOfMemory};
 use std::alloc::Global;
 
@@ -78,6 +80,7 @@ pub(crate) fn silence_at(row: &mut Seen)
 pub(crate) fn note_at(row: &mut Seen, call: Callback, orders: Orders) -> Result<(), OutOfMemory>
     ensures { OnOk result (seen_data row.new ≡ called_so call orders (seen_data row.old)) }
 {
+    let orders = GivenOrders::new(*row.calls.allocator(), &orders)?;
     row.live = row.live && !is_destroy(&call);
     row.calls.push(CallNote { call, orders })?;
     Ok(())

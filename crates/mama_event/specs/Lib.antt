@@ -4,6 +4,7 @@ pub mod EqualityLaws
 pub mod FidList
 pub mod Lawful
 pub mod LawfulLaws
+pub mod Given
 pub mod GroupStates
 pub mod Listener
 pub mod Object

@@ -1,7 +1,7 @@
 ghost use Rattle.std.specs.Prelude.{◌≡◌, IfOk};
 
+use crate::given::GivenOrders;
 use crate::market::{MarketMsg, Quality};
-use crate::order::Orders;
 use mama_memory::{Duplicate, OutOfMemory};
 use mama_msg::Msg;
 
@@ -136,7 +136,7 @@ impl Duplicate for Callback {
 #[derive(Debug, Drop)]
 pub struct CallNote {
     pub call: Callback,
-    pub orders: Orders,
+    pub orders: GivenOrders,
 }
 
 impl PartialEq for CallNote {
@@ -165,7 +165,7 @@ impl Eq for CallNote {
 impl Duplicate for CallNote {
     fn try_clone(&self) -> Result<CallNote, OutOfMemory> {
         let call = self.call.try_clone()?;
-        let orders = self.orders.copied();
+        let orders = self.orders.try_clone()?;
         Ok(CallNote { call, orders })
     }
 }

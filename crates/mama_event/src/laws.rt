@@ -3,6 +3,7 @@ ghost use Rattle.std.specs.Bool.{Decides};
 
 use crate::callback::{CallNote, Callback};
 use crate::fids::Fids;
+use crate::given::GivenOrders;
 use crate::group::{GroupNote, GroupRow, GroupState, Members};
 use crate::ids::{InboxId, ObjectId, SubId, TimerId};
 use crate::market::{ImageHead, MarketMsg, MsgKind, Quality, SubKind};
@@ -32,6 +33,7 @@ pub fn plain_data_is_compared_exactly()
     ensures image_head { (a b : ImageHead) → Decides (⟦<ImageHead as PartialEq>⟧.eq a b) (a ≡ b) }
     ensures order { (a b : Order) → Decides (⟦<Order as PartialEq>⟧.eq a b) (a ≡ b) }
     ensures orders { (a b : List Order) → Decides (⟦<Orders as PartialEq>⟧.eq a b) (a ≡ b) }
+    ensures given { (a b : List Order) → Decides (⟦<GivenOrders as PartialEq>⟧.eq a b) (a ≡ b) }
     ensures plan_row { (a b : PlanRow) → Decides (⟦<PlanRow as PartialEq>⟧.eq a b) (a ≡ b) }
     ensures callback { (a b : Callback) → Decides (⟦<Callback as PartialEq>⟧.eq a b) (a ≡ b) }
     ensures call_note { (a b : CallNote) → Decides (⟦<CallNote as PartialEq>⟧.eq a b) (a ≡ b) }

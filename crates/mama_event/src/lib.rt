@@ -19,6 +19,7 @@
 mod boxed;
 mod callback;
 mod fids;
+mod given;
 mod group;
 mod ids;
 mod laws;
@@ -38,6 +39,7 @@ mod wire;
 
 pub use callback::{CallNote, Callback};
 pub use fids::{Fids, MOST_FIDS};
+pub use given::{GivenOrders, OrdersRoom};
 pub use group::{GroupNote, GroupRow, GroupState, Members};
 pub use ids::{InboxId, ObjectId, SubId, TimerId};
 pub use laws::plain_data_is_compared_exactly;

@@ -61,7 +61,8 @@ impl Eq for Order {
     ghost laws = { same_order_equivalence };
 }
 
-/// The orders of one callback, in the order in which they were given: at most 8. They lie in the value itself.
+/// The orders of one callback, in the order in which they are given: at most 8. They lie in the value itself, so that a listener
+/// wants no memory to give them; a note keeps them as [`GivenOrders`](crate::GivenOrders).
 #[derive(Debug, Drop)]
 pub struct Orders {
     count: u8,

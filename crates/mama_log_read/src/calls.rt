@@ -6,7 +6,7 @@ ghost use Rattle.mama_log_line.specs.Entering.{MayHear, MayOrder};
 ghost use Rattle.mama_log_read.specs.Part as part;
 ghost use Rattle.mama_log_read.specs.Reading as reading;
 
-use mama_event::{CallNote, Callback, ObjectId, Order, Orders};
+use mama_event::{CallNote, Callback, GivenOrders, ObjectId, Order, Orders};
 use mama_log_line::{Names, call_in, may_be_order, order_line_in};
 use mama_memory::OutOfMemory;
 use mama_words::cut_at;
@@ -83,6 +83,7 @@ fn next_call<'a>(
     match next_callback(alloc, names, object, words, text)? {
         Some((call, after)) => {
             let (orders, rest) = read_orders(names, words, after)?;
+            let orders = GivenOrders::new(alloc, &orders)?;
             Ok(Some((CallNote { call, orders }, rest)))
         }
         None => Ok(None),

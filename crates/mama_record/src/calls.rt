@@ -5,7 +5,7 @@ ghost use Rattle.mama_record.specs.SectionText.{call_lines};
 
 use crate::words::{put_number, put_spaced_number};
 use mama_edge::print_u64;
-use mama_event::{CallNote, Callback, ImageHead, MarketMsg, Order, Orders, Quality, SubId};
+use mama_event::{CallNote, Callback, GivenOrders, ImageHead, MarketMsg, Order, Quality, SubId};
 use mama_memory::OutOfMemory;
 use mama_msg::Msg;
 use mama_words::{print_fields, print_msg_kind, print_order, print_quality, print_sub_id};
@@ -63,7 +63,7 @@ pub fn put_callback(call: &Callback, out: &mut Vec<u8>) -> Result<(), OutOfMemor
     }
 }
 
-fn put_orders(orders: &Orders, out: &mut Vec<u8>) -> Result<(), OutOfMemory>
+fn put_orders(orders: &GivenOrders, out: &mut Vec<u8>) -> Result<(), OutOfMemory>
     ensures { OnOk result (out.new.items ≡ out.old.items ++ flat_map text.order_line orders.now) }
 {
     for i in 0..orders.len() {

@@ -6,7 +6,7 @@ use mama_check_order::{
     Need, are_same_calls, is_same_head, is_same_message, needs_of_bridge, needs_of_queue,
     needs_of_sender, needs_of_timers,
 };
-use mama_event::{CallNote, Callback, ImageHead, ObjectId, Orders, SubId, TimerId};
+use mama_event::{CallNote, Callback, GivenOrders, ImageHead, ObjectId, SubId, TimerId};
 use mama_log_line::{Names, call_in, image_in};
 use mama_memory::OutOfMemory;
 use mama_msg::Msg;
@@ -178,7 +178,7 @@ fn heard(alloc: Global, line: &str) -> Result<Option<Callback>, OutOfMemory> {
 fn call_of(alloc: Global, line: &str) -> Result<CallNote, Fail> {
     Ok(CallNote {
         call: heard(alloc, line)?.ok_or("no callback")?,
-        orders: Orders::new(),
+        orders: GivenOrders::none(),
     })
 }
 

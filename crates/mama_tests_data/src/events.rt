@@ -1,9 +1,9 @@
 use crate::rows::message;
 use mama_event::{
-    CallNote, Callback, Duplicate, Fids, GroupNote, GroupState, InboxId, InboxTerms, MarketMsg,
-    Members, MsgKind, ObjectId, Order, Orders, Packet, Piece, PieceMsg, PublisherNote, Quality,
-    QueueNote, Stream, SubId, SubKind, SubTerms, Tagged, TimerId, TimersNote, ToBridge,
-    ToPublisher, ToQueue, ToService, ToTimers, Topics,
+    CallNote, Callback, Duplicate, Fids, GivenOrders, GroupNote, GroupState, InboxId, InboxTerms,
+    MarketMsg, Members, MsgKind, ObjectId, Order, Orders, OrdersRoom, Packet, Piece, PieceMsg,
+    PublisherNote, Quality, QueueNote, Stream, SubId, SubKind, SubTerms, Tagged, TimerId,
+    TimersNote, ToBridge, ToPublisher, ToQueue, ToService, ToTimers, Topics,
 };
 use mama_link::{Fault, FaultRow, Faults};
 use mama_memory::OutOfMemory;
@@ -92,6 +92,26 @@ fn a_ninth_order_is_given_back(rt: HostRuntime) -> Result<(), Fail> {
     Ok(())
 }
 
+#[test]
+fn given_orders_are_kept(rt: HostRuntime) -> Result<(), Fail> {
+    let mut orders = Orders::new();
+    assert!(rt; GivenOrders::new(rt.alloc(), &orders)? == GivenOrders::none());
+    assert!(rt; GivenOrders::none().is_empty());
+    for order in each_order()? {
+        orders.push(order)?;
+    }
+    let given = GivenOrders::new(rt.alloc(), &orders)?;
+    assert_eq!(rt; given.as_slice(), orders.as_slice());
+    assert_eq!(rt; given.len(), 4);
+    assert!(rt; copies(given)?);
+    let room = OrdersRoom::new(rt.alloc())?;
+    assert_eq!(rt;
+        GivenOrders::in_room(room, &orders).as_slice(),
+        orders.as_slice()
+    );
+    Ok(())
+}
+
 // What an order puts, in a letter, and the number of what it is about.
 fn letter(put: &ToService<ObjectId>) -> (char, u32) {
     match put {
@@ -153,7 +173,7 @@ fn callbacks_are_copied(rt: HostRuntime) -> Result<(), Fail> {
     assert!(rt; told(rt.alloc())? != replied(rt.alloc())?);
     let note = CallNote {
         call: told(rt.alloc())?,
-        orders: Orders::new(),
+        orders: GivenOrders::none(),
     };
     assert!(rt; copies(note)?);
     Ok(())

@@ -1,8 +1,8 @@
 //! Groups of a queue, told by hand what turns called back.
 
 use mama_event::{
-    CallNote, Callback, GroupNote, GroupRow, GroupState, MarketMsg, Members, MsgKind, Orders,
-    Quality, SubId,
+    CallNote, Callback, GroupNote, GroupRow, GroupState, MarketMsg, Members, MsgKind, Quality,
+    SubId,
 };
 use mama_group::{GroupListener, GroupTable, SilentGroup};
 use mama_msg::Msg;
@@ -68,7 +68,7 @@ fn hear_all(
 ) -> Result<(), Fail> {
     let mut notes = Vec::new(alloc);
     for call in calls {
-        let orders = Orders::new();
+        let orders = GivenOrders::none();
         notes.push(CallNote { call, orders })?;
     }
     told(table, sub, notes.as_slice())
