@@ -26,6 +26,9 @@ returns-clause-order c = equality.same_order-Decides
 pub returns-clause-orders : goal.returns-clause-orders
 returns-clause-orders c = equality.same_orders-Decides
 
+pub returns-clause-given : goal.returns-clause-given
+returns-clause-given c = equality.same_orders-Decides
+
 pub returns-clause-plan_row : goal.returns-clause-plan_row
 returns-clause-plan_row c = equality.same_plan_row-Decides
 
