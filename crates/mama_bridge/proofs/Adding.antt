@@ -5,13 +5,15 @@ use Rattle.std.proofs.lemmas.List.{map-append}
 use Rattle.std.proofs.lemmas.List.Concat.{flat_map-append}
 use Rattle.mama_link.specs.Link.{rest}
 use Rattle.mama_msg.specs.Field.{FieldData}
-use Rattle.mama_payload.specs.Spelling.{spelling, HasSpelling}
+use Rattle.mama_payload.specs.Spelling.{spelling}
+use Rattle.mama_payload.specs.Spelled.{HasSpelling}
 use Rattle.mama_event.specs.declared.ids.ObjectId.{ObjectId}
 use Rattle.mama_event.specs.declared.ids.ObjectId.TheVariants.{Sub, Inbox}
 use Rattle.mama_event.specs.declared.market.MarketMsg.{MarketMsg}
 use Rattle.mama_event.specs.declared.wire.PieceMsg.{PieceMsg}
-use Rattle.mama_event.specs.Wire.{Arrival, ReplyArrival, piece_of, cut_body, arrival_of, reply_of, cut_arrival, cut_reply, arriving, answering}
-use Rattle.mama_event.specs.ToQueue.{delivered_note, replied_note}
+use Rattle.mama_event.specs.Wire.{arrival_of, reply_of}
+use Rattle.mama_event.specs.Arrival.{Arrival, ReplyArrival, piece_of, cut_body, cut_arrival, cut_reply, arriving, answering}
+use Rattle.mama_event.specs.Noted.{delivered_note, replied_note}
 use Rattle.mama_event.specs.declared.to_queue.QueueNote.TheVariants as q
 use Rattle.mama_event.specs.declared.to_queue.ToQueue.TheVariants as queued
 use Rattle.mama_rules_services.specs.Bridge.{BridgePut, to_queue, passed_on}

@@ -6,10 +6,12 @@ use Rattle.mama_link.specs.declared.faults.FaultRow.{FaultRow}
 use Rattle.mama_link.specs.Link.{emit, rest}
 use Rattle.mama_link.proofs.MapLemmas.{GoesWithCuts, emit-map, rest-map}
 use Rattle.mama_msg.specs.Field.{FieldData}
-use Rattle.mama_payload.specs.Spelling.{spelling, HasSpelling}
+use Rattle.mama_payload.specs.Spelling.{spelling}
+use Rattle.mama_payload.specs.Spelled.{HasSpelling}
 use Rattle.mama_event.specs.declared.market.MarketMsg.{MarketMsg}
 use Rattle.mama_event.specs.declared.shape.Shape.{Shape}
-use Rattle.mama_event.specs.Wire.{piece_of, cut_body, arrival_of, reply_of, cut_arrival, cut_reply, arriving, answering}
+use Rattle.mama_event.specs.Wire.{arrival_of, reply_of}
+use Rattle.mama_event.specs.Arrival.{piece_of, cut_body, cut_arrival, cut_reply, arriving, answering}
 use Rattle.mama_event.specs.WireLaws.{WholeMessagesArrive, WholeRepliesArrive, CutMessagesArrive, CutRepliesArrive}
 use Rattle.mama_rules_services.specs.Bridge.{BridgeEvent, joins, leaves, opens, closes, asks, publishes, images, replies, wishes, client_done, sends_done, settled, bye, no_event, passed_on}
 use Rattle.mama_laws_bridge.specs.Table.{SubRow, InboxRow, Table, kept, changed, sub_passed, inbox_passed, sub_wished, new_sub, new_inbox, of_sub, of_inbox, has_joined, has_opened, ended_now, settling_now, begins_ending, is_on_topic_of, may_ask, subs_next, inboxes_next}

@@ -6,11 +6,12 @@ use Rattle.std.proofs.lemmas.List.{map-append, take_all, get_or-drop, length-map
 use Rattle.std.proofs.lemmas.List.Concat.{flat_map-append}
 use Rattle.std.proofs.lemmas.List.Elements.{filter-append}
 use Rattle.std.proofs.lemmas.List.Sums.{sum_by-drop_more, sum_by-append, sum_by-cons}
-use Rattle.mama_link.specs.Link.{standing_after, StandsFor, rest}
+use Rattle.mama_link.specs.Link.{rest}
+use Rattle.mama_link.specs.Standing.{standing_after, StandsFor}
 use Rattle.mama_journal.specs.Journal.{numbers_below}
 use Rattle.mama_payload.specs.Spelling.{spelling}
 use Rattle.mama_event.specs.declared.wire.PieceMsg.{PieceMsg}
-use Rattle.mama_event.specs.Wire.{piece_of}
+use Rattle.mama_event.specs.Arrival.{piece_of}
 use Rattle.mama_event.specs.declared.ids.ObjectId.TheVariants.{Sub, Inbox}
 use Rattle.mama_event.specs.declared.to_queue.ToQueue.TheVariants as queued
 use Rattle.mama_laws_bridge.specs.Table.{SubRow, InboxRow, sub_passed, changed}

@@ -2,14 +2,16 @@
 use Rattle.std.specs.Prelude.{◌≡◌, ℕ, ◌+◌, ◌-◌, Bool, true, ◌==◌, nat_lt, List, [], ◌∷◌, ◌++◌, length, map, take, filter, sum_by, Option, None, Some, option_to_list, if◌then◌else◌}
 use Rattle.std.specs.List.{flat_map, AllByRecursion}
 use Rattle.mama_msg.specs.Field.{FieldData}
-use Rattle.mama_link.specs.Link.{Standing, standing_after, StandsFor, emit}
+use Rattle.mama_link.specs.Link.{emit}
+use Rattle.mama_link.specs.Standing.{Standing, standing_after, StandsFor}
 use Rattle.mama_link.specs.Prepared.{Readied, IsPreparedFor}
 use Rattle.mama_event.specs.declared.ids.SubId.{SubId}
 use Rattle.mama_event.specs.declared.ids.InboxId.{InboxId}
 use Rattle.mama_event.specs.declared.market.MarketMsg.{MarketMsg}
 use Rattle.mama_event.specs.declared.wire.PieceMsg.{PieceMsg}
-use Rattle.mama_event.specs.Wire.{piece_of, cut_body}
-use Rattle.mama_payload.specs.Spelling.{spelling, HasSpelling}
+use Rattle.mama_event.specs.Arrival.{piece_of, cut_body}
+use Rattle.mama_payload.specs.Spelling.{spelling}
+use Rattle.mama_payload.specs.Spelled.{HasSpelling}
 use Rattle.mama_event.specs.declared.ids.ObjectId.TheVariants.{Sub, Inbox}
 use Rattle.mama_event.specs.declared.to_queue.ToQueue.TheVariants as queued
 use Rattle.mama_link.specs.Link.{rest}

@@ -1,7 +1,7 @@
 -- inner: Who opened an inbox, and the links of those that are open.
 use Rattle.std.specs.Prelude.{ℕ, Bool, List, [], Option}
 use Rattle.std.specs.BTreeMap.{BTreeMap}
-use Rattle.mama_link.specs.Link.{standing_after}
+use Rattle.mama_link.specs.Standing.{standing_after}
 use Rattle.mama_link.specs.declared.faults.FaultRow.{FaultRow}
 use Rattle.mama_event.specs.Object.{same_inbox}
 use Rattle.mama_event.specs.declared.ids.InboxId.{InboxId}

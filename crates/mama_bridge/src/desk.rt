@@ -2,7 +2,7 @@ ghost use Rattle.std.specs.Prelude.{◌≡◌, ◌+◌, ◌<◌, ◌≤◌, ◌^
 ghost use Rattle.std.specs.List.{list_any};
 ghost use Rattle.std.specs.Vec.{vec_capacity};
 ghost use Rattle.mama_journal.specs.Journal.{least_free};
-ghost use Rattle.mama_link.specs.Link.{standing_after};
+ghost use Rattle.mama_link.specs.Standing.{standing_after};
 ghost use Rattle.mama_event.specs.Object.{same_inbox};
 ghost use Rattle.mama_event.specs.declared.ids.InboxId.{InboxId as Inbox};
 ghost use Rattle.mama_event.specs.declared.shape.Shape.{Shape};

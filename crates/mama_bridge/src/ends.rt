@@ -1,5 +1,6 @@
 ghost use Rattle.std.specs.Prelude.{◌≡◌, ◌+◌, ◌≤◌, ◌++◌, List, length, IfOk};
-ghost use Rattle.mama_link.specs.Link.{rest, StandsFor};
+ghost use Rattle.mama_link.specs.Link.{rest};
+ghost use Rattle.mama_link.specs.Standing.{StandsFor};
 
 use mama_link::{Duplicate, Link};
 use mama_memory::{OutOfMemory, Outbox};

@@ -2,7 +2,7 @@ ghost use Rattle.std.specs.Prelude.{◌≡◌, ◌+◌, ◌<◌, ◌≤◌, ◌|
 ghost use Rattle.std.specs.List.{list_any, flat_map};
 ghost use Rattle.std.specs.BTreeMap.{get, is_at};
 ghost use Rattle.std.specs.Vec.{vec_capacity};
-ghost use Rattle.mama_link.specs.Link.{standing_after};
+ghost use Rattle.mama_link.specs.Standing.{standing_after};
 ghost use Rattle.mama_link.specs.Prepared.{IsPreparedFor};
 ghost use Rattle.mama_msg.specs.Field.{FieldData};
 ghost use Rattle.mama_payload.specs.Spelling.{spelling};

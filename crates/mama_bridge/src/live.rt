@@ -3,7 +3,7 @@ ghost use Rattle.std.specs.Vec.{vec_capacity};
 ghost use Rattle.mama_slots.specs.Slots.{in_use};
 ghost use Rattle.mama_event.specs.declared.ids.SubId.{SubId as Sub};
 ghost use Rattle.mama_event.specs.declared.market.MarketMsg.{MarketMsg};
-ghost use Rattle.mama_event.specs.Wire.{piece_of};
+ghost use Rattle.mama_event.specs.Arrival.{piece_of};
 ghost use Rattle.mama_laws_bridge.specs.Table.{SubRow, of_sub, sub_passed};
 ghost use Rattle.mama_bridge.specs.Links.{sub_seen, sub_view, sub_held, row_is_on, emit_outs, end_outs, wish_outs, wished_once, SubsPass, SubLeaves, SubWishes};
 ghost use Rattle.mama_bridge.specs.Ids.{is_sub_among};

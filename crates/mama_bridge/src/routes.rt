@@ -1,6 +1,6 @@
 ghost use Rattle.std.specs.Prelude.{◌≡◌, ℕ, ◌<◌, ◌++◌, ◌==◌, ◌&&◌, not, map, nat_lt, OnOk, OnErr, if◌then◌else◌};
 ghost use Rattle.mama_slots.specs.Slots.{in_use};
-ghost use Rattle.mama_event.specs.Wire.{piece_of};
+ghost use Rattle.mama_event.specs.Arrival.{piece_of};
 ghost use Rattle.mama_event.specs.declared.market.MarketMsg.{MarketMsg};
 ghost use Rattle.mama_laws_bridge.specs.Table.{SubRow, of_sub, sub_passed, sub_wished};
 ghost use Rattle.mama_bridge.specs.Links.{sub_seen, sub_view, emit_outs, row_is_on, wish_outs, SubsPass, SubLeaves, SubWishes};

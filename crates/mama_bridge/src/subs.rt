@@ -3,7 +3,7 @@ ghost use Rattle.std.specs.VecDeque.{deque_len};
 ghost use Rattle.mama_link.specs.Link.{emit};
 ghost use Rattle.mama_event.specs.Object.{same_sub};
 ghost use Rattle.mama_event.specs.declared.market.MarketMsg.{MarketMsg};
-ghost use Rattle.mama_event.specs.Wire.{piece_of};
+ghost use Rattle.mama_event.specs.Arrival.{piece_of};
 ghost use Rattle.mama_laws_bridge.specs.Table.{SubRow, sub_passed};
 ghost use Rattle.mama_bridge.specs.Links.{sub_seen, sub_view, ready_len, Holds, IsReady, Each, ReadyIf, HoldsIf, weight, weights, emit_outs, PassStep, PassSteps, EndStep, EndSteps, sub_held};
 

@@ -23,12 +23,13 @@ use Rattle.mama_event.specs.declared.group.GroupState.{GroupState}
 use Rattle.mama_event.specs.declared.watch.WatchRow.{WatchRow}
 use Rattle.mama_event.specs.declared.to_queue.QueueNote.{QueueNote}
 use Rattle.mama_event.specs.declared.to_queue.QueueNote.TheVariants as q
-use Rattle.mama_event.specs.Wire.{code_of}
+use Rattle.mama_event.specs.Arrival.{code_of}
 use Rattle.mama_event.specs.Object.{same_sub, same_timer, same_object}
 use Rattle.mama_event.specs.EqualityLaws.{same_timer-Decides, same_group_state-Decides}
 use Rattle.mama_dq.specs.Strategy.{callbacks_of}
 use Rattle.mama_rules_queue.specs.Queue.{Deed, handled, called, QueuePut, calls_in, calls_of, is_destroy, is_muted, made, make_in, context_of, messages_of, served, deeds, deeds_at}
-use Rattle.mama_rules_queue.specs.Group.{group_notes, group_notes_at, state_after, state_told, turn_notes}
+use Rattle.mama_rules_queue.specs.Group.{group_notes, group_notes_at, state_told}
+use Rattle.mama_rules_queue.specs.GroupTurns.{state_after, turn_notes}
 use Rattle.mama_rules_queue.specs.Watch as rules
 use Rattle.mama_rules_queue.specs.Watch.{is_missed, watch_notes_at, wish_in, wishes_at}
 use Rattle.mama_rules_rounds.specs.Told.{noted}

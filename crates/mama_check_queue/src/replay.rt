@@ -1,7 +1,7 @@
 ghost use Rattle.std.specs.Prelude.{◌≡◌, ℕ, ◌&&◌, not, ◌∷◌, [], OnOk};
 ghost use Rattle.mama_plans.specs.Orders.{orders_in};
 ghost use Rattle.mama_event.specs.declared.ids.ObjectId.{ObjectId as AnyObject};
-ghost use Rattle.mama_event.specs.Wire as wire;
+ghost use Rattle.mama_event.specs.Arrival as wire;
 ghost use Rattle.mama_event.specs.declared.callback.Callback.TheVariants as on;
 ghost use Rattle.mama_event.specs.declared.to_queue.QueueNote.TheVariants as note;
 ghost use Rattle.mama_rules_queue.specs.Queue.{is_destroy as destroys};

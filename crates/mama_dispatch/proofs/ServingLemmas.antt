@@ -22,8 +22,10 @@ use Rattle.mama_event.specs.declared.to_queue.QueueNote.{QueueNote}
 use Rattle.mama_event.specs.declared.to_queue.QueueNote.TheVariants as q
 use Rattle.mama_event.specs.declared.to_queue.ToQueue.{ToQueue}
 use Rattle.mama_event.specs.declared.to_queue.ToQueue.TheVariants as event
-use Rattle.mama_event.specs.ToQueue.{note_of, delivered_note, replied_note}
-use Rattle.mama_event.specs.Wire.{Arrival, ReplyArrival, arrival_of, reply_of}
+use Rattle.mama_event.specs.ToQueue.{note_of}
+use Rattle.mama_event.specs.Noted.{delivered_note, replied_note}
+use Rattle.mama_event.specs.Wire.{arrival_of, reply_of}
+use Rattle.mama_event.specs.Arrival.{Arrival, ReplyArrival}
 use Rattle.mama_event.specs.Object.{same_object}
 use Rattle.mama_dq.specs.Context.{quality_in, ContextData, new_context}
 use Rattle.mama_event.specs.Listener.{ListenerData}
@@ -40,7 +42,7 @@ use Rattle.mama_dispatch.specs.Answering.{AnswersTo}
 use Rattle.std.specs.Prelude.{IfSome}
 use Rattle.std.specs.List.{AllByRecursion}
 use Rattle.mama_msg.specs.Field.{FieldData}
-use Rattle.mama_event.specs.Record.{IsGenuine}
+use Rattle.mama_event.specs.Genuine.{IsGenuine}
 use Rattle.mama_event.specs.declared.market.ImageHead.{ImageHead}
 use Rattle.mama_event.specs.declared.to_queue.Make.TheVariants as make
 use Rattle.mama_event.specs.declared.shape.Strategy.TheVariants.{One}

@@ -9,7 +9,7 @@ use Rattle.mama_event.specs.Lawful.{each_fits, IsLawful}
 use Rattle.mama_event.specs.LawfulLaws.{IsLawful-at}
 use Rattle.mama_event.specs.Object.{same_object}
 use Rattle.mama_event.specs.ToQueue.{is_last, fits, Block, blocks_after, open_blocks, is_live_in}
-use Rattle.mama_event.specs.Wire.{code_of}
+use Rattle.mama_event.specs.Arrival.{code_of}
 use Rattle.mama_event.specs.declared.ids.SubId.{SubId}
 use Rattle.mama_event.specs.declared.ids.ObjectId.{ObjectId}
 use Rattle.mama_event.specs.declared.ids.ObjectId.TheVariants.{Sub, Timer, Inbox}

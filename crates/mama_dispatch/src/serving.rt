@@ -21,7 +21,7 @@ ghost use Rattle.mama_dispatch.specs.Answering.{AnswersTo};
 ghost use Rattle.std.specs.List.{AllByRecursion};
 ghost use Rattle.mama_msg.specs.Field.{FieldData};
 ghost use Rattle.mama_event.specs.declared.ids.ObjectId.TheVariants.{Sub};
-ghost use Rattle.mama_event.specs.Record.{IsGenuine};
+ghost use Rattle.mama_event.specs.Genuine.{IsGenuine};
 ghost use Rattle.mama_dispatch.specs.Images.{lent, IsRecord};
 ghost use Rattle.mama_dispatch.specs.Notes.{lists_of, calls_made};
 ghost use Rattle.mama_dispatch.specs.Callbacks.{calls_to};

@@ -12,7 +12,8 @@ use Rattle.mama_event.specs.declared.market.MsgKind.{MsgKind}
 use Rattle.mama_event.specs.declared.market.MsgKind.TheVariants.{Initial, Update, Recap}
 use Rattle.mama_event.specs.declared.market.MarketMsg.{MarketMsg}
 use Rattle.mama_event.specs.declared.market.Quality.TheVariants as quality
-use Rattle.mama_event.specs.Record.{record_after, IsGenuine, IsGenuineBody}
+use Rattle.mama_event.specs.Record.{record_after}
+use Rattle.mama_event.specs.Genuine.{IsGenuine, IsGenuineBody}
 use Rattle.mama_dq.specs.declared.table.Phase.{Phase}
 use Rattle.mama_dq.specs.declared.table.Phase.TheVariants.{Await, LiveOk, LiveStale, LiveKept}
 use Rattle.mama_dq.specs.declared.table.Relation.{Relation}

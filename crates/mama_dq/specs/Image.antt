@@ -7,7 +7,8 @@ use Rattle.mama_event.specs.declared.market.SubKind.{SubKind}
 use Rattle.mama_event.specs.declared.market.SubKind.TheVariants.{Basic}
 use Rattle.mama_event.specs.declared.market.MarketMsg.{MarketMsg}
 use Rattle.mama_event.specs.declared.market.Quality.TheVariants as quality
-use Rattle.mama_event.specs.Record.{record_after, IsGenuine}
+use Rattle.mama_event.specs.Record.{record_after}
+use Rattle.mama_event.specs.Genuine.{IsGenuine}
 use Rattle.mama_dq.specs.declared.table.Phase.{Phase}
 use Rattle.mama_dq.specs.declared.table.Phase.TheVariants.{Await}
 use Rattle.mama_dq.specs.Context.{ContextData, quality_in}

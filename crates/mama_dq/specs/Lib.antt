@@ -6,3 +6,4 @@ pub mod Image
 pub mod Kept
 pub mod Gap
 pub mod Orderly
+pub mod Cells

@@ -1,6 +1,7 @@
 ghost use Rattle.std.specs.Prelude.{◌≡◌};
 ghost use Rattle.mama_event.specs.declared.shape.Strategy.TheVariants as Strategy;
-ghost use Rattle.mama_dq.specs.Table.{is_update, relation_of, decided, phase_of_one, phase_number, relation_number, kind_number};
+ghost use Rattle.mama_dq.specs.Table.{is_update, relation_of, decided};
+ghost use Rattle.mama_dq.specs.Cells.{phase_of_one, phase_number, relation_number, kind_number};
 
 use mama_event::{MarketMsg, MsgKind, Strategy};
 

@@ -4,11 +4,13 @@ use Rattle.std.proofs.lemmas.Bool.Decides.{nat_tests}
 use Rattle.mama_msg.specs.Field.{FieldData}
 use Rattle.mama_payload.specs.declared.fault.DecodeFault.{DecodeFault}
 use Rattle.mama_payload.specs.declared.fault.DecodeFault.TheVariants.{Truncated}
-use Rattle.mama_payload.specs.Spelling.{spelling, HasSpelling}
+use Rattle.mama_payload.specs.Spelling.{spelling}
+use Rattle.mama_payload.specs.Spelled.{HasSpelling}
 use Rattle.mama_payload.specs.Reading.{decoded}
 use Rattle.mama_packet.specs.Laws.{PacketIsRead, LongCutChangesNothing, CutIsTruncated}
 use Rattle.mama_event.specs.declared.market.MarketMsg.{MarketMsg}
-use Rattle.mama_event.specs.Wire.{piece_of, cut_body, arrived, reply_arrived, arrival_of, reply_of, cut_arrival, cut_reply}
+use Rattle.mama_event.specs.Wire.{arrived, reply_arrived, arrival_of, reply_of}
+use Rattle.mama_event.specs.Arrival.{piece_of, cut_body, cut_arrival, cut_reply}
 
 at_most : (a b : ℕ) → nat_le a b ≡ true → a ≤ b
 at_most a b h = grind (arith, nat_tests)

@@ -19,3 +19,6 @@ pub mod ToService
 pub mod ToTimers
 pub mod Wire
 pub mod WireLaws
+pub mod Noted
+pub mod Arrival
+pub mod Genuine

@@ -1,10 +1,9 @@
 -- believed: what a queue takes, as plain data, and what its ports may put: for each slot blocks of one object each.
-use Rattle.std.specs.Prelude.{ℕ, Bool, true, false, ◌&&◌, not, ◌==◌, List, [], ◌∷◌, ◌++◌, filter, fold, length, Ok, Err}
+use Rattle.std.specs.Prelude.{ℕ, Bool, true, false, ◌&&◌, not, ◌==◌, List, [], ◌∷◌, ◌++◌, filter, fold, length}
 use Rattle.std.specs.List.{list_any}
 use Rattle.mama_event.specs.Object.{same_object}
-use Rattle.mama_event.specs.Wire.{Arrival, ReplyArrival, arrival_of, reply_of, code_of}
-use Rattle.mama_event.specs.declared.ids.SubId.{SubId}
-use Rattle.mama_event.specs.declared.ids.InboxId.{InboxId}
+use Rattle.mama_event.specs.Wire.{arrival_of, reply_of}
+use Rattle.mama_event.specs.Arrival.{code_of}
 use Rattle.mama_event.specs.declared.ids.ObjectId.{ObjectId}
 use Rattle.mama_event.specs.declared.ids.ObjectId.TheVariants as object
 use Rattle.mama_event.specs.declared.to_queue.Make.{Make}
@@ -13,15 +12,7 @@ use Rattle.mama_event.specs.declared.to_queue.ToQueue.{ToQueue}
 use Rattle.mama_event.specs.declared.to_queue.ToQueue.TheVariants as event
 use Rattle.mama_event.specs.declared.to_queue.QueueNote.{QueueNote}
 use Rattle.mama_event.specs.declared.to_queue.QueueNote.TheVariants as note
-
--- the note of what arrives for a subscription, and for an inbox
-abbrev pub delivered_note : ℕ → SubId → Arrival → QueueNote
-delivered_note slot sub (Ok msg) = note.Deliver slot sub msg
-delivered_note slot sub (Err piece) = note.Bad slot sub piece.kind piece.sender piece.seq piece.body
-
-abbrev pub replied_note : ℕ → InboxId → ReplyArrival → QueueNote
-replied_note slot inbox (Ok body) = note.Reply slot inbox body
-replied_note slot inbox (Err bytes) = note.BadReply slot inbox bytes
+use Rattle.mama_event.specs.Noted.{delivered_note, replied_note}
 
 -- the note of an event: the same data, with the listener's tag in place of the listener, and with what is read of bytes
 abbrev pub note_of : {L : Type 0} → (L → ObjectId) → ToQueue L → QueueNote

@@ -1,9 +1,11 @@
 -- believed: what arrives of a packed message, be it cut or not.
 use Rattle.std.specs.Prelude.{◌≡◌, ℕ, List, take, Ok}
 use Rattle.mama_msg.specs.Field.{FieldData}
-use Rattle.mama_payload.specs.Spelling.{spelling, HasSpelling}
+use Rattle.mama_payload.specs.Spelling.{spelling}
+use Rattle.mama_payload.specs.Spelled.{HasSpelling}
 use Rattle.mama_event.specs.declared.market.MarketMsg.{MarketMsg}
-use Rattle.mama_event.specs.Wire.{piece_of, cut_body, arrival_of, reply_of, cut_arrival, cut_reply}
+use Rattle.mama_event.specs.Wire.{arrival_of, reply_of}
+use Rattle.mama_event.specs.Arrival.{piece_of, cut_body, cut_arrival, cut_reply}
 
 -- a message of which nothing was cut arrives
 abbrev pub WholeMessagesArrive : Type 0

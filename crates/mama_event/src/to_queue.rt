@@ -1,7 +1,8 @@
 ghost use Rattle.std.specs.Prelude.{◌≡◌, ◌&&◌, IfOk};
 ghost use Rattle.mama_event.specs.Object.{same_object};
 ghost use Rattle.mama_event.specs.Equality.{same_make, same_heads};
-ghost use Rattle.mama_event.specs.ToQueue.{note_of as noted_as, delivered_note, replied_note, note_code};
+ghost use Rattle.mama_event.specs.ToQueue.{note_of as noted_as, note_code};
+ghost use Rattle.mama_event.specs.Noted.{delivered_note, replied_note};
 ghost use Rattle.mama_event.specs.Wire.{arrival_of, reply_of};
 
 use crate::ids::{InboxId, ObjectId, SubId, TimerId};

@@ -1,6 +1,7 @@
 //! Messages of the market as they travel.
 ghost use Rattle.std.specs.Prelude.{◌≡◌, ◌<◌, ◌↔◌, ◌⊎◌, length, IfOk, Err};
 ghost use Rattle.mama_packet.specs.Packet.{Spells, message_of};
+ghost use Rattle.mama_event.specs.Arrival as arrival;
 ghost use Rattle.mama_event.specs.Wire as wire;
 ghost use Rattle.mama_event.specs.WireLaws.{WholeMessagesArrive, WholeRepliesArrive, CutMessagesArrive, CutRepliesArrive};
 
@@ -167,7 +168,7 @@ impl Duplicate for PieceMsg {
 }
 
 impl Cuttable for PieceMsg {
-    ghost use Rattle.mama_event.specs.Wire.{cut_body};
+    ghost use Rattle.mama_event.specs.Arrival.{cut_body};
 
     ghost cut_to = { cut_body };
 
@@ -178,7 +179,7 @@ impl Cuttable for PieceMsg {
 
 /// The code of a fault, by which a listener is told of it. Want of memory is no fault of the bytes, and has the code 0.
 pub fn error_code(fault: DecodeFault) -> u8
-    ensures { result ≡ wire.error_code fault }
+    ensures { result ≡ arrival.error_code fault }
 {
     match fault {
         DecodeFault::Truncated { at: _ } => 1,
@@ -194,7 +195,7 @@ pub fn error_code(fault: DecodeFault) -> u8
 
 /// The code of the first fault in some bytes, and 0 where they spell a message.
 pub fn code_of(bytes: &Piece) -> Result<u8, OutOfMemory>
-    ensures { IfOk result (λ code. code ≡ wire.code_of bytes.now) }
+    ensures { IfOk result (λ code. code ≡ arrival.code_of bytes.now) }
 {
     match bytes.unpack() {
         Ok(_) => Ok(0),

@@ -14,7 +14,8 @@ use Rattle.mama_event.specs.declared.group.GroupNote.{GroupNote}
 use Rattle.mama_event.specs.declared.group.GroupRow.{GroupRow}
 use Rattle.mama_event.specs.Object.{same_sub}
 use Rattle.mama_rules_queue.specs.Group as rules
-use Rattle.mama_rules_queue.specs.Group.{member_by, told_of}
+use Rattle.mama_rules_queue.specs.Group.{member_by}
+use Rattle.mama_rules_queue.specs.GroupTurns.{told_of}
 use Rattle.mama_group.specs.declared.group.Group.{Group}
 use Rattle.mama_group.specs.declared.counts.Counts.{Counts}
 use Rattle.mama_group.specs.declared.member.Member.TheVariants as kept

@@ -14,7 +14,8 @@ use Rattle.mama_event.specs.declared.group.GroupState.TheVariants as state
 use Rattle.mama_event.specs.Object.{same_sub}
 use Rattle.mama_event.specs.EqualityLaws.{same_sub-Decides}
 use Rattle.mama_rules_queue.specs.Group as rules
-use Rattle.mama_rules_queue.specs.Group.{member_after, member_by, told_of, calls_heard, state_told, state_of, state_after, turn_notes}
+use Rattle.mama_rules_queue.specs.Group.{member_after, member_by, state_told, state_of}
+use Rattle.mama_rules_queue.specs.GroupTurns.{told_of, calls_heard, state_after, turn_notes}
 use Rattle.mama_group.specs.declared.member.Member.{Member}
 use Rattle.mama_group.specs.declared.member.Member.TheVariants as kept
 use Rattle.mama_group.specs.declared.counts.Counts.{Counts}

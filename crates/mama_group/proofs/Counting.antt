@@ -12,7 +12,8 @@ use Rattle.mama_event.specs.declared.group.GroupNote.{GroupNote}
 use Rattle.mama_event.specs.declared.group.GroupNote.TheVariants as note
 use Rattle.mama_event.specs.Object.{same_sub}
 use Rattle.mama_event.specs.EqualityLaws.{same_sub-Decides}
-use Rattle.mama_rules_queue.specs.Group.{Member, member_after, member_by, told_of, calls_heard}
+use Rattle.mama_rules_queue.specs.Group.{Member, member_after, member_by}
+use Rattle.mama_rules_queue.specs.GroupTurns.{told_of, calls_heard}
 use Rattle.mama_group.specs.Table.{has_member, are_distinct}
 
 -- ---- what the callbacks of one member make of each

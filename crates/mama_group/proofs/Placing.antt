@@ -16,7 +16,8 @@ use Rattle.mama_event.specs.declared.group.GroupNote.TheVariants as note
 use Rattle.mama_event.specs.Listener.{reached, risen}
 use Rattle.mama_event.specs.Object.{same_sub}
 use Rattle.mama_event.specs.EqualityLaws.{same_sub-Decides}
-use Rattle.mama_rules_queue.specs.Group.{member_by, told_of, calls_heard, state_told, state_after, turn_notes}
+use Rattle.mama_rules_queue.specs.Group.{member_by, state_told}
+use Rattle.mama_rules_queue.specs.GroupTurns.{told_of, calls_heard, state_after, turn_notes}
 use Rattle.mama_group.specs.declared.group.Group.{Group}
 use Rattle.mama_group.specs.declared.table.Place.{Place}
 use Rattle.mama_group.specs.Listener.{GroupListenerData, Heard, HeardNext, HeardOn}

@@ -20,7 +20,8 @@ use Rattle.mama_event.specs.Object.{same_sub}
 use Rattle.mama_event.specs.GroupStates.{same_group_state}
 use Rattle.mama_event.specs.EqualityLaws.{same_sub-Decides, same_group_state-Decides}
 use Rattle.mama_rules_queue.specs.Queue.{Deed, handled, called, served, calls_in, calls_of, deeds, deeds_at}
-use Rattle.mama_rules_queue.specs.Group.{Member, member_by, state_of, member_in, group_state, heard_of, state_told, group_notes_at, group_notes, told_of, state_after, calls_heard, turn_notes}
+use Rattle.mama_rules_queue.specs.Group.{Member, member_by, state_of, member_in, group_state, heard_of, state_told, group_notes_at, group_notes}
+use Rattle.mama_rules_queue.specs.GroupTurns.{told_of, state_after, calls_heard, turn_notes}
 use Rattle.mama_group.specs.Table.{has_member, IsOnly}
 
 abbrev first : Callback × List Order → Callback

@@ -17,7 +17,8 @@ use Rattle.mama_event.specs.declared.group.GroupNote.{GroupNote}
 use Rattle.mama_event.specs.declared.group.GroupState.{GroupState}
 use Rattle.mama_event.specs.declared.group.GroupState.TheVariants as state
 use Rattle.mama_rules_queue.specs.Group as rules
-use Rattle.mama_rules_queue.specs.Group.{member_by, told_of, turn_notes}
+use Rattle.mama_rules_queue.specs.Group.{member_by}
+use Rattle.mama_rules_queue.specs.GroupTurns.{told_of, turn_notes}
 use Rattle.mama_group.specs.declared.member.Member.{Member}
 use Rattle.mama_group.specs.declared.member.Member.TheVariants as kept
 use Rattle.mama_group.specs.declared.counts.Counts.{Counts}

@@ -11,7 +11,7 @@ use Rattle.mama_event.specs.Object.{same_sub}
 use Rattle.mama_event.specs.Listener.{reached}
 use Rattle.mama_event.specs.declared.ids.ObjectId.TheVariants.{Sub}
 use Rattle.mama_rules_queue.specs.Queue.{Deed, calls_of}
-use Rattle.mama_rules_queue.specs.Group.{turn_notes, state_after, told_of}
+use Rattle.mama_rules_queue.specs.GroupTurns.{turn_notes, state_after, told_of}
 use Rattle.mama_group.specs.Listener.{GroupListenerData, HeardOn}
 
 -- a group: its number, its members, what it heard, and its listener

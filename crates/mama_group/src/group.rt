@@ -1,5 +1,6 @@
 ghost use Rattle.std.specs.Prelude.{◌≡◌, ◌<◌, ◌≤◌, ◌+◌, ◌^◌, ◌++◌, [], length, map, fold, vec_len, vec_capacity, OnOk, IfOk};
-ghost use Rattle.mama_rules_queue.specs.Group.{member_after, calls_heard, state_told};
+ghost use Rattle.mama_rules_queue.specs.Group.{member_after, state_told};
+ghost use Rattle.mama_rules_queue.specs.GroupTurns.{calls_heard};
 ghost use Rattle.mama_group.specs.Listener.{told, Heard};
 ghost use Rattle.mama_group.specs.Table.{GroupHeard};
 ghost use Rattle.mama_group.specs.Kept.{member_of, group_of, IsCounted, AreApart, IsMember, IsChange};

@@ -6,7 +6,8 @@ ghost use Rattle.mama_event.specs.declared.ids.SubId.{SubId};
 ghost use Rattle.mama_event.specs.declared.order.Order.{Order};
 ghost use Rattle.mama_event.specs.declared.to_queue.QueueNote.{QueueNote};
 ghost use Rattle.mama_rules_queue.specs.Queue.{calls_of, deeds, deeds_at};
-ghost use Rattle.mama_rules_queue.specs.Group.{group_notes, group_notes_at, group_state, state_after, turn_notes};
+ghost use Rattle.mama_rules_queue.specs.Group.{group_notes, group_notes_at, group_state};
+ghost use Rattle.mama_rules_queue.specs.GroupTurns.{state_after, turn_notes};
 ghost use Rattle.mama_group.specs.Table.{has_member, IsOnly};
 
 /// What a group hears turn by turn is what its rules say of the journal of its queue: of an entry that calls back one

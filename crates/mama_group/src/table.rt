@@ -3,7 +3,7 @@ ghost use Rattle.std.specs.List.{All, AllByRecursion, flat_map};
 ghost use Rattle.indexmap.specs.IndexMap.{get};
 ghost use Rattle.mama_event.specs.declared.ids.SubId.{SubId};
 ghost use Rattle.mama_event.specs.Object.{same_sub};
-ghost use Rattle.mama_rules_queue.specs.Group.{told_of};
+ghost use Rattle.mama_rules_queue.specs.GroupTurns.{told_of};
 ghost use Rattle.mama_group.specs.Listener.{told};
 ghost use Rattle.mama_group.specs.Table.{AreApart, HaveMembers, AllHeard, are_distinct, all_members, has_member, new_groups, part_of, part_given, state_in, heard_in};
 ghost use Rattle.mama_group.specs.Kept.{group_of, IsCounted};

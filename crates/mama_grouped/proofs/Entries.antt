@@ -16,7 +16,8 @@ use Rattle.mama_event.specs.declared.to_queue.QueueNote.{QueueNote}
 use Rattle.mama_event.specs.Listener.{reached, risen}
 use Rattle.mama_script.specs.Script.{ScriptData}
 use Rattle.mama_rules_queue.specs.Queue.{Deed, calls_in, calls_of, deeds, deeds_at}
-use Rattle.mama_rules_queue.specs.Group.{group_notes, group_notes_at, turn_notes, told_of}
+use Rattle.mama_rules_queue.specs.Group.{group_notes, group_notes_at}
+use Rattle.mama_rules_queue.specs.GroupTurns.{turn_notes, told_of}
 use Rattle.mama_dispatch.specs.Journals.{noted, notes_of}
 use Rattle.mama_plans.specs.Orders.{orders_in}
 use Rattle.mama_group.specs.Listener.{HeardOn}

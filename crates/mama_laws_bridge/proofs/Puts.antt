@@ -18,8 +18,8 @@ use Rattle.mama_event.specs.declared.to_timers.TimersNote.TheVariants as t
 use Rattle.mama_event.specs.declared.to_queue.QueueNote.TheVariants as q
 use Rattle.mama_event.specs.Ports.{publishers_of, queues_of}
 use Rattle.mama_link.specs.Link.{rest}
-use Rattle.mama_event.specs.Wire.{Arrival, ReplyArrival, arriving, answering, cut_arrival, cut_reply}
-use Rattle.mama_event.specs.ToQueue.{delivered_note, replied_note}
+use Rattle.mama_event.specs.Arrival.{Arrival, ReplyArrival, arriving, answering, cut_arrival, cut_reply}
+use Rattle.mama_event.specs.Noted.{delivered_note, replied_note}
 use Rattle.mama_event.specs.declared.ids.InboxId.{InboxId}
 use Rattle.mama_rules_services.specs.Bridge.{BridgeEvent, BridgePut, to_publisher, to_queue, to_timers, created_in, to_found, to_first, wants_image, passed_on, is_recap_want}
 use Rattle.mama_laws_bridge.specs.Table.{SubRow, InboxRow, Table, begins_settling, begins_ending, sub_delivered, inbox_replied, sub_emits, inbox_emits, sub_ends, inbox_ends, settles_all, ends_all, closing}

@@ -20,8 +20,8 @@ use Rattle.mama_event.specs.declared.to_timers.TimersNote.TheVariants as t
 use Rattle.mama_event.specs.declared.to_queue.QueueNote.TheVariants as q
 use Rattle.mama_event.specs.Ports.{publishers_of, queues_of}
 use Rattle.mama_event.specs.Object.{same_sub, same_inbox}
-use Rattle.mama_event.specs.Wire.{Arrival, ReplyArrival, arriving, answering, cut_arrival, cut_reply}
-use Rattle.mama_event.specs.ToQueue.{delivered_note, replied_note}
+use Rattle.mama_event.specs.Arrival.{Arrival, ReplyArrival, arriving, answering, cut_arrival, cut_reply}
+use Rattle.mama_event.specs.Noted.{delivered_note, replied_note}
 use Rattle.mama_rules_services.specs.Bridge.{BridgeEvent, joins, leaves, opens, closes, asks, publishes, images, replies, wishes, client_done, sends_done, settled, bye, no_event, terms_in, joins_sub, opens_inbox, leaves_sub, closes_inbox, is_settling, has_ending, is_live, is_open, newly_joined, newly_opened, live_subs, open_inboxes, window, reply_window, sent_with, sent_to, replied_to, faults_of, inbox_faults_of, BridgePut, to_publisher, to_queue, to_timers, place_of, to_place, slot_on, live_objects, free_slot, delivered, replied, passed, passed_reply, passed_on, ended, ended_inbox, gone, is_recap_want, may_wish, answer, settle_begins, ending_comes, bridge_reaction}
 use Rattle.mama_laws_bridge.specs.Table.{SubRow, InboxRow, Table, table_next, of_sub, of_inbox, settling_now, ended_now, begins_settling, begins_ending, sub_slots, inbox_slots, slot_for, is_on_topic_of, sub_delivered, inbox_replied, sub_emits, inbox_emits, sub_ends, inbox_ends, sub_wishes, settles_all, ends_all, closing, table_puts}
 use Rattle.mama_laws_bridge.proofs.Lists.{Each, each_weaker, flat_map_each, flat_map-map}

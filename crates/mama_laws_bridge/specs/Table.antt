@@ -19,8 +19,8 @@ use Rattle.mama_event.specs.declared.to_timers.TimersNote.TheVariants as t
 use Rattle.mama_event.specs.declared.to_queue.QueueNote.TheVariants as q
 use Rattle.mama_event.specs.Ports.{clients_of, publishers_of, queues_of}
 use Rattle.mama_event.specs.Object.{same_sub, same_inbox}
-use Rattle.mama_event.specs.Wire.{Arrival, ReplyArrival, arriving, answering, cut_arrival, cut_reply}
-use Rattle.mama_event.specs.ToQueue.{delivered_note, replied_note}
+use Rattle.mama_event.specs.Arrival.{Arrival, ReplyArrival, arriving, answering, cut_arrival, cut_reply}
+use Rattle.mama_event.specs.Noted.{delivered_note, replied_note}
 use Rattle.mama_rules_services.specs.Bridge.{BridgeEvent, joins, leaves, opens, closes, asks, publishes, images, replies, wishes, client_done, sends_done, settled, bye, BridgePut, to_publisher, to_queue, to_timers, slot_on, to_first, wants_image, passed_on}
 
 -- a live subscription: on what terms, in which slot, how many of its recap wishes were forwarded, and what went into its link

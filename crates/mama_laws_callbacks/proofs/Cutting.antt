@@ -7,7 +7,7 @@ use Rattle.std.proofs.lemmas.List.{map-append}
 use Rattle.std.proofs.lemmas.List.Concat.{flat_map-append}
 use Rattle.std.proofs.lemmas.Bool.{and_from, both_ways}
 use Rattle.mama_journal.specs.Journal.{puts_so_far, first_said}
-use Rattle.mama_event.specs.Wire.{code_of}
+use Rattle.mama_event.specs.Arrival.{code_of}
 use Rattle.mama_event.specs.Object.{same_object}
 use Rattle.mama_event.specs.declared.ids.ObjectId.{ObjectId}
 use Rattle.mama_event.specs.declared.ids.ObjectId.TheVariants.{Sub, Timer, Inbox}

@@ -5,8 +5,8 @@ use Rattle.std.proofs.Common.{◌≡◌, ◌<◌, ℕ, ◌+◌, Bool, true, fals
 use Rattle.std.proofs.lemmas.Bool.{or_parts, both_ways}
 use Rattle.mama_journal.specs.Journal.{first_said}
 use Rattle.mama_link.specs.Link.{through}
-use Rattle.mama_event.specs.Wire.{Arrival, arriving, cut_arrival, code_of}
-use Rattle.mama_event.specs.ToQueue.{delivered_note}
+use Rattle.mama_event.specs.Arrival.{Arrival, arriving, cut_arrival, code_of}
+use Rattle.mama_event.specs.Noted.{delivered_note}
 use Rattle.mama_event.specs.Ports.{clients_of}
 use Rattle.mama_event.specs.declared.to_bridge.SubTerms.{SubTerms}
 use Rattle.mama_event.specs.Publisher.{PublisherScript}

@@ -5,7 +5,7 @@ use Rattle.std.proofs.Common.{◌≡◌, ℕ, ◌+◌, ◌<◌, List, [], ◌∷
 use Rattle.mama_journal.specs.Journal.{first_said}
 use Rattle.mama_link.specs.Link.{through}
 use Rattle.mama_msg.specs.Field.{FieldData}
-use Rattle.mama_event.specs.Wire.{arriving, answering, cut_arrival, cut_reply}
+use Rattle.mama_event.specs.Arrival.{arriving, answering, cut_arrival, cut_reply}
 use Rattle.mama_event.specs.declared.ids.SubId.{SubId}
 use Rattle.mama_event.specs.declared.ids.TimerId.{TimerId}
 use Rattle.mama_event.specs.declared.ids.InboxId.{InboxId}

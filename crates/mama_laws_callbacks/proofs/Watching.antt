@@ -6,7 +6,7 @@ use Rattle.std.proofs.lemmas.Bool.{leb-true, leb-false, eqb-true, eqb-false, eq-
 use Rattle.std.proofs.lemmas.List.Concat.{flat_map-append}
 use Rattle.mama_journal.specs.Journal.{puts, first_said}
 use Rattle.mama_journal.specs.EntryLaws.{by_entries, puts-push}
-use Rattle.mama_event.specs.Wire.{code_of}
+use Rattle.mama_event.specs.Arrival.{code_of}
 use Rattle.mama_event.specs.Object.{same_timer}
 use Rattle.mama_event.specs.declared.ids.SubId.{SubId}
 use Rattle.mama_event.specs.declared.ids.TimerId.{TimerId}

@@ -2,7 +2,7 @@
 use Rattle.std.specs.Prelude.{nat_le, if◌then◌else◌, Ok, Err}
 use Rattle.std.proofs.Common.{◌≡◌, ◌⊎◌, ⊎_elim, ℕ, ◌==◌, Bool, true, false, List, [], ◌∷◌, ◌++◌, refl, sym, ◌∙◌, ap, subst}
 use Rattle.mama_msg.specs.Field.{FieldData}
-use Rattle.mama_event.specs.Wire.{Arrival}
+use Rattle.mama_event.specs.Arrival.{Arrival}
 use Rattle.mama_event.specs.declared.market.MarketMsg.{MarketMsg}
 use Rattle.mama_event.specs.declared.market.SubKind.{SubKind}
 use Rattle.mama_event.specs.declared.shape.Strategy.{Strategy}

@@ -1,7 +1,7 @@
 -- believed: what a market subscription is told over a plain link: one without faults, from a topic that one publisher has.
 use Rattle.std.specs.Prelude.{◌≡◌, map, Some}
 use Rattle.mama_link.specs.Link.{through}
-use Rattle.mama_event.specs.Wire.{arriving, cut_arrival}
+use Rattle.mama_event.specs.Arrival.{arriving, cut_arrival}
 use Rattle.mama_event.specs.declared.ids.SubId.{SubId}
 use Rattle.mama_event.specs.declared.market.SubKind.TheVariants.{Market}
 use Rattle.mama_dq.specs.Orderly.{as_ok, from_first_image}

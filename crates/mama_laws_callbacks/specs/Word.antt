@@ -1,6 +1,6 @@
 -- believed: the last word that a listener has on the quality of its image.
 use Rattle.std.specs.Prelude.{◌≡◌, ◌⊎◌, ℕ, List, [], ◌∷◌, Ok, Err}
-use Rattle.mama_event.specs.Wire.{Arrival}
+use Rattle.mama_event.specs.Arrival.{Arrival}
 use Rattle.mama_event.specs.declared.market.MarketMsg.{MarketMsg}
 use Rattle.mama_event.specs.declared.market.SubKind.{SubKind}
 use Rattle.mama_event.specs.declared.shape.Strategy.{Strategy}

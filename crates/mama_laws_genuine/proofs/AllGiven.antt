@@ -6,8 +6,8 @@ use Rattle.std.proofs.lemmas.List.Elements.{filter-append}
 use Rattle.mama_link.specs.Link.{through}
 use Rattle.mama_link.specs.declared.faults.FaultRow.{FaultRow}
 use Rattle.mama_link.proofs.LawLemmas.{passes_all}
-use Rattle.mama_event.specs.Wire.{Arrival, arriving, cut_arrival}
-use Rattle.mama_event.specs.ToQueue.{delivered_note}
+use Rattle.mama_event.specs.Arrival.{Arrival, arriving, cut_arrival}
+use Rattle.mama_event.specs.Noted.{delivered_note}
 use Rattle.mama_event.specs.declared.ids.SubId.{SubId}
 use Rattle.mama_event.specs.declared.ids.ObjectId.{ObjectId}
 use Rattle.mama_event.specs.declared.ids.ObjectId.TheVariants.{Sub, Timer, Inbox}

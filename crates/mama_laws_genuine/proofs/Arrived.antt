@@ -6,7 +6,7 @@ use Rattle.mama_msg.specs.Field.{FieldData}
 use Rattle.mama_payload.specs.Spelling.{spelling}
 use Rattle.mama_event.specs.declared.market.MarketMsg.{MarketMsg}
 use Rattle.mama_event.specs.declared.wire.PieceMsg.{PieceMsg}
-use Rattle.mama_event.specs.Wire.{Arrival, ReplyArrival, arriving, answering, cut_arrival, cut_reply, cut_body, piece_of}
+use Rattle.mama_event.specs.Arrival.{Arrival, ReplyArrival, arriving, answering, cut_arrival, cut_reply, cut_body, piece_of}
 use Rattle.mama_laws_genuine.proofs.Elements.{all_map}
 
 module _ (G : MarketMsg → Type 0) where

@@ -11,8 +11,8 @@ use Rattle.mama_journal.specs.Lane.{by_port}
 use Rattle.mama_msg.specs.Field.{FieldData}
 use Rattle.mama_link.specs.Link.{through}
 use Rattle.mama_link.proofs.LawLemmas.{passes_all}
-use Rattle.mama_event.specs.Wire.{Arrival, arriving, cut_arrival}
-use Rattle.mama_event.specs.ToQueue.{delivered_note}
+use Rattle.mama_event.specs.Arrival.{Arrival, arriving, cut_arrival}
+use Rattle.mama_event.specs.Noted.{delivered_note}
 use Rattle.mama_event.specs.Object.{same_sub}
 use Rattle.mama_event.specs.Ports.{queues_of, queue_port_of_bridge, queue_port_of_timers}
 use Rattle.mama_event.specs.declared.ids.SubId.{SubId}

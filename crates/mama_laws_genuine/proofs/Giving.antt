@@ -6,7 +6,7 @@ use Rattle.std.proofs.Common.{◌≡◌, ℕ, ◌+◌, Bool, true, false, List, 
 use Rattle.std.proofs.lemmas.List.{append_cancel_left, map-append}
 use Rattle.std.proofs.lemmas.List.Concat.{flat_map-append}
 use Rattle.mama_journal.specs.Journal.{first_said}
-use Rattle.mama_event.specs.Wire.{code_of}
+use Rattle.mama_event.specs.Arrival.{code_of}
 use Rattle.mama_event.specs.Object.{same_sub, same_object}
 use Rattle.mama_event.specs.declared.ids.SubId.{SubId}
 use Rattle.mama_event.specs.declared.ids.ObjectId.{ObjectId}

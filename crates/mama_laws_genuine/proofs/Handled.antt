@@ -5,7 +5,7 @@ use Rattle.std.proofs.Common.{◌≡◌, ℕ, ◌+◌, Bool, true, false, List, 
 use Rattle.std.proofs.lemmas.Bool.{both_ways}
 use Rattle.std.proofs.lemmas.List.Concat.{flat_map-append}
 use Rattle.mama_journal.specs.Journal.{puts_so_far, first_said}
-use Rattle.mama_event.specs.Wire.{code_of}
+use Rattle.mama_event.specs.Arrival.{code_of}
 use Rattle.mama_event.specs.Object.{same_sub}
 use Rattle.mama_event.specs.EqualityLaws.{same_sub-Decides}
 use Rattle.mama_event.specs.declared.ids.SubId.{SubId}

@@ -16,7 +16,8 @@ use Rattle.mama_event.specs.declared.market.MarketMsg.{MarketMsg}
 use Rattle.mama_event.specs.declared.market.MsgKind.{MsgKind}
 use Rattle.mama_event.specs.declared.market.MsgKind.TheVariants.{Initial, Update, Recap}
 use Rattle.mama_event.specs.declared.market.SubKind.{SubKind}
-use Rattle.mama_event.specs.Record.{record_after, IsGenuineBody, IsGenuine}
+use Rattle.mama_event.specs.Record.{record_after}
+use Rattle.mama_event.specs.Genuine.{IsGenuineBody, IsGenuine}
 use Rattle.mama_event.specs.Publisher.{PublisherScript, updates_of}
 use Rattle.mama_event.specs.declared.market.Quality.TheVariants as quality
 use Rattle.mama_event.specs.declared.shape.Strategy.{Strategy}

@@ -5,7 +5,8 @@ use Rattle.std.specs.List.{AllByRecursion}
 use Rattle.std.proofs.Common.{◌≡◌, ℕ, zero, suc, ◌+◌, ◌<◌, ◌≤◌, List, [], ◌∷◌, ◌++◌, length, take, refl, sym, arith}
 use Rattle.mama_journal.specs.Journal.{count_of}
 use Rattle.mama_msg.specs.Field.{FieldData}
-use Rattle.mama_event.specs.Record.{record_after, IsGenuineBody}
+use Rattle.mama_event.specs.Record.{record_after}
+use Rattle.mama_event.specs.Genuine.{IsGenuineBody}
 use Rattle.mama_event.specs.Publisher.{asked_fields, SendLine, PublisherScript, is_send, updates_of, updates_sent, record_at, answer_of, sent_of, publisher_puts_at, publisher_puts}
 use Rattle.mama_event.specs.declared.market.MarketMsg.{MarketMsg}
 use Rattle.mama_event.specs.declared.market.MsgKind.{MsgKind}

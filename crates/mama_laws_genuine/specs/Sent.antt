@@ -3,7 +3,8 @@ use Rattle.std.specs.Prelude.{◌≡◌, ℕ, ◌+◌, ◌≤◌, List, length, 
 use Rattle.std.specs.List.{AllByRecursion}
 use Rattle.mama_msg.specs.Field.{FieldData}
 use Rattle.mama_event.specs.Publisher.{PublisherScript, updates_of, asked_fields}
-use Rattle.mama_event.specs.Record.{record_after, IsGenuineBody}
+use Rattle.mama_event.specs.Record.{record_after}
+use Rattle.mama_event.specs.Genuine.{IsGenuineBody}
 use Rattle.mama_event.specs.declared.market.MarketMsg.{MarketMsg}
 use Rattle.mama_event.specs.declared.to_queue.QueueNote.{QueueNote}
 use Rattle.mama_event.specs.declared.to_queue.QueueNote.TheVariants as q

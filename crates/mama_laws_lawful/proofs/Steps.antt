@@ -9,7 +9,7 @@ use Rattle.std.proofs.lemmas.List.Folds.{list_any-append}
 use Rattle.mama_msg.specs.Field.{FieldData}
 use Rattle.mama_journal.specs.Journal.{numbers_below, least_free}
 use Rattle.mama_link.specs.Link.{rest}
-use Rattle.mama_event.specs.Wire.{Arrival, ReplyArrival, arriving, answering, cut_arrival, cut_reply}
+use Rattle.mama_event.specs.Arrival.{Arrival, ReplyArrival, arriving, answering, cut_arrival, cut_reply}
 use Rattle.mama_event.specs.declared.ids.SubId.{SubId}
 use Rattle.mama_event.specs.declared.ids.InboxId.{InboxId}
 use Rattle.mama_event.specs.declared.ids.ObjectId.{ObjectId}
@@ -28,7 +28,8 @@ use Rattle.mama_event.specs.Lawful.{each_fits, IsLawful}
 use Rattle.mama_event.specs.Ports.{publishers_of, queues_of}
 use Rattle.mama_event.specs.Object.{same_sub, same_inbox, same_object}
 use Rattle.mama_event.specs.EqualityLaws.{same_sub-Decides, same_inbox-Decides}
-use Rattle.mama_event.specs.ToQueue.{delivered_note, replied_note, Block, is_last, fits, open_blocks, is_for_port, is_made_as}
+use Rattle.mama_event.specs.ToQueue.{Block, is_last, fits, open_blocks, is_for_port, is_made_as}
+use Rattle.mama_event.specs.Noted.{delivered_note, replied_note}
 use Rattle.mama_rules_services.specs.Bridge.{BridgeEvent, joins, leaves, opens, closes, asks, publishes, images, replies, wishes, client_done, sends_done, settled, bye, no_event, BridgePut, to_publisher, to_queue, to_timers, to_first, wants_image, passed_on}
 use Rattle.mama_laws_bridge.specs.Laws.{Alone}
 use Rattle.mama_laws_bridge.specs.Table.{SubRow, InboxRow, Table, table_next, of_sub, of_inbox, has_joined, has_opened, settling_now, ended_now, begins_settling, begins_ending, sub_slots, inbox_slots, slot_for, sub_passed, inbox_passed, is_on_topic_of, may_ask, sub_wished, sub_emits, inbox_emits, sub_ends, inbox_ends, settles_all, ends_all, closing, table_puts, kept, new_sub, new_inbox}

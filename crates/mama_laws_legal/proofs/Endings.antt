@@ -8,8 +8,8 @@ use Rattle.std.proofs.lemmas.List.Concat.{flat_map-append}
 use Rattle.std.proofs.lemmas.List.Folds.{list_any-append}
 use Rattle.mama_journal.specs.Journal.{all_puts, turns, all_below, numbers_below, count_of, first_said}
 use Rattle.mama_link.specs.Link.{rest}
-use Rattle.mama_event.specs.Wire.{Arrival, ReplyArrival, arriving, answering, cut_arrival, cut_reply}
-use Rattle.mama_event.specs.ToQueue.{delivered_note, replied_note}
+use Rattle.mama_event.specs.Arrival.{Arrival, ReplyArrival, arriving, answering, cut_arrival, cut_reply}
+use Rattle.mama_event.specs.Noted.{delivered_note, replied_note}
 use Rattle.mama_event.specs.declared.ids.SubId.{SubId}
 use Rattle.mama_event.specs.declared.ids.InboxId.{InboxId}
 use Rattle.mama_event.specs.declared.ids.ObjectId.TheVariants.{Sub, Inbox}

@@ -7,8 +7,8 @@ use Rattle.std.proofs.lemmas.List.{map-append}
 use Rattle.mama_journal.specs.Journal.{first_said}
 use Rattle.mama_msg.specs.Field.{FieldData}
 use Rattle.mama_link.specs.Link.{rest}
-use Rattle.mama_event.specs.Wire.{ReplyArrival, answering, cut_reply}
-use Rattle.mama_event.specs.ToQueue.{replied_note}
+use Rattle.mama_event.specs.Arrival.{ReplyArrival, answering, cut_reply}
+use Rattle.mama_event.specs.Noted.{replied_note}
 use Rattle.mama_event.specs.declared.ids.InboxId.{InboxId}
 use Rattle.mama_event.specs.declared.ids.ObjectId.TheVariants.{Inbox}
 use Rattle.mama_event.specs.declared.shape.Shape.{Shape}

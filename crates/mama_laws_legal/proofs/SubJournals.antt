@@ -3,8 +3,8 @@ use Rattle.std.specs.Prelude.{slice_index_or, filter, None, Some}
 use Rattle.std.proofs.Common.{◌≡◌, ℕ, ◌<◌, ◌==◌, true, false, cond, List, [], refl, ◌∙◌, ap}
 use Rattle.std.proofs.lemmas.Bool.{both_ways, false_from_ne_true}
 use Rattle.mama_link.specs.Link.{through}
-use Rattle.mama_event.specs.Wire.{arriving, cut_arrival}
-use Rattle.mama_event.specs.ToQueue.{delivered_note}
+use Rattle.mama_event.specs.Arrival.{arriving, cut_arrival}
+use Rattle.mama_event.specs.Noted.{delivered_note}
 use Rattle.mama_event.specs.declared.ids.SubId.{SubId}
 use Rattle.mama_event.specs.declared.ids.ObjectId.TheVariants.{Sub}
 use Rattle.mama_event.specs.declared.shape.Shape.{Shape}

@@ -6,8 +6,8 @@ use Rattle.std.proofs.lemmas.Bool.{both_ways}
 use Rattle.std.proofs.lemmas.List.{map-append}
 use Rattle.mama_journal.specs.Journal.{first_said}
 use Rattle.mama_link.specs.Link.{rest}
-use Rattle.mama_event.specs.Wire.{Arrival, arriving, cut_arrival}
-use Rattle.mama_event.specs.ToQueue.{delivered_note}
+use Rattle.mama_event.specs.Arrival.{Arrival, arriving, cut_arrival}
+use Rattle.mama_event.specs.Noted.{delivered_note}
 use Rattle.mama_event.specs.declared.ids.SubId.{SubId}
 use Rattle.mama_event.specs.declared.ids.ObjectId.TheVariants.{Sub}
 use Rattle.mama_event.specs.declared.market.MarketMsg.{MarketMsg}

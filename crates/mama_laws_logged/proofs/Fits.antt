@@ -8,7 +8,7 @@ use Rattle.mama_event.specs.declared.ids.ObjectId.TheVariants.{Sub, Timer, Inbox
 use Rattle.mama_event.specs.declared.market.MarketMsg.{MarketMsg}
 use Rattle.mama_event.specs.declared.watch.WatchRow.{WatchRow}
 use Rattle.mama_event.specs.declared.wire.PieceMsg.{PieceMsg}
-use Rattle.mama_event.specs.Wire.{Arrival, ReplyArrival}
+use Rattle.mama_event.specs.Arrival.{Arrival, ReplyArrival}
 use Rattle.mama_event.specs.declared.callback.Callback.{Callback}
 use Rattle.mama_event.specs.declared.order.Order.{Order}
 use Rattle.mama_event.specs.declared.to_bridge.BridgeNote.{BridgeNote}

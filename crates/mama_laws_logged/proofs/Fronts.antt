@@ -12,14 +12,15 @@ use Rattle.mama_msg.specs.declared.value.Value.TheVariants as values
 use Rattle.mama_msg.specs.Field.{FieldData}
 use Rattle.mama_payload.specs.declared.fault.DecodeFault.{DecodeFault}
 use Rattle.mama_payload.specs.declared.fault.DecodeFault.TheVariants as faults
-use Rattle.mama_payload.specs.Spelling.{spelling, IsInRange, HasSpelling}
-use Rattle.mama_payload.specs.Spelling as payload
+use Rattle.mama_payload.specs.Spelling.{spelling}
+use Rattle.mama_payload.specs.Spelled.{IsInRange, HasSpelling}
+use Rattle.mama_payload.specs.Spelled as payload
 use Rattle.mama_payload.specs.Reading.{decoded}
 use Rattle.mama_payload.specs.Laws.{is_byte, HasBytes}
 use Rattle.mama_payload.proofs.Messages.{decoded-shorter}
 use Rattle.mama_payload.proofs.Bytes.{spellings-are-bytes}
 use Rattle.mama_event.specs.declared.market.MarketMsg.{MarketMsg}
-use Rattle.mama_event.specs.Wire.{Arrival, ReplyArrival, piece_of, cut_body, cut_arrival, cut_reply, error_code, code_in, code_of}
+use Rattle.mama_event.specs.Arrival.{Arrival, ReplyArrival, piece_of, cut_body, cut_arrival, cut_reply, error_code, code_in, code_of}
 use Rattle.mama_words.specs.declared.nums.Nums.{Nums}
 use Rattle.mama_words.specs.Number.{is_within}
 use Rattle.mama_words.specs.Value.{IsValue}

@@ -21,7 +21,7 @@ use Rattle.mama_event.specs.declared.to_timers.TimersNote.TheVariants as t
 use Rattle.mama_event.specs.declared.to_queue.Make.{Make}
 use Rattle.mama_event.specs.declared.to_queue.Make.TheVariants as make
 use Rattle.mama_event.specs.declared.to_queue.QueueNote.{QueueNote}
-use Rattle.mama_event.specs.Wire.{code_of}
+use Rattle.mama_event.specs.Arrival.{code_of}
 use Rattle.mama_event.specs.declared.to_queue.QueueNote.TheVariants as q
 use Rattle.mama_event.specs.declared.shape.Strategy.TheVariants.{One}
 use Rattle.mama_dq.specs.Strategy.{callbacks_of}

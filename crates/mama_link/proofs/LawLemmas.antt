@@ -13,7 +13,8 @@ use Rattle.mama_link.specs.declared.faults.Fault.{Fault}
 use Rattle.mama_link.specs.declared.faults.Fault.TheVariants.{Lose, Dup, Hold, Cut}
 use Rattle.mama_link.specs.declared.faults.FaultRow.{FaultRow}
 use Rattle.mama_link.specs.Faults.{fault_at, first_fault}
-use Rattle.mama_link.specs.Link.{is_held_until, is_due, is_held, copies, shares, shared, numbered, messages, emit, held, through, standing_after, coming}
+use Rattle.mama_link.specs.Link.{is_held_until, is_due, is_held, copies, shares, shared, numbered, messages, emit, held, through}
+use Rattle.mama_link.specs.Standing.{standing_after, coming}
 use Rattle.mama_link.specs.Steps.{held_back, at_place, standing_next}
 use Rattle.mama_link.specs.Laws.{PassesAll, SharesOut, LosesNone, LosesNothing, AtMostTwice, IsUncut}
 use Rattle.mama_link.proofs.LinkLemmas.{HoldsByMore, numbered-more, emit-next, held-next}

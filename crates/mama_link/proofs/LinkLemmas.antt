@@ -7,7 +7,8 @@ use Rattle.mama_link.specs.declared.faults.Fault.{Fault}
 use Rattle.mama_link.specs.declared.faults.Fault.TheVariants.{Lose, Dup, Hold, Cut}
 use Rattle.mama_link.specs.declared.faults.FaultRow.{FaultRow}
 use Rattle.mama_link.specs.Faults.{fault_at}
-use Rattle.mama_link.specs.Link.{is_held_until, is_held_after, is_due, is_held, own, copies, numbered, emit, held, Standing, standing_after, StandsFor, coming}
+use Rattle.mama_link.specs.Link.{is_held_until, is_held_after, is_due, is_held, own, copies, numbered, emit, held}
+use Rattle.mama_link.specs.Standing.{Standing, standing_after, StandsFor, coming}
 use Rattle.mama_link.specs.Steps.{held_back, at_place, standing_next}
 
 -- ---- lists

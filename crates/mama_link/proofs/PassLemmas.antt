@@ -9,7 +9,8 @@ use Rattle.mama_link.specs.declared.faults.Fault.{Fault}
 use Rattle.mama_link.specs.declared.faults.FaultRow.{FaultRow}
 use Rattle.mama_link.specs.Faults.{fault_at}
 use Rattle.mama_link.specs.Table.{IsTable, slots_due, table_of}
-use Rattle.mama_link.specs.Link.{is_due, messages, copies, coming, Standing, StandsFor, emit, LinkData}
+use Rattle.mama_link.specs.Link.{is_due, messages, copies, emit}
+use Rattle.mama_link.specs.Standing.{coming, Standing, StandsFor, LinkData}
 use Rattle.mama_link.specs.Steps.{held_back, at_place}
 use Rattle.mama_link.specs.Prepared.{Readied, IsPreparedFor}
 use Rattle.mama_link.specs.Slots.{no_entry, fault_here, held_in, without_due, found_at, taken_at, emptied_at, IsCaughtUp, IsKept}

@@ -7,3 +7,4 @@ pub mod Steps
 pub mod Prepared
 pub mod Slots
 pub mod Laws
+pub mod Standing

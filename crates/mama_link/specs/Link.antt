@@ -1,6 +1,6 @@
 -- believed: what a link lets through. The messages that go into a link are numbered from 1, `rows` are its fault rows, and `cut keep message` is what
 -- is left of a message of which the first `keep` bytes come through.
-use Rattle.std.specs.Prelude.{◌≡◌, ℕ, ◌+◌, Bool, false, ◌==◌, nat_lt, List, [], ◌∷◌, ◌++◌, length, Option, None, Some, filter, map}
+use Rattle.std.specs.Prelude.{ℕ, ◌+◌, Bool, false, ◌==◌, nat_lt, List, [], ◌∷◌, ◌++◌, length, Option, None, Some, filter, map}
 use Rattle.std.specs.List.{enumerate_from, flat_map, range_with_len}
 use Rattle.mama_link.specs.declared.faults.Fault.{Fault}
 use Rattle.mama_link.specs.declared.faults.Fault.TheVariants.{Lose, Dup, Hold, Cut}
@@ -81,28 +81,3 @@ module _ {T : Type 0} where
   -- all that comes out of a link into which the messages x go before its end
   abbrev pub through : (ℕ → T → T) → List FaultRow → List T → List T
   through cut rows x = flat_map (emit cut rows x) (range_with_len 1 (length x)) ++ rest rows x
-
--- a link at rest: its rows, how many messages it passed, and those that it holds, with their numbers, in order of number
-pub record Standing (T : Type 0) : Type 0 where
-  pub rows : List FaultRow
-  pub passed : ℕ
-  pub held : List (ℕ × T)
-
--- what contracts see of a link: how it stands, and for how many rows' messages it has room
-pub record LinkData (T : Type 0) : Type 0 where
-  pub standing : Standing T
-  pub room : ℕ
-
-module _ {T : Type 0} where
-  -- how a link of these rows stands when the messages x went in
-  abbrev pub standing_after : List FaultRow → List T → Standing T
-  standing_after rows x = record { rows = rows; passed = length x; held = held rows x }
-
-  -- a link stands for the messages that went in
-  abbrev pub StandsFor : List T → Standing T → Type 0
-  StandsFor x link = link ≡ standing_after link.rows x
-
-  -- what a link puts out when it passes the message next
-  abbrev pub coming : (ℕ → T → T) → Standing T → T → List T
-  coming cut link message =
-      copies cut (fault_at link.rows (link.passed + 1)) message ++ messages (filter (is_due link.rows (link.passed + 1)) link.held)

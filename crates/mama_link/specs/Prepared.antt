@@ -2,7 +2,7 @@
 use Rattle.std.specs.Prelude.{◌≡◌, ℕ, ◌+◌, ◌<◌, length, Option, IsSome}
 use Rattle.mama_link.specs.declared.faults.Fault.{Fault}
 use Rattle.mama_link.specs.Faults.{fault_at}
-use Rattle.mama_link.specs.Link.{LinkData, coming}
+use Rattle.mama_link.specs.Standing.{LinkData, coming}
 
 -- the message that is to pass, its number, what befalls it, and how many messages this pass will put out
 pub record Readied (T : Type 0) : Type 0 where

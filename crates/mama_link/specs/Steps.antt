@@ -3,7 +3,8 @@ use Rattle.std.specs.Prelude.{ℕ, ◌+◌, not, List, [], ◌∷◌, ◌++◌, 
 use Rattle.mama_link.specs.declared.faults.Fault.{Fault}
 use Rattle.mama_link.specs.declared.faults.Fault.TheVariants.{Lose, Dup, Hold, Cut}
 use Rattle.mama_link.specs.Faults.{fault_at}
-use Rattle.mama_link.specs.Link.{is_due, Standing}
+use Rattle.mama_link.specs.Link.{is_due}
+use Rattle.mama_link.specs.Standing.{Standing}
 
 module _ {T : Type 0} where
   -- the message, where its fault holds it back

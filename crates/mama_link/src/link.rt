@@ -1,6 +1,7 @@
 ghost use Rattle.std.specs.Prelude.{◌≡◌, ◌+◌, ◌<◌, ◌≤◌, ◌++◌, [], ◌∷◌, List, length, IsOk, IfOk, OnOk, IfErr, OnErr, option_to_list};
 ghost use Rattle.std.specs.List.{flat_map};
-ghost use Rattle.mama_link.specs.Link.{emit, rest, messages, standing_after, StandsFor};
+ghost use Rattle.mama_link.specs.Link.{emit, rest, messages};
+ghost use Rattle.mama_link.specs.Standing.{standing_after, StandsFor};
 ghost use Rattle.mama_link.specs.Prepared.{IsPreparedFor};
 
 use crate::cuttable::Cuttable;
@@ -23,7 +24,7 @@ pub struct Link<T> {
 impl<T> Model for Link<T> {
     ghost use Rattle.std.specs.Prelude.{◌-◌, vec_len};
     ghost use Rattle.std.specs.Vec.{vec_capacity};
-    ghost use Rattle.mama_link.specs.Link.{LinkData};
+    ghost use Rattle.mama_link.specs.Standing.{LinkData};
 
     ghost Value = { LinkData T };
 

@@ -2,7 +2,8 @@
 use Rattle.std.specs.Prelude.{◌≡◌, ℕ, List, []}
 use Rattle.std.specs.Result.{result_unwrap_or}
 use Rattle.mama_msg.specs.Field.{FieldData}
-use Rattle.mama_payload.specs.Spelling.{spelling, HasSpelling}
+use Rattle.mama_payload.specs.Spelling.{spelling}
+use Rattle.mama_payload.specs.Spelled.{HasSpelling}
 use Rattle.mama_payload.specs.Reading.{decoded}
 
 -- the bytes are the spelling of this message, which has one: so it has at most 64 fields

@@ -15,7 +15,8 @@ use Rattle.mama_payload.specs.declared.kind.Kind.{Kind}
 use Rattle.mama_payload.specs.declared.kind.Kind.TheVariants as kinds
 use Rattle.mama_payload.specs.declared.version.Version.{Version}
 use Rattle.mama_payload.specs.declared.version.Version.TheVariants as versions
-use Rattle.mama_payload.specs.Spelling.{kind_of, tag_of, signed, counted, version_of, first_byte, value_bytes, field_bytes, spelling, IsInRange, IsField}
+use Rattle.mama_payload.specs.Spelling.{kind_of, tag_of, signed, counted, version_of, first_byte, value_bytes, field_bytes, spelling}
+use Rattle.mama_payload.specs.Spelled.{IsInRange, IsField}
 use Rattle.mama_payload.specs.Laws.{is_byte, HasBytes, SpellingsAreBytes}
 
 byte_is : (b : ℕ) → b < 2 ^ 8 → is_byte b ≡ true

@@ -15,7 +15,8 @@ use Rattle.mama_payload.specs.declared.kind.Kind.TheVariants as kinds
 use Rattle.mama_payload.specs.declared.version.Version.{Version}
 use Rattle.mama_payload.specs.declared.fault.Rule.TheVariants as rules
 use Rattle.mama_msg.specs.Name.{is_name_byte, IsNameText}
-use Rattle.mama_payload.specs.Spelling.{kind_of, tag_of, signed, counted, listed, AreNumbers, value_bytes, field_bytes, IsInRange, IsField}
+use Rattle.mama_payload.specs.Spelling.{kind_of, tag_of, signed, counted, listed, value_bytes, field_bytes}
+use Rattle.mama_payload.specs.Spelled.{AreNumbers, IsInRange, IsField}
 use Rattle.mama_payload.specs.Stop.{fault_at}
 use Rattle.mama_payload.specs.Reading.{◌>>=◌, seen_as, byte_at, limited_at, number_at, signed_at, bytes_at, letters_at, flag_at, text_at, block_at, price_at, list_at, numbers_at, value_at, kind_with_tag, is_kind_of, if_kind_of, kind_in, known, kind_at, name_at, field_at}
 use Rattle.mama_payload.proofs.Steps.{IsBytes, bind_ok, ok_is, Reads, Reads-then, Reads-seen, Reads-guard, Spells, Spells-then, Spells-seen, Spells-guard}

@@ -13,7 +13,8 @@ use Rattle.mama_payload.specs.declared.fault.DecodeFault.{DecodeFault}
 use Rattle.mama_payload.specs.declared.fault.DecodeFault.TheVariants as faults
 use Rattle.mama_payload.specs.declared.version.Version.{Version}
 use Rattle.mama_payload.specs.declared.version.Version.TheVariants as versions
-use Rattle.mama_payload.specs.Spelling.{kind_of, is_numbers, has_numbers, version_of, first_byte, field_bytes, spelling, IsField, HasSpelling}
+use Rattle.mama_payload.specs.Spelling.{kind_of, is_numbers, has_numbers, version_of, first_byte, field_bytes, spelling}
+use Rattle.mama_payload.specs.Spelled.{IsField, HasSpelling}
 use Rattle.mama_payload.specs.Stop.{fault_at}
 use Rattle.mama_payload.specs.Reading.{◌>>=◌, byte_at, limited_at, known, field_at, fields_at, version_with_byte, version_at, has_old_form, message_at, ended, placed, decoded}
 use Rattle.mama_payload.proofs.Steps.{IsBytes, truncated, bind_ok, guard_ok, ok_is, Reads, Reads-then, Reads-guard}

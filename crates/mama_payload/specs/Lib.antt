@@ -3,3 +3,4 @@ pub mod Giving
 pub mod Spelling
 pub mod Reading
 pub mod Laws
+pub mod Spelled

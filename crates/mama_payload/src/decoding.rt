@@ -3,7 +3,8 @@ ghost use Rattle.std.specs.Prelude.{◌≡◌, ◌⊎◌, false, List, [], ◌�
 ghost use Rattle.mama_msg.specs.Field.{FieldData, key_of};
 ghost use Rattle.mama_msg.specs.Message.{has_key};
 ghost use Rattle.mama_payload.specs.Giving.{Gives, IsWithin};
-ghost use Rattle.mama_payload.specs.Spelling.{spelling, HasSpelling};
+ghost use Rattle.mama_payload.specs.Spelling.{spelling};
+ghost use Rattle.mama_payload.specs.Spelled.{HasSpelling};
 ghost use Rattle.mama_payload.specs.Reading.{field_at, fields_at, version_at, message_at, whole, broken, stopped, decoded};
 
 use crate::encoding::MAX_FIELDS;

@@ -1,6 +1,7 @@
 //! Messages as bytes.
 ghost use Rattle.std.specs.Prelude.{◌≡◌, ◌↔◌, ◌<◌, ◌≤◌, ◌∷◌, [], ◌++◌, length, IfOk, OnOk, Err};
-ghost use Rattle.mama_payload.specs.Spelling.{counted, listed, AreNumbers, value_bytes, field_bytes, spelling, IsInRange, IsField, HasSpelling};
+ghost use Rattle.mama_payload.specs.Spelling.{counted, listed, value_bytes, field_bytes, spelling};
+ghost use Rattle.mama_payload.specs.Spelled.{AreNumbers, IsInRange, IsField, HasSpelling};
 
 use crate::fault::EncodeFault;
 use crate::kind::Kind;

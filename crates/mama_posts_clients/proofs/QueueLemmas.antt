@@ -13,8 +13,10 @@ use Rattle.mama_journal.specs.EntryLaws.{puts-push}
 use Rattle.mama_journal.specs.Lane.{by_port}
 use Rattle.mama_event.specs.Lawful.{IsLawful}
 use Rattle.mama_event.specs.LawfulLaws.{IsLawful-prefix}
-use Rattle.mama_event.specs.ToQueue.{is_last, fits, note_of, delivered_note, replied_note}
-use Rattle.mama_event.specs.Wire.{Arrival, ReplyArrival, arrival_of, reply_of}
+use Rattle.mama_event.specs.ToQueue.{is_last, fits, note_of}
+use Rattle.mama_event.specs.Noted.{delivered_note, replied_note}
+use Rattle.mama_event.specs.Wire.{arrival_of, reply_of}
+use Rattle.mama_event.specs.Arrival.{Arrival, ReplyArrival}
 use Rattle.mama_event.specs.declared.ids.SubId.{SubId}
 use Rattle.mama_event.specs.declared.ids.InboxId.{InboxId}
 use Rattle.mama_event.specs.Listener.{ListenerData}

@@ -20,8 +20,8 @@ use Rattle.mama_event.specs.declared.to_bridge.BridgeNote.{BridgeNote}
 use Rattle.mama_event.specs.declared.to_bridge.BridgeNote.TheVariants as b
 use Rattle.mama_event.specs.Ports.{clients_of}
 use Rattle.mama_event.specs.Object.{same_sub, same_inbox, same_object}
-use Rattle.mama_event.specs.Wire.{arriving, answering, cut_arrival, cut_reply}
-use Rattle.mama_event.specs.ToQueue.{delivered_note, replied_note}
+use Rattle.mama_event.specs.Arrival.{arriving, answering, cut_arrival, cut_reply}
+use Rattle.mama_event.specs.Noted.{delivered_note, replied_note}
 use Rattle.mama_rules_services.specs.Bridge.{BridgePut, to_publisher, to_queue, to_timers, heard, window, reply_window}
 use Rattle.mama_rules_queue.specs.Queue.{QueuePut}
 use Rattle.mama_rules_queue.specs.Queue as queue

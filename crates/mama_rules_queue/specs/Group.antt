@@ -85,22 +85,3 @@ group_notes_at orders members before e =
 -- what a group hears of a whole journal
 abbrev pub group_notes : (ObjectId → ℕ → List Order) → List SubId → List (ℕ × QueueNote) → List GroupNote
 group_notes orders members journal = puts (group_notes_at orders members) journal
-
--- THE SAME BY WHAT THE GROUP HAS HEARD, turn by turn
-
--- the callbacks of a member among the notes of its group
-abbrev pub told_of : SubId → GroupNote → List Callback
-told_of s (note.Call sub call) = if same_sub sub s then call ∷ [] else []
-told_of s (note.State now) = []
-
--- the state of a group that has heard these notes
-abbrev pub state_after : List SubId → List GroupNote → GroupState
-state_after members notes = state_of (map (λ s. member_by (flat_map (told_of s) notes)) members)
-
--- some callbacks of one member, as the group hears them
-abbrev pub calls_heard : SubId → List Callback → List GroupNote
-calls_heard s calls = map (λ call. note.Call s call) calls
-
--- what a group that has heard these notes hears in a turn in which a member was called back so
-abbrev pub turn_notes : List SubId → List GroupNote → SubId → List Callback → List GroupNote
-turn_notes members notes s calls = calls_heard s calls ++ state_told (state_after members notes) (state_after members (notes ++ calls_heard s calls))

@@ -20,7 +20,8 @@ use Rattle.mama_event.specs.declared.to_queue.QueueNote.{QueueNote}
 use Rattle.mama_event.specs.declared.watch.WatchRow.{WatchRow}
 use Rattle.mama_event.specs.declared.watch.WatchNote.{WatchNote}
 use Rattle.mama_event.specs.Listener.{ListenerData}
-use Rattle.mama_rules_queue.specs.Group.{group_notes, group_notes_at, state_after, state_told, turn_notes}
+use Rattle.mama_rules_queue.specs.Group.{group_notes, group_notes_at, state_told}
+use Rattle.mama_rules_queue.specs.GroupTurns.{state_after, turn_notes}
 use Rattle.mama_rules_queue.specs.Queue.{Deed, calls_in, calls_of, deeds, deeds_at}
 use Rattle.mama_rules_queue.specs.Watch.{watch_notes, wishes_at}
 use Rattle.mama_dispatch.specs.Journals.{noted, notes_of}

@@ -15,8 +15,8 @@ use Rattle.mama_event.specs.declared.to_queue.QueueNote.TheVariants as q
 use Rattle.mama_event.specs.EqualityLaws.{same_sub-Decides}
 use Rattle.mama_event.specs.Listener.{ListenerData}
 use Rattle.mama_event.specs.Object.{same_sub, same_object}
-use Rattle.mama_event.specs.ToQueue.{delivered_note, replied_note}
-use Rattle.mama_event.specs.Wire.{Arrival, ReplyArrival, code_of}
+use Rattle.mama_event.specs.Noted.{delivered_note, replied_note}
+use Rattle.mama_event.specs.Arrival.{Arrival, ReplyArrival, code_of}
 use Rattle.std.specs.Prelude.{Ok, Err}
 use Rattle.mama_dq.specs.Strategy.{callbacks_of}
 use Rattle.mama_rules_queue.specs.Queue.{Deed, handled, called, calls_of, is_destroy, is_muted, made, make_in, context_of, messages_of, served}

@@ -18,7 +18,7 @@ use Rattle.mama_event.specs.declared.watch.WatchRow.{WatchRow}
 use Rattle.mama_event.specs.declared.watch.WatchNote.{WatchNote}
 use Rattle.mama_event.specs.declared.watch.WatchNote.TheVariants.{Retry, Timeout}
 use Rattle.mama_event.specs.Object.{same_timer}
-use Rattle.mama_event.specs.Wire.{code_of}
+use Rattle.mama_event.specs.Arrival.{code_of}
 use Rattle.mama_event.specs.EqualityLaws.{same_timer-Decides}
 use Rattle.mama_rules_queue.specs.Queue.{Deed, handled, called, calls_of, made, is_muted, is_destroy, served, deeds, deeds_at}
 use Rattle.mama_rules_queue.specs.Watch as rules

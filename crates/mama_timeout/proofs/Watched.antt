@@ -14,7 +14,7 @@ use Rattle.mama_event.specs.declared.to_queue.QueueNote.TheVariants as q
 use Rattle.mama_event.specs.declared.watch.WatchRow.{WatchRow}
 use Rattle.mama_event.specs.Listener.{ListenerData}
 use Rattle.mama_event.specs.Object.{same_timer}
-use Rattle.mama_event.specs.Wire.{code_of}
+use Rattle.mama_event.specs.Arrival.{code_of}
 use Rattle.mama_event.specs.EqualityLaws.{same_timer-Decides}
 use Rattle.mama_dq.specs.Strategy.{callbacks_of}
 use Rattle.mama_journal.specs.Journal.{first_said}

@@ -1,5 +1,6 @@
 use Rattle.std.proofs.Common.{ℕ, ◌+◌, List, [], ◌∷◌, ◌++◌, length, sym, ◌∙◌, ap, subst}
-use Rattle.mama_link.specs.Link.{Standing, StandsFor, emit}
+use Rattle.mama_link.specs.Link.{emit}
+use Rattle.mama_link.specs.Standing.{Standing, StandsFor}
 use Rattle.mama_bridge.specs.Links.{cut_bytes}
 use Rattle.mama_bridge.proofs.inboxes.answer.Goals as goal
 

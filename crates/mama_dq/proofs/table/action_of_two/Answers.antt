@@ -6,7 +6,8 @@ use Rattle.mama_dq.specs.declared.table.Phase.TheVariants.{Await, LiveOk, LiveSt
 use Rattle.mama_dq.specs.declared.table.Relation.{Relation}
 use Rattle.mama_dq.specs.declared.table.Action.{Action}
 use Rattle.mama_dq.specs.declared.table.Action.TheVariants.{Keep, Apply, ApplyKeep, Ignore, Gap, Switch, Replace, Heal, Adopt, StartKeep, Catch, Late, KeepLate}
-use Rattle.mama_dq.specs.Table.{decided, phase_number, relation_number, kind_number}
+use Rattle.mama_dq.specs.Table.{decided}
+use Rattle.mama_dq.specs.Cells.{phase_number, relation_number, kind_number}
 use Rattle.mama_dq.proofs.Cells.{each_cell}
 use Rattle.mama_dq.proofs.table.action_of_two.Goals as goal
 

@@ -1,6 +1,7 @@
 use Rattle.std.proofs.Common.{◌≡◌, ◌++◌, map, take}
 use Rattle.std.specs.Prelude.{fold}
-use Rattle.mama_rules_queue.specs.Group.{member_after, calls_heard}
+use Rattle.mama_rules_queue.specs.Group.{member_after}
+use Rattle.mama_rules_queue.specs.GroupTurns.{calls_heard}
 use Rattle.mama_group.specs.Kept.{member_of}
 use Rattle.mama_group.proofs.group.add_calls.Given as goal
 

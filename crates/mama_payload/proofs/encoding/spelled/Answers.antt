@@ -1,7 +1,8 @@
 use Rattle.std.proofs.Common.{◌≡◌, ℕ, ◌+◌, List, [], ◌∷◌, ◌++◌, length, take, sym, ap, ◌∙◌}
 use Rattle.std.specs.List.{flat_map}
 use Rattle.mama_msg.specs.Field.{FieldData}
-use Rattle.mama_payload.specs.Spelling.{field_bytes, version_of, first_byte, IsField}
+use Rattle.mama_payload.specs.Spelling.{field_bytes, version_of, first_byte}
+use Rattle.mama_payload.specs.Spelled.{IsField}
 use Rattle.mama_payload.proofs.Loops.{take-next, flat_map-push, each_push}
 use Rattle.mama_payload.proofs.encoding.spelled.Goals as goal
 

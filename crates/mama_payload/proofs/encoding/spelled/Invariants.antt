@@ -1,6 +1,7 @@
 use Rattle.std.proofs.Common.{◌≡◌, ◌∷◌, length, take}
 use Rattle.std.specs.List.{flat_map, AllByRecursion}
-use Rattle.mama_payload.specs.Spelling.{field_bytes, version_of, first_byte, IsField}
+use Rattle.mama_payload.specs.Spelling.{field_bytes, version_of, first_byte}
+use Rattle.mama_payload.specs.Spelled.{IsField}
 use Rattle.mama_payload.proofs.encoding.spelled.Given as goal
 
 -- the version, the count and the fields so far

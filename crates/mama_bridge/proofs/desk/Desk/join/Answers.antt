@@ -1,6 +1,6 @@
 use Rattle.std.specs.Prelude.{position}
 use Rattle.std.proofs.Common.{List, Bool, ℕ, ◌≡◌, ◌∙◌, ◌==◌, ◌++◌, sym, ap, subst, false, [], ◌∷◌, map}
-use Rattle.mama_link.specs.Link.{standing_after}
+use Rattle.mama_link.specs.Standing.{standing_after}
 use Rattle.mama_event.specs.declared.ids.InboxId.{InboxId}
 use Rattle.mama_event.specs.declared.ids.ObjectId.TheVariants.{Sub}
 use Rattle.mama_event.specs.declared.market.MsgKind.TheVariants.{Initial}

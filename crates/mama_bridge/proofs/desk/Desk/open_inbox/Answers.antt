@@ -1,5 +1,5 @@
 use Rattle.std.proofs.Common.{ℕ, ◌++◌, ◌≡◌, ◌∙◌, sym, ap, false, [], map, append-nil}
-use Rattle.mama_link.specs.Link.{standing_after}
+use Rattle.mama_link.specs.Standing.{standing_after}
 use Rattle.mama_event.specs.declared.ids.ObjectId.TheVariants.{Inbox}
 use Rattle.mama_event.specs.declared.to_queue.Make.TheVariants as make
 use Rattle.mama_rules_services.specs.Bridge.{opens}

@@ -1,7 +1,7 @@
 use Rattle.std.specs.Prelude.{not}
 use Rattle.std.specs.Result.{OnOk}
 use Rattle.std.proofs.Common.{ℕ, Bool, false, ◌&&◌, [], ◌∷◌, ap, sym, ◌∙◌, subst}
-use Rattle.mama_event.specs.Wire.{code_of}
+use Rattle.mama_event.specs.Arrival.{code_of}
 use Rattle.mama_event.specs.declared.callback.Callback.TheVariants as on
 use Rattle.mama_plans.specs.Orders.{orders_in}
 use Rattle.mama_check_queue.specs.Replay.{Makes}

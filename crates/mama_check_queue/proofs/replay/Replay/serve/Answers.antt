@@ -2,7 +2,7 @@ use Rattle.std.specs.Result.{OnOk}
 use Rattle.std.proofs.Common.{List, [], ◌∷◌, sym, refl, subst}
 use Rattle.std.proofs.lemmas.Result.{on_ok_weaker}
 use Rattle.mama_msg.specs.Field.{FieldData}
-use Rattle.mama_event.specs.Wire.{code_of}
+use Rattle.mama_event.specs.Arrival.{code_of}
 use Rattle.mama_event.specs.declared.ids.ObjectId.TheVariants.{Sub, Timer, Inbox}
 use Rattle.mama_event.specs.declared.callback.Callback.TheVariants as on
 use Rattle.mama_event.specs.declared.to_queue.QueueNote.{QueueNote}

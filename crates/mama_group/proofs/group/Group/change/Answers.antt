@@ -6,7 +6,8 @@ use Rattle.mama_event.specs.declared.callback.Callback.{Callback}
 use Rattle.mama_event.specs.declared.callback.CallNote.{CallNote}
 use Rattle.mama_event.specs.declared.group.GroupNote.{GroupNote}
 use Rattle.mama_event.specs.declared.group.GroupState.{GroupState}
-use Rattle.mama_rules_queue.specs.Group.{member_by, told_of, calls_heard, state_told}
+use Rattle.mama_rules_queue.specs.Group.{member_by, state_told}
+use Rattle.mama_rules_queue.specs.GroupTurns.{told_of, calls_heard}
 use Rattle.mama_group.specs.declared.counts.Counts.{Counts}
 use Rattle.mama_group.specs.Kept.{state_by}
 use Rattle.mama_group.proofs.Changing.{there_is, turn_bounded, turn_is}

@@ -7,7 +7,8 @@ use Rattle.mama_event.specs.declared.ids.SubId.{SubId}
 use Rattle.mama_event.specs.declared.callback.Callback.{Callback}
 use Rattle.mama_event.specs.declared.callback.CallNote.{CallNote}
 use Rattle.mama_event.specs.declared.group.GroupNote.{GroupNote}
-use Rattle.mama_rules_queue.specs.Group.{member_by, told_of, turn_notes}
+use Rattle.mama_rules_queue.specs.Group.{member_by}
+use Rattle.mama_rules_queue.specs.GroupTurns.{told_of, turn_notes}
 use Rattle.mama_group.specs.declared.group.Group.{Group}
 use Rattle.mama_group.specs.declared.table.Place.{Place}
 use Rattle.mama_group.specs.Listener.{told}

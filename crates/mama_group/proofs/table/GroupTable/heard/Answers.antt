@@ -1,6 +1,6 @@
 use Rattle.std.proofs.Common.{◌≡◌, true, length, Option, subst, sym, ap, ◌∙◌}
 use Rattle.std.specs.List.{AllByRecursion, flat_map}
-use Rattle.mama_rules_queue.specs.Group.{told_of}
+use Rattle.mama_rules_queue.specs.GroupTurns.{told_of}
 use Rattle.mama_group.specs.declared.table.Place.{Place}
 use Rattle.mama_group.specs.Listener.{told}
 use Rattle.mama_group.specs.Table.{GroupData, has_member, heard_in}

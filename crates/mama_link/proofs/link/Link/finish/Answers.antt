@@ -1,5 +1,6 @@
 use Rattle.std.proofs.Common.{◌∙◌, ◌++◌, ◌≤◌, rules, List, ap, arith, length}
-use Rattle.mama_link.specs.Link.{LinkData, Standing, messages}
+use Rattle.mama_link.specs.Link.{messages}
+use Rattle.mama_link.specs.Standing.{LinkData, Standing}
 use Rattle.mama_link.proofs.PassLemmas.{length-messages}
 use Rattle.mama_link.proofs.link.Link.finish.Goals as goal
 

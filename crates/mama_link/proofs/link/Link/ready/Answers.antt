@@ -4,7 +4,8 @@ use Rattle.std.proofs.lemmas.Result.{IfOk-weaker}
 use Rattle.mama_link.specs.declared.faults.Fault.{Fault}
 use Rattle.mama_link.specs.declared.faults.FaultRow.{FaultRow}
 use Rattle.mama_link.specs.Table.{table_of, slots_due}
-use Rattle.mama_link.specs.Link.{LinkData, StandsFor, emit}
+use Rattle.mama_link.specs.Link.{emit}
+use Rattle.mama_link.specs.Standing.{LinkData, StandsFor}
 use Rattle.mama_link.specs.Prepared.{Readied, IsPreparedFor}
 use Rattle.mama_link.specs.Slots.{fault_here, found_at, IsKept}
 use Rattle.mama_link.proofs.PassLemmas.{seen, is_prepared, prepared_len}
