@@ -15,7 +15,7 @@ use Rattle.mama_dispatch.proofs.PlaceLemmas.{none_seated, seat_at, row_there}
 -- a list in memory has no more notes than a listener counts
 pub rows_few : {L : Type 0} (view : L → ListenerData) (rows : List (Row L)) → AreFew (map (row_data view) rows)
 rows_few view [] = tt
-rows_few view (r ∷ rows) = (omega (arith, r.calls.ok.0, r.calls.ok.1, r.calls.small), rows_few view rows)
+rows_few view (r ∷ rows) = (omega (arith, r.calls.notes.ok.0, r.calls.notes.ok.1, r.calls.notes.small), rows_few view rows)
 
 pub some_map : {A B : Type 0} (f : A → B) (x : Option A) → is_some (option_map f x) ≡ is_some x
 some_map f None = refl

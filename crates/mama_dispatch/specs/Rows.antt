@@ -1,5 +1,5 @@
 -- inner: A row of the table in which a queue keeps its objects, as contracts see it.
-use Rattle.std.specs.Prelude.{◌≡◌, ◌-◌, ◌^◌, ◌<◌, ◌≤◌, List, length, map, vec_len, vec_capacity}
+use Rattle.std.specs.Prelude.{◌≡◌, ◌^◌, ◌<◌, ◌≤◌, List, length, map}
 use Rattle.std.specs.Option.{option_map}
 use Rattle.mama_event.specs.declared.ids.ObjectId.{ObjectId}
 use Rattle.mama_event.specs.Listener.{ListenerData}
@@ -14,8 +14,8 @@ row_data view r = record {
   listener = option_map view r.listener;
   muted = r.muted;
   context = r.context;
-  calls = r.calls.items;
-  room = vec_capacity r.calls - vec_len r.calls;
+  calls = r.calls.notes.items;
+  room = r.calls.room;
 }
 
 -- a cache holds no more updates than its size, which is a number of 32 bits

@@ -14,6 +14,7 @@ mod callbacks;
 mod calling;
 mod entries;
 mod laws;
+mod noted_calls;
 mod notes;
 mod puts;
 mod row;

@@ -161,9 +161,9 @@ pub(crate) fn calls_of_rows<L: Listener>(
             listener: _,
             muted: _,
             context: _,
-            calls: notes,
+            calls: noted,
         } = row;
-        calls.push_reserved((object, notes));
+        calls.push_reserved((object, noted.into_notes()));
     }
     calls
 }

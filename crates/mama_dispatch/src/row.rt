@@ -1,4 +1,4 @@
-ghost use Rattle.std.specs.Prelude.{◌≡◌, ◌+◌, ◌<◌, ◌||◌, [], ◌∷◌, ◌++◌, true, is_some, ◌-◌, ◌≤◌, ◌*◌, ◌^◌, length, vec_len, vec_capacity, Some, None, OnOk, OnErr, IfOk};
+ghost use Rattle.std.specs.Prelude.{◌≡◌, ◌+◌, ◌<◌, ◌||◌, [], ◌∷◌, ◌++◌, true, is_some, ◌≤◌, ◌*◌, ◌^◌, length, Some, None, OnOk, OnErr, IfOk};
 ghost use Rattle.std.specs.Option.{option_map};
 ghost use Rattle.mama_dq.specs.Strategy.{callbacks_of};
 ghost use Rattle.mama_event.specs.Listener.{told};
@@ -10,10 +10,10 @@ ghost use Rattle.mama_dispatch.specs.Images.{lent, image_at};
 ghost use Rattle.mama_dispatch.specs.Journals.{image_in};
 
 use crate::calling::make;
+use crate::noted_calls::NotedCalls;
 use mama_dq::{Calls, DqContext};
 use mama_event::{
-    CallNote, Callback, ImageHead, Listener, Make, MarketMsg, ObjectId, Orders, Quality, Strategy,
-    SubKind,
+    Callback, ImageHead, Listener, Make, MarketMsg, ObjectId, Orders, Quality, Strategy, SubKind,
 };
 use mama_memory::{Duplicate, OutOfMemory};
 use mama_msg::Msg;
@@ -27,7 +27,7 @@ pub(crate) struct Row<L> {
     pub(crate) listener: Option<L>,
     pub(crate) muted: bool,
     pub(crate) context: DqContext,
-    pub(crate) calls: Vec<CallNote>,
+    pub(crate) calls: NotedCalls,
 }
 
 /// Makes a callback of the object's listener, which is there. The answer is what it ordered.
@@ -44,15 +44,12 @@ pub(crate) fn hear<L: Listener>(listener: &mut Option<L>, call: &Callback) -> Or
 /// Makes a callback of a row, and notes it. The answer is what was ordered.
 pub(crate) fn make_at<L: Listener>(row: &mut Row<L>, call: Callback) -> Orders
     requires here { is_some row.old.listener ≡ true }
-    requires room { vec_len row.old.calls < vec_capacity row.old.calls }
+    requires room { 0 < row.old.calls.room }
     ensures heard { HeardIn call (option_map (told L.tagged L.calls L.heard L.given L.plan) row.old.listener) (option_map (told L.tagged L.calls L.heard L.given L.plan) row.new.listener) result }
     ensures row { row_data (told L.tagged L.calls L.heard L.given L.plan) row.new ≡ called_with call result (option_map (told L.tagged L.calls L.heard L.given L.plan) row.new.listener) (row_data (told L.tagged L.calls L.heard L.given L.plan) row.old) }
 {
     let orders = hear(&mut row.listener, &call);
-    row.calls.push_reserved(CallNote {
-        call,
-        orders: orders.copied(),
-    });
+    row.calls.push(call, &orders);
     orders
 }
 
@@ -90,10 +87,10 @@ pub(crate) fn step_at<L: Listener>(
 
 /// Makes room for more callbacks at a row.
 pub(crate) fn reserve_at<L: Listener>(row: &mut Row<L>, more: usize) -> Result<(), OutOfMemory>
-    ensures row { row_data (told L.tagged L.calls L.heard L.given L.plan) row.new ≡ with_room (vec_capacity row.new.calls - vec_len row.new.calls) (row_data (told L.tagged L.calls L.heard L.given L.plan) row.old) }
-    ensures ok { OnOk result (more ≤ vec_capacity row.new.calls - vec_len row.new.calls) }
+    ensures row { row_data (told L.tagged L.calls L.heard L.given L.plan) row.new ≡ with_room row.new.calls.room (row_data (told L.tagged L.calls L.heard L.given L.plan) row.old) }
+    ensures ok { OnOk result (more ≤ row.new.calls.room) }
 {
-    Ok(row.calls.reserve(more)?)
+    row.calls.reserve(more)
 }
 
 /// The context of a new object.
@@ -117,10 +114,10 @@ pub(crate) fn new_row<L: Listener>(
     object: ObjectId,
     make: Make,
     listener: L,
-    calls: Vec<CallNote>,
+    calls: NotedCalls,
 ) -> Row<L>
-    requires { calls.items ≡ [] }
-    ensures row { row_data (told L.tagged L.calls L.heard L.given L.plan) result ≡ new_seat object make (told L.tagged L.calls L.heard L.given L.plan listener) (vec_capacity calls - vec_len calls) }
+    requires { calls.notes.items ≡ [] }
+    ensures row { row_data (told L.tagged L.calls L.heard L.given L.plan) result ≡ new_seat object make (told L.tagged L.calls L.heard L.given L.plan listener) calls.room }
     ensures small { IsSmall result.context.cache }
 {
     Row {

@@ -1,4 +1,4 @@
-ghost use Rattle.std.specs.Prelude.{◌≡◌, ◌*◌, ◌^◌, ◌<◌, ◌≤◌, true, false, [], ◌∷◌, ◌++◌, ◌-◌, map, length, is_some, Some, None, OnOk, OnErr, IfOk, IfErr, IfSome, IfNone, vec_len, vec_capacity};
+ghost use Rattle.std.specs.Prelude.{◌≡◌, ◌*◌, ◌^◌, ◌<◌, ◌≤◌, true, false, [], ◌∷◌, ◌++◌, map, length, is_some, Some, None, OnOk, OnErr, IfOk, IfErr, IfSome, IfNone};
 ghost use Rattle.std.specs.List.{list_any};
 ghost use Rattle.mama_event.specs.Object.{same_object};
 ghost use Rattle.mama_event.specs.declared.market.MarketMsg.{MarketMsg};
@@ -14,6 +14,7 @@ ghost use Rattle.mama_dispatch.specs.Served.{calls_at};
 ghost use Rattle.mama_dispatch.specs.Images.{lent, image_at};
 ghost use Rattle.mama_dispatch.specs.Rows.{row_data};
 
+use crate::noted_calls::NotedCalls;
 use crate::row::{
     ImageRow, Row, image_of, live_image, make_at, most_calls, mute_at, new_row, reserve_at,
     step_at, take_at,
@@ -150,7 +151,7 @@ impl<L: Listener> Seats<L> {
         ensures { result.now ≡ calls_at object.now self.now }
     {
         match self.place(object) {
-            Some(place) => self.rows[place].calls.as_slice(),
+            Some(place) => self.rows[place].calls.notes.as_slice(),
             None => &[],
         }
     }
@@ -255,7 +256,7 @@ impl<L: Listener> Seats<L> {
         ensures err { OnErr result (self.new ≡ self.old) }
         ensures back { IfErr result (λ given. given ≡ listener) }
     {
-        let Ok(calls) = room_for_calls(alloc) else {
+        let Ok(calls) = NotedCalls::new(alloc) else {
             return Err(listener);
         };
         if self.rows.reserve(1).is_err() || add_place(&mut self.places, object).is_err() {
@@ -302,14 +303,6 @@ impl<L: Listener> Seats<L> {
         let place = self.live_place(object);
         most_calls(&self.rows[place].context)
     }
-}
-
-/// A list with room for the first callbacks of an object.
-fn room_for_calls(alloc: Global) -> Result<Vec<CallNote>, OutOfMemory>
-    ensures items { IfOk result (λ calls. calls.items ≡ []) }
-    ensures room { IfOk result (λ calls. 1 ≤ vec_capacity calls - vec_len calls) }
-{
-    Ok(Vec::with_capacity(alloc, 4)?)
 }
 
 /// Adds an object to the index.

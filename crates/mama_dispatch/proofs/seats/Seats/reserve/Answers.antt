@@ -1,8 +1,7 @@
 use Rattle.std.specs.Prelude.{map, Option}
 use Rattle.std.specs.Option.{option_map_or}
-use Rattle.std.proofs.Common.{ℕ, ◌-◌, ◌≤◌, refl, ap, sym, ◌∙◌, subst}
+use Rattle.std.proofs.Common.{ℕ, ◌≤◌, refl, ap, sym, ◌∙◌, subst}
 use Rattle.std.proofs.lemmas.Result.{on_ok_weaker}
-use Rattle.std.specs.Vec.{vec_len, vec_capacity}
 use Rattle.mama_event.specs.Listener.{told}
 use Rattle.mama_dispatch.specs.Seats.{SeatData, at, with_room}
 use Rattle.mama_dispatch.specs.Rows.{row_data}
@@ -10,15 +9,15 @@ use Rattle.mama_dispatch.proofs.PlaceLemmas.{changed}
 use Rattle.mama_dispatch.proofs.seats.Seats.reserve.Goals as goal
 
 pub invariant_of-self : goal.invariant_of-self
-invariant_of-self g c = (changed (row_data (told g.L.Tagged.tagged g.L.Listener.calls g.L.Listener.heard g.L.Listener.given g.L.Listener.plan)) c.self.inside.rows.items c.self.inside.places.keys c.live_place-place.result c.index_mut.result.now c.reserve_at.new.row c.args.object.now (with_room (vec_capacity c.reserve_at.new.row.calls - vec_len c.reserve_at.new.row.calls)) c.args.self.now (λ x. refl) (λ x small. small) c.self.view_is c.self.invariant c.live_place-place.ensures c.index_mut.ensures.value c.reserve_at.ensures.row).kept
+invariant_of-self g c = (changed (row_data (told g.L.Tagged.tagged g.L.Listener.calls g.L.Listener.heard g.L.Listener.given g.L.Listener.plan)) c.self.inside.rows.items c.self.inside.places.keys c.live_place-place.result c.index_mut.result.now c.reserve_at.new.row c.args.object.now (with_room c.reserve_at.new.row.calls.room) c.args.self.now (λ x. refl) (λ x small. small) c.self.view_is c.self.invariant c.live_place-place.ensures c.index_mut.ensures.value c.reserve_at.ensures.row).kept
 
 pub returns-clause-seats : goal.returns-clause-seats
 returns-clause-seats g c =
-    let change = changed (row_data (told g.L.Tagged.tagged g.L.Listener.calls g.L.Listener.heard g.L.Listener.given g.L.Listener.plan)) c.self.inside.rows.items c.self.inside.places.keys c.live_place-place.result c.index_mut.result.now c.reserve_at.new.row c.args.object.now (with_room (vec_capacity c.reserve_at.new.row.calls - vec_len c.reserve_at.new.row.calls)) c.args.self.now (λ x. refl) (λ x small. small) c.self.view_is c.self.invariant c.live_place-place.ensures c.index_mut.ensures.value c.reserve_at.ensures.row in
+    let change = changed (row_data (told g.L.Tagged.tagged g.L.Listener.calls g.L.Listener.heard g.L.Listener.given g.L.Listener.plan)) c.self.inside.rows.items c.self.inside.places.keys c.live_place-place.result c.index_mut.result.now c.reserve_at.new.row c.args.object.now (with_room c.reserve_at.new.row.calls.room) c.args.self.now (λ x. refl) (λ x small. small) c.self.view_is c.self.invariant c.live_place-place.ensures c.index_mut.ensures.value c.reserve_at.ensures.row in
     change.seats ∙ ap (λ (n : ℕ). map (at c.args.object.now (with_room n)) c.args.self.now) (sym (ap (λ (s : Option SeatData). option_map_or (λ (x : SeatData). x.room) s 0) change.is))
 
 pub returns-clause-ok : goal.returns-clause-ok
 returns-clause-ok g c =
-    let change = changed (row_data (told g.L.Tagged.tagged g.L.Listener.calls g.L.Listener.heard g.L.Listener.given g.L.Listener.plan)) c.self.inside.rows.items c.self.inside.places.keys c.live_place-place.result c.index_mut.result.now c.reserve_at.new.row c.args.object.now (with_room (vec_capacity c.reserve_at.new.row.calls - vec_len c.reserve_at.new.row.calls)) c.args.self.now (λ x. refl) (λ x small. small) c.self.view_is c.self.invariant c.live_place-place.ensures c.index_mut.ensures.value c.reserve_at.ensures.row in
+    let change = changed (row_data (told g.L.Tagged.tagged g.L.Listener.calls g.L.Listener.heard g.L.Listener.given g.L.Listener.plan)) c.self.inside.rows.items c.self.inside.places.keys c.live_place-place.result c.index_mut.result.now c.reserve_at.new.row c.args.object.now (with_room c.reserve_at.new.row.calls.room) c.args.self.now (λ x. refl) (λ x small. small) c.self.view_is c.self.invariant c.live_place-place.ensures c.index_mut.ensures.value c.reserve_at.ensures.row in
     let is = ap (λ (s : Option SeatData). option_map_or (λ (x : SeatData). x.room) s 0) change.is in
     on_ok_weaker c.reserve_at.result (λ enough. subst (λ (n : ℕ). c.args.more ≤ n) (sym is) enough) c.reserve_at.ensures.ok
