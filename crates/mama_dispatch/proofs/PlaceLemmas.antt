@@ -1,5 +1,6 @@
 -- The seat at an object's place, and what a change there is of all seats.
 use Rattle.std.specs.Prelude.{map, Result, Ok, Err, is_ok, OnOk, Option, Some, None, IfSome, IfNone, is_some, nat_lt, not, position, if◌then◌else◌}
+use Rattle.std.specs.Bool.{OnTrue}
 use Rattle.std.specs.List.{list_any, prefix_len}
 use Rattle.std.specs.Option.{option_and_then}
 use Rattle.std.proofs.Common.{◌≡◌, ℕ, zero, suc, ◌+◌, ◌<◌, Bool, true, false, cond, ◌||◌, ◌&&◌, List, [], ◌∷◌, ◌++◌, length, get_or, refl, ap, sym, ◌∙◌, subst, arith}
@@ -14,7 +15,7 @@ use Rattle.mama_event.specs.Object.{same_object}
 use Rattle.mama_event.specs.Listener.{ListenerData}
 use Rattle.mama_dispatch.specs.Seats.{SeatData, has_seat, AreApart, seat_of, listener_in, HeardIn, at, muted_by, muted_by_all, muted_where_live}
 use Rattle.mama_rules_queue.specs.Queue.{ends}
-use Rattle.mama_dispatch.specs.Places.{IsPlace, IsEnded}
+use Rattle.mama_dispatch.specs.Places.{IsPlace, IsSeatOf, IsEnded}
 use Rattle.mama_dispatch.specs.Rows.{IsSmall, AreSmall, AreKept}
 use Rattle.mama_dispatch.proofs.AllLemmas.{all_change, all_more}
 use Rattle.mama_dispatch.proofs.DeedLemmas.{same_object-true, same_object-sym}
@@ -75,6 +76,33 @@ place_later o i s ss place = record {
   this = λ d. place.this d;
   before = λ k d below. place.before (suc k) d (omega arith);
 }
+
+-- A SEAT THAT IS GUESSED
+
+-- where a seat is the object's, the object has a seat
+seat_within : (o : ObjectId) (i : ℕ) (ss : List SeatData) → IsSeatOf o i ss → has_seat o ss ≡ true
+seat_within o i [] seat = absurd (omega (arith, seat.within))
+seat_within o zero (s ∷ ss) seat = ap (λ (b : Bool). b || has_seat o ss) (seat.this s)
+seat_within o (suc i) (s ∷ ss) seat =
+    ap (λ (b : Bool). same_object o s.object || b) (seat_within o i ss (record { within = omega (arith, seat.within); this = λ d. seat.this d }))
+    ∙ elim (same_object o s.object) as (λ b. (b || true) ≡ true) [ true ↦ refl | false ↦ refl ]
+
+-- no seat before it is the object's, as no two are of one object
+none_before : (o : ObjectId) (i k : ℕ) (ss : List SeatData) (d : SeatData) → IsSeatOf o i ss → AreApart ss → k < i → same_object o (get_or ss k d).object ≡ false
+none_before o i k [] d seat apart below = absurd (omega (arith, seat.within))
+none_before o zero k (s ∷ ss) d seat apart below = absurd (omega (arith, below))
+none_before o (suc i) zero (s ∷ ss) d seat apart below =
+    let later : has_seat o ss ≡ true = seat_within o i ss (record { within = omega (arith, seat.within); this = λ e. seat.this e }) in
+    elim (same_object o s.object) as (λ b. same_object o s.object ≡ b → b ≡ false) [
+      | true ↦ λ same. absurd (false≢true (sym apart.0 ∙ ap (λ (x : ObjectId). has_seat x ss) (sym (same_object-true o s.object same)) ∙ later))
+      | false ↦ λ other. refl
+    ] refl
+none_before o (suc i) (suc k) (s ∷ ss) d seat apart below =
+    none_before o i k ss d (record { within = omega (arith, seat.within); this = λ e. seat.this e }) apart.1 (omega (arith, below))
+
+-- so it is the object's place
+pub place_guessed : (o : ObjectId) (i : ℕ) (ss : List SeatData) → IsSeatOf o i ss → AreApart ss → IsPlace o i ss
+place_guessed o i ss seat apart = record { within = seat.within; this = λ d. seat.this d; before = λ k d below. none_before o i k ss d seat apart below }
 
 -- where no seat is the object's, nothing changes
 pub none_changed : (o : ObjectId) (f : SeatData → SeatData) (ss : List SeatData) → has_seat o ss ≡ false → map (at o f) ss ≡ ss
@@ -164,6 +192,11 @@ list_any_same p q (x ∷ xs) same = ap (λ (b : Bool). b || list_any p xs) (same
 pub on_ok : {T E P : Type 0} (r : Result T E) → is_ok r ≡ true → OnOk r P → P
 on_ok (Ok x) went h = h
 on_ok (Err e) went h = absurd (false≢true went)
+
+-- what holds where a test told so
+pub on_true : {P : Type 0} (b : Bool) → b ≡ true → OnTrue b P → P
+on_true true told h = h
+on_true false told h = absurd (false≢true told)
 
 -- WHAT A CHANGE OF ONE ROW IS OF ALL SEATS
 

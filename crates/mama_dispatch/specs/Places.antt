@@ -8,6 +8,11 @@ use Rattle.mama_event.specs.Object.{same_object}
 use Rattle.mama_rules_queue.specs.Queue.{ends}
 use Rattle.mama_dispatch.specs.Seats.{SeatData, new_seat}
 
+-- a seat of this object stands there
+pub record IsSeatOf (o : ObjectId) (place : ℕ) (seats : List SeatData) : Type 0 where
+  pub within : place < length seats
+  pub this : (d : SeatData) → same_object o (slice_index_or seats place d).object ≡ true
+
 -- the first seat of this object stands there
 pub record IsPlace (o : ObjectId) (place : ℕ) (seats : List SeatData) : Type 0 where
   pub within : place < length seats

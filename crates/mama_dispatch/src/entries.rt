@@ -178,9 +178,9 @@ fn serve_gone<L: Listener, M: Tagged>(
     Ok(Turn::Ended { object, listener })
 }
 
-/// Serves what was read of an event that is no Create. The code is that of the bytes, where they spell no message.
+/// Serves what was read of an event that is no Create, by the kind of its note.
 #[tactic(auto, using(crate::proofs::AppendLemmas::appended_same))]
-fn serve_read<L: Listener, M: Tagged>(
+fn serve_noted<L: Listener, M: Tagged>(
     alloc: Global,
     seats: &mut Seats<L>,
     note: &QueueNote,
@@ -231,6 +231,28 @@ fn serve_read<L: Listener, M: Tagged>(
         QueueNote::Gone { slot: _, object } => serve_gone(seats, *object, out),
         QueueNote::Fin => Ok(Turn::Running),
     }
+}
+
+/// Serves what was read of an event that is no Create. The code is that of the bytes, where they spell no message.
+fn serve_read<L: Listener, M: Tagged>(
+    alloc: Global,
+    seats: &mut Seats<L>,
+    note: &QueueNote,
+    code: u8,
+    out: &mut Outbox<ToService<M>>,
+) -> Result<Turn<L>, OutOfMemory>
+    requires may { MayServe note.now seats.old }
+    requires no_create { is_making note.now ≡ false }
+    requires code { code ≡ note_code note.now }
+    ensures ok { OnOk result (Serves note.now seats.old seats.new (map (put_note M.tagged) out.old.items) (map (put_note M.tagged) out.new.items)) }
+    ensures kept { OnOk result (KeptWith None seats.old seats.new) }
+    ensures answer { IfOk result (λ answer. Answers (told L.tagged L.calls L.heard L.given L.plan) note.now seats.old seats.new answer) }
+    ensures err { OnErr result (map (with_room 0) seats.new ≡ map (with_room 0) seats.old) }
+    ensures appended { OnOk result (IsAppended out.old.items out.new.items) }
+    ensures puts_err { OnErr result (out.new.items ≡ out.old.items) }
+{
+    seats.seek(note);
+    serve_noted(alloc, seats, note, code, out)
 }
 
 impl<L: Listener> Seats<L> {

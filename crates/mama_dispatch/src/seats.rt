@@ -1,4 +1,5 @@
 ghost use Rattle.std.specs.Prelude.{◌≡◌, ◌*◌, ◌^◌, ◌<◌, ◌≤◌, true, false, [], ◌∷◌, ◌++◌, map, length, is_some, Some, None, OnOk, OnErr, IfOk, IfErr, IfSome, IfNone};
+ghost use Rattle.std.specs.Bool.{OnTrue};
 ghost use Rattle.std.specs.List.{list_any};
 ghost use Rattle.mama_event.specs.Object.{same_object};
 ghost use Rattle.mama_event.specs.declared.market.MarketMsg.{MarketMsg};
@@ -7,7 +8,7 @@ ghost use Rattle.mama_event.specs.declared.ids.ObjectId.TheVariants.{Sub};
 ghost use Rattle.mama_dq.specs.Strategy.{callbacks_of};
 ghost use Rattle.mama_event.specs.Listener.{told};
 ghost use Rattle.mama_dispatch.specs.Seats.{SeatData, has_seat, AreApart, seat_of, listener_in, is_muted_in, context_in, room_in, at, muted_by, muted_by_all, muted_where_live, called_with, with_listener, stepped, with_room, HeardIn};
-ghost use Rattle.mama_dispatch.specs.Places.{IsPlace, IsEnded, IsOpened};
+ghost use Rattle.mama_dispatch.specs.Places.{IsPlace, IsSeatOf, IsEnded, IsOpened};
 ghost use Rattle.mama_dispatch.specs.Journals.{image_in};
 ghost use Rattle.mama_dispatch.specs.Keeping.{AreFew};
 ghost use Rattle.mama_dispatch.specs.Served.{calls_at};
@@ -22,8 +23,8 @@ use crate::row::{
 use indexmap::IndexSet;
 use mama_dq::{Calls, DqContext};
 use mama_event::{
-    CallNote, Callback, ImageHead, Listener, Make, MarketMsg, ObjectId, Order, Orders, SubId,
-    SubKind,
+    CallNote, Callback, ImageHead, Listener, Make, MarketMsg, ObjectId, Order, Orders, QueueNote,
+    SubId, SubKind,
 };
 use mama_memory::OutOfMemory;
 use mama_msg::Msg;
@@ -35,6 +36,8 @@ use std::marker::Model;
 pub(crate) struct Seats<L: Listener> {
     places: IndexSet<ObjectId>,
     rows: Vec<Row<L>>,
+    // Where an object was found last. It is looked for there first: an event asks for its object many times.
+    last: usize,
 }
 
 impl<L: Listener> Model for Seats<L> {
@@ -50,6 +53,16 @@ impl<L: Listener> Model for Seats<L> {
     ghost view = { λ s. map (row_data (told L.tagged L.calls L.heard L.given L.plan)) s.rows.items };
 
     ghost invariant = { λ s. AreKept s.places.keys (map (row_data (told L.tagged L.calls L.heard L.given L.plan)) s.rows.items) };
+}
+
+/// Whether a place is that of a row, and that row is of this object.
+fn is_row_of<L: Listener>(rows: &[Row<L>], place: usize, object: &ObjectId) -> bool
+    ensures { OnTrue result (IsSeatOf object.now place (map (row_data (told L.tagged L.calls L.heard L.given L.plan)) rows.now)) }
+{
+    if place < rows.len() {
+        return object == &rows[place].object;
+    }
+    false
 }
 
 /// The object that an order ends, if it ends one.
@@ -76,6 +89,7 @@ impl<L: Listener> Seats<L> {
         Seats {
             places: IndexSet::new(alloc),
             rows: Vec::new(alloc),
+            last: 0,
         }
     }
 
@@ -84,7 +98,22 @@ impl<L: Listener> Seats<L> {
         ensures some { IfSome result (λ place. IsPlace object.now place self.now) }
         ensures none { IfNone result (has_seat object.now self.now ≡ false) }
     {
+        if is_row_of(self.rows.as_slice(), self.last, object) {
+            return Some(self.last);
+        }
         self.places.get_index_of(object)
+    }
+
+    /// Looks the object of an entry up, so that it is found at once while the entry is served.
+    pub(crate) fn seek(&mut self, note: &QueueNote)
+        ensures { self.new ≡ self.old }
+    {
+        let Some(object) = object_of(note) else {
+            return;
+        };
+        if let Some(place) = self.place(&object) {
+            self.last = place;
+        }
     }
 
     /// The place of an object that is live here.
@@ -125,7 +154,11 @@ impl<L: Listener> Seats<L> {
         ensures index { result.0.keys ≡ map (λ (s : SeatData). s.object) self }
         ensures rows { map (row_data (told L.tagged L.calls L.heard L.given L.plan)) result.1.items ≡ self }
     {
-        let Seats { places, rows } = self;
+        let Seats {
+            places,
+            rows,
+            last: _,
+        } = self;
         (places, rows)
     }
 
@@ -262,6 +295,7 @@ impl<L: Listener> Seats<L> {
         if self.rows.reserve(1).is_err() || add_place(&mut self.places, object).is_err() {
             return Err(listener);
         }
+        self.last = self.rows.len();
         self.rows
             .push_reserved(new_row(alloc, object, make, listener, calls));
         Ok(())
@@ -313,4 +347,46 @@ fn add_place(places: &mut IndexSet<ObjectId>, object: ObjectId) -> Result<(), Ou
 {
     places.insert(object)?;
     Ok(())
+}
+
+/// The object that an entry is of, if it is of one that was made before.
+fn object_of(note: &QueueNote) -> Option<ObjectId> {
+    match note {
+        QueueNote::Deliver {
+            slot: _,
+            sub,
+            msg: _,
+        }
+        | QueueNote::Bad {
+            slot: _,
+            sub,
+            kind: _,
+            sender: _,
+            seq: _,
+            bytes: _,
+        } => Some(ObjectId::Sub(*sub)),
+        QueueNote::Reply {
+            slot: _,
+            inbox,
+            body: _,
+        }
+        | QueueNote::BadReply {
+            slot: _,
+            inbox,
+            bytes: _,
+        } => Some(ObjectId::Inbox(*inbox)),
+        QueueNote::Tick {
+            slot: _,
+            timer,
+            moment: _,
+        } => Some(ObjectId::Timer(*timer)),
+        QueueNote::Gone { slot: _, object } => Some(*object),
+        QueueNote::Create {
+            slot: _,
+            object: _,
+            make: _,
+            tag: _,
+        }
+        | QueueNote::Fin => None,
+    }
 }

@@ -1,11 +1,14 @@
 use Rattle.std.specs.List.{position, list_any}
-use Rattle.std.proofs.Common.{◌≡◌, List, refl, ap, ◌∙◌, map}
+use Rattle.std.proofs.Common.{◌≡◌, List, refl, ap, ◌∙◌, subst, map}
 use Rattle.mama_event.specs.contracts.ids.ObjectIdPartialEq.TheImpl.{eq-value}
 use Rattle.mama_event.specs.declared.ids.ObjectId.{ObjectId}
 use Rattle.mama_event.specs.declared.ids.ObjectId.TheVariants.{Sub, Timer, Inbox}
 use Rattle.mama_event.specs.Object.{same_object}
-use Rattle.mama_dispatch.specs.Seats.{SeatData}
-use Rattle.mama_dispatch.proofs.PlaceLemmas.{position_same, list_any_same, place_some, place_none}
+use Rattle.mama_event.specs.Listener.{told}
+use Rattle.mama_dispatch.specs.Seats.{SeatData, AreApart}
+use Rattle.mama_dispatch.specs.Places.{IsSeatOf}
+use Rattle.mama_dispatch.specs.Rows.{row_data}
+use Rattle.mama_dispatch.proofs.PlaceLemmas.{position_same, list_any_same, place_some, place_none, place_guessed, on_true}
 use Rattle.mama_dispatch.proofs.seats.Seats.place.Goals as goal
 
 -- ids are compared by kind and numbers
@@ -19,6 +22,14 @@ same (Timer a) (Inbox b) = refl
 same (Inbox a) (Sub b) = refl
 same (Inbox a) (Timer b) = refl
 same (Inbox a) (Inbox b) = refl
+
+pub returns-then-is_row_of-clause-some : goal.returns-then-is_row_of-clause-some
+returns-then-is_row_of-clause-some g c =
+    let o = c.args.object.now in
+    let seen = ap (map (row_data (told g.L.Tagged.tagged g.L.Listener.calls g.L.Listener.heard g.L.Listener.given g.L.Listener.plan))) c.as_slice.ensures.value ∙ c.self.view_is in
+    place_guessed o c.self.inside.last c.args.self.now
+    (subst (λ (ss : List SeatData). IsSeatOf o c.self.inside.last ss) seen (on_true c.is_row_of.result c.if-is_row_of.true c.is_row_of.ensures))
+    (subst AreApart c.self.view_is c.self.invariant.apart)
 
 pub returns-clause-some : goal.returns-clause-some
 returns-clause-some g c =

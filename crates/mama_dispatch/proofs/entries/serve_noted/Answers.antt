@@ -13,7 +13,7 @@ use Rattle.mama_dispatch.specs.Answering.{Answers}
 use Rattle.mama_dispatch.proofs.ServeLemmas.{telling_bad, telling_bad_reply, serves_each_told, serves_fin}
 use Rattle.mama_dispatch.proofs.AnswerLemmas.{answers_what_was_told}
 use Rattle.mama_dispatch.proofs.KeepLemmas.{kept_with, kept_same, kept_each_told}
-use Rattle.mama_dispatch.proofs.entries.serve_read.Goals as goal
+use Rattle.mama_dispatch.proofs.entries.serve_noted.Goals as goal
 
 pub serve_deliver-requires : goal.serve_deliver-requires
 serve_deliver-requires g c = subst (λ (n : QueueNote). MayServe n c.args.seats.now) c.in-Deliver.is c.requires.may
