@@ -349,7 +349,7 @@ fn add_place(places: &mut IndexSet<ObjectId>, object: ObjectId) -> Result<(), Ou
     Ok(())
 }
 
-/// The object that an entry is of, if it is of one that was made before.
+/// The object that an entry is of, if it is of one that was made before. It only tells where to look first, so no clause says which.
 fn object_of(note: &QueueNote) -> Option<ObjectId> {
     match note {
         QueueNote::Deliver {
