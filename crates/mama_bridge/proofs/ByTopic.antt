@@ -3,7 +3,6 @@ use Rattle.std.specs.Prelude.{nat_lt, option_to_list}
 use Rattle.std.specs.List.{list_any, flat_map}
 use Rattle.std.specs.BTreeMap.{BTreeMap, get}
 use Rattle.std.specs.Ordering.{nat_cmp}
-use Rattle.std.specs.declared.collections.VecDeque.{VecDeque}
 use Rattle.std.proofs.Common.{◌≡◌, ℕ, Bool, true, false, not, ◌||◌, ◌==◌, cond, List, [], ◌∷◌, ◌++◌, map, filter, Option, None, Some, refl, sym, ◌∙◌, ap, subst, eq-eqb, append-nil}
 use Rattle.std.proofs.lemmas.Bool.{eqb-true}
 use Rattle.std.proofs.lemmas.List.{map-append}
@@ -19,9 +18,11 @@ use Rattle.mama_bridge.specs.declared.out.BridgeOut.{BridgeOut}
 use Rattle.mama_bridge.specs.declared.subs.SubLink.{SubLink}
 use Rattle.mama_bridge.specs.Ids.{is_sub_among}
 use Rattle.mama_bridge.specs.Placed.{Placed, is_place_of}
+use Rattle.mama_bridge.specs.Linked.{Linked, is_link_of}
 use Rattle.mama_bridge.specs.Links.{SubView, Each, sub_seen, sub_view, row_is_on, end_outs, wished_once, SubLeaves}
-use Rattle.mama_bridge.specs.Live.{links_in, links_on, OnTopic, place_of, IsLive, StaysLive, AloneSubs, Awaits}
-use Rattle.mama_bridge.proofs.Known.{sub_joined}
+use Rattle.mama_bridge.specs.Live.{links_in, links_on, awaited_in, HasRoomOn, OnTopic, place_of, IsLive, StaysLive, AloneSubs, Awaits}
+use Rattle.mama_bridge.proofs.Known.{sub_joined, any_more}
+use Rattle.mama_bridge.proofs.RowLemmas.{any_same}
 use Rattle.mama_bridge.proofs.TheOne.{none_taken, none_changed, none_without}
 
 heads : {V : Type 0} {v w : V} {vs ws : List V} → v ∷ vs ≡ w ∷ ws → v ≡ w
@@ -109,6 +110,10 @@ pub places_kept : (test : SubRow → Bool) (f : SubRow → SubRow) → KeepsPlac
 places_kept test f k [] = refl
 places_kept test f k (row ∷ rows) = both (kept_place f k (test row) row) (places_kept test f k rows)
 
+any_changed : (test : SubRow → Bool) (f : SubRow → SubRow) → KeepsPlaces f → (s : SubId) (rows : List SubRow) → list_any (of_sub s) (changed test f rows) ≡ list_any (of_sub s) rows
+any_changed test f k s [] = refl
+any_changed test f k s (row ∷ rows) = rw (ap (λ (p : Place). same_sub p.sub s) (kept_place f k (test row) row), any_changed test f k s rows) refl
+
 pub filter_changed : (test : SubRow → Bool) (f : SubRow → SubRow) → KeepsPlaces f → (q : ℕ) (rows : List SubRow) → filter (row_is_on q) (changed test f rows) ≡ changed test f (filter (row_is_on q) rows)
 filter_changed test f k q [] = refl
 filter_changed test f k q (row ∷ rows) =
@@ -165,6 +170,7 @@ filter_map_of {A} {B} f test (x ∷ xs) = at (test (f x)) (filter_map_of f test 
 pub stays_on : (t : ℕ) (old new : Live) → new.places ≡ old.places → OnTopic t (λ a b. map sub_seen b ≡ map sub_seen a) old.topics new.topics → StaysLive old new
 stays_on t old new places on joined rows live = record {
   known = λ s. ap (λ (p : Placed). is_sub_among p.joined s) places ∙ live.known s;
+  had = live.had;
   places = ap (λ (p : Placed). p.live) places ∙ live.places;
   topics = λ q. at q (t == q) refl;
 }
@@ -181,6 +187,7 @@ live_does {L} test f put k t old new o0 o1 places on joined rows only live alone
     let done = on.here (filter (row_is_on t) rows) (live.topics t) (alone_filter same_sub (λ (row : SubRow). row.sub) (row_is_on t) rows alone) in (
       record {
         known = λ s. ap (λ (p : Placed). is_sub_among p.joined s) places ∙ live.known s;
+        had = λ s none. any_changed test f k s rows ∙ live.had s none;
         places = ap (λ (p : Placed). p.live) places ∙ live.places ∙ sym (places_kept test f k rows);
         topics = λ q. at done.0 q (t == q) refl;
       },
@@ -201,6 +208,7 @@ live_leaves {L} s t old new o0 o1 joined rows only noted places on live alone =
     let done = on.here (filter (row_is_on t) rows) (live.topics t) (alone_filter same_sub (λ (row : SubRow). row.sub) (row_is_on t) rows alone) in (
       record {
         known = λ one. ap (λ ids. is_sub_among ids one) noted ∙ live.known one;
+        had = λ one none. any_filter (λ (row : SubRow). not (of_sub s row)) (of_sub one) rows (live.had one none);
         places = places ∙ ap (without (is_place_of s)) live.places ∙ filter_map_of place_of (λ (p : Place). not (is_place_of s p)) rows;
         topics = λ q. at done.0 q (t == q) refl;
       },
@@ -245,16 +253,50 @@ found_is s found places rows h k = h ∙ ap (filter (is_place_of s)) k ∙ filte
 
 -- ---- one more
 
-pub live_gains : (link : SubLink) (place : Place) (before old new : Live) (joined : List SubId) (rows : List SubRow) (row : SubRow) → OnTopic link.topic (λ a b. b ≡ a ++ link ∷ []) old.topics new.topics → new.places ≡ old.places
+or_first : (a b : Bool) → (a || b) ≡ false → a ≡ false
+or_first true b h = h
+or_first false b h = refl
+
+or_rest : (a b : Bool) → (a || b) ≡ false → b ≡ false
+or_rest true b h = cc
+or_rest false b h = h
+
+-- the one that joined has a row now
+pub more_joined : (joined : List SubId) (rows : List SubRow) (row : SubRow) → ((s : SubId) → list_any (λ (r : SubId). same_sub r s) joined ≡ false → list_any (of_sub s) rows ≡ false)
+    → (s : SubId) → list_any (λ (r : SubId). same_sub r s) (joined ++ row.sub ∷ []) ≡ false → list_any (of_sub s) (rows ++ row ∷ []) ≡ false
+more_joined joined rows row had s none =
+    let both = sym (any_more (λ (r : SubId). same_sub r s) joined row.sub) ∙ none in
+    let others = had s (or_first (list_any (λ (r : SubId). same_sub r s) joined) (same_sub row.sub s) both) in
+    let last = or_rest (list_any (λ (r : SubId). same_sub r s) joined) (same_sub row.sub s) both in
+    any_more (of_sub s) rows row ∙ rw (others, last) refl
+
+pub live_gains : (link : SubLink) (place : Place) (before old new : Live) (joined : List SubId) (rows : List SubRow) (row : SubRow) → (HasRoomOn old.topics link.topic link.sub → OnTopic link.topic (λ a b. b ≡ a ++ link ∷ []) old.topics new.topics) → new.places ≡ old.places
     → place ≡ place_of row → IsLive joined rows before → Awaits false place before old → sub_seen link ≡ sub_view row → IsLive (joined ++ row.sub ∷ []) (rows ++ row ∷ []) new
-live_gains link place before old new joined rows row on same is live awaits seen = record {
+live_gains link place before old new joined rows row adds same is live awaits seen = record {
   known = sub_joined row.sub before.places.joined old.places.joined new.places.joined joined (λ one. awaits.joined one ∙ ap (λ (p : Place). is_sub_among before.places.joined one || same_sub p.sub one) is) (ap (λ (p : Placed). p.joined) same) live.known;
+  had = more_joined joined rows row live.had;
   places = ap (λ (p : Placed). p.live) same ∙ awaits.places ∙ ap (λ (ps : List Place). ps ++ place ∷ []) live.places ∙ ap (λ (p : Place). map place_of rows ++ p ∷ []) is ∙ sym (map-append place_of rows (row ∷ []));
   topics = λ q. at q (link.topic == q) refl;
 }
   where
     topic : link.topic ≡ row.terms.topic
     topic = ap (λ (v : SubView). v.topic) seen
+
+    sub : place.sub ≡ row.sub
+    sub = ap (λ (p : Place). p.sub) is
+
+    absent : list_any (is_link_of place.sub) (links_on before.topics place.topic) ≡ false
+    absent =
+        any_same place.sub (links_on before.topics place.topic) (filter (row_is_on place.topic) rows) (live.topics place.topic)
+        ∙ any_filter (row_is_on place.topic) (of_sub place.sub) rows (live.had place.sub (sym (live.known place.sub) ∙ awaits.fresh))
+
+    room : HasRoomOn old.topics link.topic link.sub
+    room =
+        ap (λ n. awaited_in (get nat_cmp old.topics n)) (topic ∙ sym (ap (λ (p : Place). p.topic) is))
+        ∙ awaits.room absent ∙ ap Some (sub ∙ sym (ap (λ (v : SubView). v.sub) seen))
+
+    on : OnTopic link.topic (λ a b. b ≡ a ++ link ∷ []) old.topics new.topics
+    on = adds room
 
     before_on : (q : ℕ) → map sub_seen (links_on old.topics q) ≡ map sub_view (filter (row_is_on q) rows)
     before_on q = ap (map sub_seen) (awaits.topics q) ∙ live.topics q
@@ -287,7 +329,7 @@ live_stays {L} s live o joined rows none h =
     (subst (λ (rs : List SubRow). IsLive joined rs live) (sym (none_without (of_sub s) rows none)) h, sym (ap (λ (rs : List SubRow). o ++ flat_map end_outs rs) (none_taken (of_sub s) rows none) ∙ append-nil o))
 
 -- where a topic has no links, nothing is done
-pub none_on : {A : Type 0} (topics new : BTreeMap ℕ (VecDeque SubLink A)) (t : ℕ) (Does : List SubLink → List SubLink → Type 0) → None ≡ get nat_cmp topics t → new ≡ topics → Does [] [] → OnTopic t Does topics new
+pub none_on : (topics new : BTreeMap ℕ Linked) (t : ℕ) (Does : List SubLink → List SubLink → Type 0) → None ≡ get nat_cmp topics t → new ≡ topics → Does [] [] → OnTopic t Does topics new
 none_on topics new t Does none same done =
     let empty : links_on topics t ≡ [] = sym (ap links_in none) in
     let still : links_on new t ≡ [] = ap (λ m. links_on m t) same ∙ empty in

@@ -3,7 +3,6 @@ use Rattle.std.specs.Prelude.{option_to_list, IfNone, sum_by}
 use Rattle.std.specs.BTreeMap.{BTreeMap, get, is_at}
 use Rattle.std.specs.Map.{set_value, values_of}
 use Rattle.std.specs.Ordering.{nat_cmp}
-use Rattle.std.specs.declared.collections.VecDeque.{VecDeque}
 use Rattle.std.proofs.Common.{◌≡◌, ℕ, zero, suc, ◌+◌, ◌<◌, ◌≤◌, Bool, true, false, ◌==◌, cond, List, [], ◌∷◌, ◌++◌, length, map, filter, get_or, take, drop, Option, None, Some, refl, sym, ◌∙◌, ap, arith, subst, eq-eqb, append-nil, append_assoc, length-append, add-zero}
 use Rattle.std.proofs.lemmas.Bool.{eqb-true}
 use Rattle.std.proofs.lemmas.List.{map-append, length-map, take_all, get_or-append-add}
@@ -12,6 +11,7 @@ use Rattle.std.proofs.lemmas.Map.Entries.{sum_by-set_value}
 use Rattle.mama_laws_bridge.specs.Table.{SubRow}
 use Rattle.mama_bridge.specs.declared.places.Place.{Place}
 use Rattle.mama_bridge.specs.declared.subs.SubLink.{SubLink}
+use Rattle.mama_bridge.specs.Linked.{Linked}
 use Rattle.mama_bridge.specs.Links.{SubView, sub_seen, sub_view, sub_held, row_is_on}
 use Rattle.mama_bridge.specs.Live.{links_on, links_held, all_held, OnTopic, place_of, TakesNext, IsTaken}
 
@@ -43,11 +43,11 @@ first_is (Some link) old new v vs none split h =
     (ap (λ (w : SubView). w ∷ []) (heads e), tails e)
 
 -- the links of the first rows are taken, and those of the others are not
-abbrev pub IsTakenTo : {A : Type 0} → List Place → BTreeMap ℕ (VecDeque SubLink A) → BTreeMap ℕ (VecDeque SubLink A) → List SubLink → ℕ → Type 0
+abbrev pub IsTakenTo : List Place → BTreeMap ℕ Linked → BTreeMap ℕ Linked → List SubLink → ℕ → Type 0
 IsTakenTo places old topics links i = (rows : List SubRow) → places ≡ map place_of rows → ((topic : ℕ) → map sub_seen (links_on old topic) ≡ map sub_view (filter (row_is_on topic) rows))
     → (map sub_seen links ≡ map sub_view (take i rows)) × ((topic : ℕ) → map sub_seen (links_on topics topic) ≡ map sub_view (filter (row_is_on topic) (drop i rows)))
 
-one_taken : {A : Type 0} (places : List Place) (old topics topics' : BTreeMap ℕ (VecDeque SubLink A)) (links links' : List SubLink) (i topic : ℕ) (d : Place) (r : Option SubLink) → i < length places → topic ≡ (get_or places i d).topic
+one_taken : (places : List Place) (old topics topics' : BTreeMap ℕ Linked) (links links' : List SubLink) (i topic : ℕ) (d : Place) (r : Option SubLink) → i < length places → topic ≡ (get_or places i d).topic
     → OnTopic topic (λ a b. a ≡ option_to_list r ++ b) topics topics' → IfNone r (links_on topics topic ≡ []) → links' ≡ links ++ option_to_list r
     → IsTakenTo places old topics links i → IsTakenTo places old topics' links' (i + 1)
 one_taken places old topics topics' links links' i topic d r lt is on none put before rows h k =
@@ -81,7 +81,7 @@ one_taken places old topics topics' links links' i topic d r lt is on none put b
         off false w = refl
 
 -- one entry more
-pub entry_taken : {A : Type 0} (places front rest : List Place) (entry : Option Place) (old topics topics' : BTreeMap ℕ (VecDeque SubLink A)) (links links' : List SubLink) → places ≡ (front ++ option_to_list entry) ++ rest
+pub entry_taken : (places front rest : List Place) (entry : Option Place) (old topics topics' : BTreeMap ℕ Linked) (links links' : List SubLink) → places ≡ (front ++ option_to_list entry) ++ rest
     → TakesNext entry topics topics' links links' → IsTakenTo places old topics links (length front) → IsTakenTo places old topics' links' (length (front ++ option_to_list entry))
 entry_taken places front rest None old topics topics' links links' whole step before = λ rows h k.
     let now = before rows h k in
@@ -89,24 +89,24 @@ entry_taken places front rest None old topics topics' links links' whole step be
       ap (map sub_seen) step.1 ∙ now.0 ∙ ap (λ n. map sub_view (take n rows)) len,
       λ topic. ap (λ m. map sub_seen (links_on m topic)) step.0 ∙ now.1 topic ∙ ap (λ n. map sub_view (filter (row_is_on topic) (drop n rows))) len,
     )
-entry_taken {A} places front rest (Some place) old topics topics' links links' whole step before =
+entry_taken places front rest (Some place) old topics topics' links links' whole step before =
     let len : length (front ++ place ∷ []) ≡ length front + 1 = length-append front (place ∷ []) in
     let all : length places ≡ (length front + 1) + length rest = ap length whole ∙ length-append (front ++ place ∷ []) rest ∙ ap (λ n. n + length rest) len in
     let at : get_or places (length front) place ≡ place = ap (λ (ps : List Place). get_or ps (length front) place) (whole ∙ append_assoc front (place ∷ []) rest) ∙ ap (λ n. get_or (front ++ place ∷ rest) n place) (sym (add-zero (length front))) ∙ get_or-append-add front (place ∷ rest) 0 place in
     subst (λ n. IsTakenTo places old topics' links' n) (sym len)
     (one_taken places old topics topics' links links' (length front) place.topic place step.0 (omega arith) (ap (λ (p : Place). p.topic) (sym at)) step.1 step.2 step.3 before)
 
-pub all_taken : {A : Type 0} (places : List Place) (old topics : BTreeMap ℕ (VecDeque SubLink A)) (links : List SubLink) (i : ℕ) → length places ≤ i → IsTakenTo places old topics links i → IsTaken places old links
+pub all_taken : (places : List Place) (old topics : BTreeMap ℕ Linked) (links : List SubLink) (i : ℕ) → length places ≤ i → IsTakenTo places old topics links i → IsTaken places old links
 all_taken places old topics links i most taken rows h k =
     let within : length rows ≤ i = subst (λ (n : ℕ). n ≤ i) (ap length h ∙ length-map rows place_of) most in
     (taken rows h k).0 ∙ ap (map sub_view) (take_all i rows within)
 
 -- what the links of all topics hold is less by what one held
-pub held_less : {A : Type 0} (topics new : BTreeMap ℕ (VecDeque SubLink A)) (t : ℕ) (v w : VecDeque SubLink A) (r : Option SubLink) → Some v ≡ get nat_cmp topics t → new.entries ≡ set_value (is_at (nat_cmp t)) topics.entries w → v.items ≡ option_to_list r ++ w.items
+pub held_less : (topics new : BTreeMap ℕ Linked) (t : ℕ) (v w : Linked) (r : Option SubLink) → Some v ≡ get nat_cmp topics t → new.entries ≡ set_value (is_at (nat_cmp t)) topics.entries w → v.links ≡ option_to_list r ++ w.links
     → all_held new + sum_by sub_held (option_to_list r) ≡ all_held topics
 held_less topics new t v w r found written split =
     let s = sum_by-set_value links_held (is_at (nat_cmp t)) topics.entries v w (sym found) in
-    let p : links_held v ≡ sum_by sub_held (option_to_list r) + links_held w = ap (sum_by sub_held) split ∙ sum_by-append sub_held (option_to_list r) w.items in
+    let p : links_held v ≡ sum_by sub_held (option_to_list r) + links_held w = ap (sum_by sub_held) split ∙ sum_by-append sub_held (option_to_list r) w.links in
     let e : all_held new ≡ sum_by links_held (values_of (set_value (is_at (nat_cmp t)) topics.entries w)) = ap (λ es. sum_by links_held (values_of es)) written in
     omega (arith, s, p, e)
 

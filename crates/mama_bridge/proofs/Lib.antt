@@ -16,6 +16,8 @@ pub mod Entries
 pub mod IndexLemmas
 pub mod PlaceLemmas
 pub mod InboxLemmas
+pub mod LinkLemmas
+pub mod RowLemmas
 pub mod ByTopic
 pub mod InOrder
 mod Spellings

@@ -8,5 +8,6 @@ pub mod Held
 pub mod Chart
 pub mod Ids
 pub mod Placed
+pub mod Linked
 pub mod Opened
 pub mod Live

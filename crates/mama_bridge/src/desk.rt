@@ -18,7 +18,7 @@ ghost use Rattle.mama_event.specs.declared.market.MarketMsg.{MarketMsg};
 ghost use Rattle.mama_bridge.specs.Links.{IsPieceOf, sub_seen, inbox_seen, first_outs, image_outs, settle_outs, inbox_held};
 ghost use Rattle.mama_slots.specs.Slots.{in_use, IsNext};
 ghost use Rattle.mama_bridge.specs.Held.{StayHeld, KeepsHeld};
-ghost use Rattle.mama_bridge.specs.Live.{all_held, StaysLive, HasRoomOn, Awaits, Gains, KeepsLive, EndsLive};
+ghost use Rattle.mama_bridge.specs.Live.{all_held, StaysLive, Awaits, Gains, KeepsLive, EndsLive};
 
 use crate::chart::Chart;
 use crate::done::Done;
@@ -203,7 +203,6 @@ impl Desk {
         ensures next { IfOk result (λ slot. IsNext self.new.slots queue slot) }
         ensures least { IfOk result (λ slot. (used : List ℕ) → ((k : ℕ) → in_use self.old.slots queue k ≡ list_any (λ n. n == k) used) → slot ≡ least_free used) }
         ensures held { StayHeld self.old.slots self.new.slots }
-        ensures room_links { OnOk result (HasRoomOn self.new.subs.topics topic) }
         ensures room_out { OnOk result (1 < out.new.spare) }
         ensures subs { IfOk result (λ slot. Awaits ended (record { sub = sub; topic = topic; queue = queue; slot = slot }) self.old.subs self.new.subs) }
         ensures same_subs { OnErr result (StaysLive self.old.subs self.new.subs) }
@@ -471,7 +470,6 @@ impl Desk {
 
     /// Keeps the link of a new subscription, unless the ending has come.
     fn add_sub(&mut self, ended: bool, link: SubLink)
-        requires { HasRoomOn self.old.subs.topics link.topic }
         ensures subs { Gains ended link self.old.subs self.new.subs }
         ensures slots { self.new.slots ≡ self.old.slots }
         ensures rest { AllBut self.old self.new }

@@ -7,22 +7,24 @@ ghost use Rattle.mama_event.specs.Arrival.{piece_of};
 ghost use Rattle.mama_laws_bridge.specs.Table.{SubRow, of_sub, sub_passed};
 ghost use Rattle.mama_bridge.specs.Links.{sub_seen, sub_view, sub_held, row_is_on, emit_outs, end_outs, wish_outs, wished_once, SubsPass, SubLeaves, SubWishes};
 ghost use Rattle.mama_bridge.specs.Ids.{is_sub_among};
+ghost use Rattle.std.specs.List.{list_any};
+ghost use Rattle.mama_bridge.specs.Linked.{is_link_of};
 ghost use Rattle.mama_bridge.specs.Placed.{present};
 ghost use Rattle.mama_bridge.specs.Live.{links_on, links_held, all_held, place_of, HasRoomOn, OnTopic, IsLive, StaysLive, LiveDoes, LiveLeaves, LiveFrees, Awaits, TakesNext, IsTaken};
 
 use crate::ends::plus;
+use crate::links::Links;
 use crate::out::BridgeOut;
 use crate::places::{Place, Places};
-use crate::routes;
 use crate::subs::SubLink;
 use mama_event::{PieceMsg, SubId};
 use mama_memory::{OutOfMemory, Outbox};
 use mama_slots::Slots;
 use std::alloc::Global;
-use std::collections::{BTreeMap, VecDeque};
+use std::collections::BTreeMap;
 
-/// Links by topic, those of a topic in order of joining.
-type ByTopic = BTreeMap<u32, VecDeque<SubLink>>;
+/// Links by topic.
+type ByTopic = BTreeMap<u32, Links>;
 
 /// The live subscriptions: their places in order of joining, and their links by topic. Beside the places stands who joined.
 #[derive(Drop)]
@@ -44,7 +46,7 @@ fn publish_on<L>(
     ensures err { OnErr result (out.new.items ≡ out.old.items) }
 {
     match topics.get_mut(&topic) {
-        Some(links) => routes::publish(alloc, links, topic, msg, out),
+        Some(links) => links.publish(alloc, topic, msg, out),
         None => Ok(()),
     }
 }
@@ -63,7 +65,7 @@ fn image_on<L>(
     ensures err { OnErr result (out.new.items ≡ out.old.items) }
 {
     match topics.get_mut(&topic) {
-        Some(links) => routes::image(alloc, links, sub, msg, out),
+        Some(links) => links.image(alloc, sub, msg, out),
         None => Ok(()),
     }
 }
@@ -82,7 +84,7 @@ fn wish_on<L>(
     ensures err { OnErr result (out.new.items ≡ out.old.items) }
 {
     match topics.get_mut(&topic) {
-        Some(links) => routes::wish(links, sub, sender, out),
+        Some(links) => links.wish(sub, sender, out),
         None => Ok(()),
     }
 }
@@ -103,34 +105,38 @@ fn leave_on<L>(
     ensures err { OnErr result (out.new.items ≡ out.old.items) }
 {
     match topics.get_mut(&place.topic) {
-        Some(links) => routes::leave(alloc, links, sub, place, slots, out),
+        Some(links) => links.leave(alloc, sub, place, slots, out),
         None => slots.release(place.queue, place.slot),
     }
 }
 
-/// Makes room for one link more on a topic.
-fn reserve_on(alloc: Global, topics: &mut ByTopic, topic: u32) -> Result<(), OutOfMemory>
-    ensures room { OnOk result (HasRoomOn topics.new topic) }
+/// Makes room for the link of a subscription on a topic, unless it has one there.
+fn reserve_on(
+    alloc: Global,
+    topics: &mut ByTopic,
+    topic: u32,
+    sub: SubId,
+) -> Result<(), OutOfMemory>
+    ensures room { OnOk result (list_any (is_link_of sub) (links_on topics.old topic) ≡ false → HasRoomOn topics.new topic sub) }
     ensures same { (q : ℕ) → links_on topics.new q ≡ links_on topics.old q }
 {
     match topics.get_mut(&topic) {
-        Some(links) => links.reserve(1)?,
+        Some(links) => links.ready(sub)?,
         None => {
-            let mut links = VecDeque::new(alloc);
-            links.reserve(1)?;
+            let mut links = Links::new(alloc);
+            links.ready(sub)?;
             topics.insert(topic, links)?;
         }
     }
     Ok(())
 }
 
-/// Adds a link after those of its topic, for which there is room.
+/// Adds a link after those of its topic, if there is room for it.
 fn add_on(topics: &mut ByTopic, topic: u32, link: SubLink)
-    requires { HasRoomOn topics.old topic }
-    ensures { OnTopic topic (λ old new. new ≡ old ++ link ∷ []) topics.old topics.new }
+    ensures { HasRoomOn topics.old topic link.sub → OnTopic topic (λ old new. new ≡ old ++ link ∷ []) topics.old topics.new }
 {
     match topics.get_mut(&topic) {
-        Some(links) => links.push_back_reserved(link),
+        Some(links) => links.add(link),
         None => {}
     }
 }
@@ -142,7 +148,7 @@ fn next_on(topics: &mut ByTopic, topic: u32) -> Option<SubLink>
     ensures held { all_held topics.new + sum_by sub_held (option_to_list result) ≡ all_held topics.old }
 {
     match topics.get_mut(&topic) {
-        Some(links) => links.pop_front(),
+        Some(links) => links.take_first(),
         None => None,
     }
 }
@@ -186,24 +192,13 @@ fn take_in_order(places: &Vec<Option<Place>>, topics: &mut ByTopic, links: &mut 
     }
 }
 
-/// How many messages the links of one topic hold.
-fn held_on(links: &VecDeque<SubLink>) -> Result<usize, OutOfMemory>
-    ensures { IfOk result (λ n. n ≡ links_held links.now) }
-{
-    let mut total: usize = 0;
-    for i in 0..links.len() {
-        total = plus(total, links[i].link.held())?;
-    }
-    Ok(total)
-}
-
 /// How many messages the links of all topics hold.
 fn held_by_all(topics: &ByTopic) -> Result<usize, OutOfMemory>
     ensures { IfOk result (λ n. n ≡ all_held topics.now) }
 {
     let mut total: usize = 0;
     for links in topics.values() {
-        total = plus(total, held_on(links)?)?;
+        total = plus(total, links.held()?)?;
     }
     Ok(total)
 }
@@ -329,18 +324,16 @@ impl Live {
         place: Place,
     ) -> Result<(), OutOfMemory>
         requires { is_sub_among self.old.places.joined place.sub ≡ false }
-        ensures room { OnOk result (HasRoomOn self.new.topics place.topic) }
         ensures awaits { OnOk result (Awaits ended place self.old self.new) }
         ensures same { OnErr result (StaysLive self.old self.new) }
     {
-        reserve_on(alloc, &mut self.topics, place.topic)?;
+        reserve_on(alloc, &mut self.topics, place.topic, place.sub)?;
         self.places.join(ended, place)
     }
 
-    /// Adds the link of a subscription, for which there is room.
+    /// Adds the link of a subscription, if there is room for it.
     pub(crate) fn add(&mut self, link: SubLink)
-        requires { HasRoomOn self.old.topics link.topic }
-        ensures links { OnTopic link.topic (λ old new. new ≡ old ++ link ∷ []) self.old.topics self.new.topics }
+        ensures links { HasRoomOn self.old.topics link.topic link.sub → OnTopic link.topic (λ old new. new ≡ old ++ link ∷ []) self.old.topics self.new.topics }
         ensures places { self.new.places ≡ self.old.places }
     {
         let topic = link.topic;

@@ -1,18 +1,15 @@
-ghost use Rattle.std.specs.Prelude.{◌≡◌, ◌+◌, ◌<◌, ◌≤◌, ◌++◌, [], ◌∷◌, map, length, position, take, IfOk, OnOk, OnErr, IfSome, sum_by, remove, slice_index_or, if◌then◌else◌};
-ghost use Rattle.std.specs.VecDeque.{deque_len};
+ghost use Rattle.std.specs.Prelude.{◌≡◌, ◌+◌, ◌≤◌, ◌++◌, [], IfOk, OnOk};
 ghost use Rattle.mama_link.specs.Link.{emit};
-ghost use Rattle.mama_event.specs.Object.{same_sub};
 ghost use Rattle.mama_event.specs.declared.market.MarketMsg.{MarketMsg};
 ghost use Rattle.mama_event.specs.Arrival.{piece_of};
 ghost use Rattle.mama_laws_bridge.specs.Table.{SubRow, sub_passed};
-ghost use Rattle.mama_bridge.specs.Links.{sub_seen, sub_view, ready_len, Holds, IsReady, Each, ReadyIf, HoldsIf, weight, weights, emit_outs, PassStep, PassSteps, EndStep, EndSteps, sub_held};
+ghost use Rattle.mama_bridge.specs.Links.{sub_seen, sub_view, ready_len, Holds, IsReady, ReadyIf, HoldsIf, weight, emit_outs, PassStep, EndStep, sub_held};
 
-use crate::ends::{finish, plus};
+use crate::ends::finish;
 use crate::out::{BridgeOut, deliver, gone};
 use mama_event::{ObjectId, PieceMsg, SubId};
 use mama_link::{Link, Prepared};
 use mama_memory::{OutOfMemory, Outbox};
-use std::collections::VecDeque;
 
 /// The link of a live subscription: its topic, its place, how many recaps may be asked for it and how many were, and
 /// the pass that is prepared, if one is.
@@ -42,7 +39,7 @@ pub(crate) fn prepare(link: &mut SubLink, msg: &PieceMsg) -> Result<usize, OutOf
 }
 
 /// Prepares the next pass of a link on a topic, and nothing of another link.
-fn prepare_if(link: &mut SubLink, topic: u32, msg: &PieceMsg) -> Result<usize, OutOfMemory>
+pub(crate) fn prepare_if(link: &mut SubLink, topic: u32, msg: &PieceMsg) -> Result<usize, OutOfMemory>
     ensures seen { sub_seen link.new ≡ sub_seen link.old }
     ensures ready { OnOk result (ReadyIf topic link.new) }
     ensures holds { OnOk result (HoldsIf topic msg.now link.new) }
@@ -55,25 +52,6 @@ fn prepare_if(link: &mut SubLink, topic: u32, msg: &PieceMsg) -> Result<usize, O
     }
 }
 
-/// Prepares the next pass of all links on a topic, and tells how many messages they will put out.
-pub(crate) fn prepare_topic(
-    links: &mut VecDeque<SubLink>,
-    topic: u32,
-    msg: &PieceMsg,
-) -> Result<usize, OutOfMemory>
-    ensures seen { map sub_seen links.new.items ≡ map sub_seen links.old.items }
-    ensures ready { OnOk result (Each (ReadyIf topic) links.new.items) }
-    ensures holds { OnOk result (Each (HoldsIf topic msg.now) links.new.items) }
-    ensures total { IfOk result (λ n. n ≡ weights topic links.new.items) }
-{
-    let mut total: usize = 0;
-    for i in 0..links.len() {
-        let len = prepare_if(&mut links[i], topic, msg)?;
-        total = plus(total, len)?;
-    }
-    Ok(total)
-}
-
 /// Passes the message that is prepared for a link, and delivers what comes out.
 pub(crate) fn pass<L>(
     link: &mut SubLink,
@@ -83,6 +61,7 @@ pub(crate) fn pass<L>(
     requires ready { IsReady link.old }
     requires msgs { ready_len link.old.ready ≤ msgs.old.spare }
     requires out { ready_len link.old.ready ≤ out.old.spare }
+    ensures sub { link.new.sub ≡ link.old.sub }
     ensures passed { (row : SubRow) (m : MarketMsg) → sub_seen link.old ≡ sub_view row → Holds (piece_of m) link.old.ready → sub_seen link.new ≡ sub_view (sub_passed m row) }
     ensures out { (row : SubRow) (m : MarketMsg) → sub_seen link.old ≡ sub_view row → Holds (piece_of m) link.old.ready → msgs.old.items ≡ [] → out.new.items ≡ out.old.items ++ emit_outs m row }
     ensures msgs { (row : SubRow) (m : MarketMsg) → sub_seen link.old ≡ sub_view row → Holds (piece_of m) link.old.ready → msgs.old.items ≡ [] → msgs.new.items ≡ [] }
@@ -97,7 +76,7 @@ pub(crate) fn pass<L>(
 }
 
 /// Passes what is prepared for a link on a topic, and nothing through another link.
-fn pass_if<L>(
+pub(crate) fn pass_if<L>(
     link: &mut SubLink,
     topic: u32,
     msgs: &mut Outbox<PieceMsg>,
@@ -106,29 +85,13 @@ fn pass_if<L>(
     requires ready { ReadyIf topic link.old }
     requires msgs { weight topic link.old ≤ msgs.old.spare }
     requires out { weight topic link.old ≤ out.old.spare }
+    ensures sub { link.new.sub ≡ link.old.sub }
     ensures step { PassStep topic link.old link.new msgs.old.items msgs.new.items out.old.items out.new.items }
     ensures msgs_spare { msgs.old.spare ≤ msgs.new.spare + weight topic link.old }
     ensures out_spare { out.old.spare ≤ out.new.spare + weight topic link.old }
 {
     if link.topic == topic {
         pass(link, msgs, out);
-    }
-}
-
-/// Passes what is prepared through all links on a topic, in order.
-pub(crate) fn pass_topic<L>(
-    links: &mut VecDeque<SubLink>,
-    topic: u32,
-    msgs: &mut Outbox<PieceMsg>,
-    out: &mut Outbox<BridgeOut<L>>,
-)
-    requires ready { Each (ReadyIf topic) links.old.items }
-    requires msgs { weights topic links.old.items ≤ msgs.old.spare }
-    requires out { weights topic links.old.items ≤ out.old.spare }
-    ensures { PassSteps topic links.old.items links.new.items msgs.old.items msgs.new.items out.old.items out.new.items }
-{
-    for i in 0..links.len() {
-        pass_if(&mut links[i], topic, msgs, out);
     }
 }
 
@@ -154,20 +117,4 @@ pub(crate) fn end<L>(link: SubLink, msgs: &mut Outbox<PieceMsg>, out: &mut Outbo
     finish(link, msgs);
     deliver(sub, queue, slot, held, msgs, out);
     gone(ObjectId::Sub(sub), queue, slot, out);
-}
-
-/// The place of a subscription's link in the list.
-pub(crate) fn find(links: &VecDeque<SubLink>, sub: SubId) -> Option<usize>
-    ensures { result ≡ position (λ link. same_sub link.sub sub) links.now.items }
-{
-    links.iter().position(|link| link.sub == sub)
-}
-
-/// Takes the link at a place of the list out.
-pub(crate) fn remove_at(links: &mut VecDeque<SubLink>, i: usize) -> SubLink
-    requires { i < deque_len links.old }
-    ensures items { links.new.items ≡ remove links.old.items i }
-    ensures value { result ≡ slice_index_or links.old.items i result }
-{
-    links.remove(i).unwrap()
 }
