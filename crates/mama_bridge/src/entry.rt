@@ -156,11 +156,7 @@ pub(crate) fn held_by_all(entries: &Vec<Option<SubLink>>) -> Result<usize, OutOf
 }
 
 /// Ends the link of an entry, if it is not empty, into outboxes with room.
-fn end_entry<L>(
-    entry: Option<SubLink>,
-    msgs: &mut Outbox<PieceMsg>,
-    out: &mut Outbox<BridgeOut<L>>,
-)
+fn end_entry<L>(entry: Option<SubLink>, msgs: &mut Outbox<PieceMsg>, out: &mut Outbox<BridgeOut<L>>)
     requires msgs { sum_by sub_held (option_to_list entry) ≤ msgs.old.spare }
     requires out { sum_by sub_held (option_to_list entry) + 1 ≤ out.old.spare }
     requires none { msgs.old.items ≡ [] }

@@ -39,7 +39,11 @@ pub(crate) fn prepare(link: &mut SubLink, msg: &PieceMsg) -> Result<usize, OutOf
 }
 
 /// Prepares the next pass of a link on a topic, and nothing of another link.
-pub(crate) fn prepare_if(link: &mut SubLink, topic: u32, msg: &PieceMsg) -> Result<usize, OutOfMemory>
+pub(crate) fn prepare_if(
+    link: &mut SubLink,
+    topic: u32,
+    msg: &PieceMsg,
+) -> Result<usize, OutOfMemory>
     ensures seen { sub_seen link.new ≡ sub_seen link.old }
     ensures ready { OnOk result (ReadyIf topic link.new) }
     ensures holds { OnOk result (HoldsIf topic msg.now link.new) }
