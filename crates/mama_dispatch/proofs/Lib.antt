@@ -15,6 +15,8 @@ pub mod SlotLemmas
 pub mod ComingLaws
 pub mod KeepLemmas
 pub mod RowLemmas
+pub mod RoomLemmas
+pub mod SettleLemmas
 pub mod AnswerLemmas
 pub mod ServingLemmas
 pub mod NoteLemmas

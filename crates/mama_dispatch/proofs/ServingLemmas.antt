@@ -147,11 +147,11 @@ planned_untold x f count ss planned = at_untold (IsPlannedSeat f count) x (λ s 
 pub planned_fits_told : (orders : ObjectId → ℕ → List Order) (ss : List SeatData) → AreFew ss → ArePlanned orders (told_seats ss) → Fits orders (told_seats ss)
 planned_fits_told orders ss few planned = fits_told orders ss (planned_fits orders ss few (λ x. planned_untold x (orders x) 0 ss (planned x)))
 
-seated_told : (h : ObjectId → Bool) (ds : List Deed) (bs : List Born) (ss : List SeatData) → Seated h ds bs ss → Seated h ds bs (told_seats ss)
+pub seated_told : (h : ObjectId → Bool) (ds : List Deed) (bs : List Born) (ss : List SeatData) → Seated h ds bs ss → Seated h ds bs (told_seats ss)
 seated_told h ds bs ss seated =
     seated_map h h ds ds (with_room 0) (λ b s at. record { object = at.object; listener = at.listener; muted = at.muted; context = at.context; calls = at.calls }) bs ss seated
 
-seated_untold : (h : ObjectId → Bool) (ds : List Deed) (bs : List Born) (ss : List SeatData) → Seated h ds bs (told_seats ss) → Seated h ds bs ss
+pub seated_untold : (h : ObjectId → Bool) (ds : List Deed) (bs : List Born) (ss : List SeatData) → Seated h ds bs (told_seats ss) → Seated h ds bs ss
 seated_untold h ds [] [] seated = tt
 seated_untold h ds [] (s ∷ ss) seated = absurd seated
 seated_untold h ds (b ∷ bs) [] seated = absurd seated

@@ -1,5 +1,5 @@
 -- inner: A row of the table in which a queue keeps its objects, as contracts see it.
-use Rattle.std.specs.Prelude.{◌≡◌, ◌^◌, ◌<◌, ◌≤◌, List, length, map}
+use Rattle.std.specs.Prelude.{◌≡◌, ℕ, ◌+◌, ◌^◌, ◌<◌, ◌≤◌, List, [], ◌∷◌, length, map}
 use Rattle.std.specs.Option.{option_map}
 use Rattle.mama_event.specs.declared.ids.ObjectId.{ObjectId}
 use Rattle.mama_event.specs.Listener.{ListenerData}
@@ -32,3 +32,13 @@ pub record AreKept (index : List ObjectId) (seats : List SeatData) : Type 0 wher
   pub keys : index ≡ map (λ s. s.object) seats
   pub apart : AreApart seats
   pub caches : AreSmall seats
+
+-- for how many callbacks more there is room at all seats
+abbrev pub rooms : List SeatData → ℕ
+rooms [] = 0
+rooms (s ∷ ss) = s.room + rooms ss
+
+-- so it is, and so many blocks are promised as there is room
+pub record AreHeld (index : List ObjectId) (seats : List SeatData) (promised : ℕ) : Type 0 where
+  pub kept : AreKept index seats
+  pub room : rooms seats ≡ promised

@@ -252,7 +252,9 @@ fn serve_read<L: Listener, M: Tagged>(
     ensures puts_err { OnErr result (out.new.items ≡ out.old.items) }
 {
     seats.seek(note);
-    serve_noted(alloc, seats, note, code, out)
+    let turn = serve_noted(alloc, seats, note, code, out);
+    seats.settle(note);
+    turn
 }
 
 impl<L: Listener> Seats<L> {

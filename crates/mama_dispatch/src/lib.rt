@@ -10,6 +10,7 @@
 #![tactic(auto)]
 
 mod arms;
+mod blocks;
 mod callbacks;
 mod calling;
 mod entries;

@@ -1,58 +1,57 @@
-ghost use Rattle.std.specs.Prelude.{◌≡◌, ◌<◌, ◌≤◌, ◌+◌, ◌-◌, [], ◌∷◌, ◌++◌, OnOk, IfOk, vec_len, vec_capacity};
+ghost use Rattle.std.specs.Prelude.{◌≡◌, ◌<◌, ◌≤◌, ◌+◌, ◌-◌, [], ◌∷◌, ◌++◌, OnOk, OnErr, IfOk, vec_len, vec_capacity};
 
-use mama_event::{CallNote, Callback, GivenOrders, Orders, OrdersRoom};
+use mama_event::{CallNote, Callback, GivenOrders};
 use mama_memory::OutOfMemory;
 use std::alloc::Global;
 
-/// The callbacks that were noted of an object, and room that was taken ahead for more of them.
+/// The callbacks that were noted of an object, with room that was taken ahead for more of them.
 #[derive(Drop)]
 pub(crate) struct NotedCalls {
     pub(crate) notes: Vec<CallNote>,
-    // A block for the orders of a callback each: one is used where orders are given.
-    pub(crate) blocks: Vec<OrdersRoom>,
-    // So many callbacks more can be noted and no memory wanted.
     pub(crate) room: usize,
     ghost spare: { vec_len notes + room ≤ vec_capacity notes },
-    ghost enough: { room ≤ vec_len blocks },
 }
 
 impl NotedCalls {
     /// No callbacks, with room for the first.
     pub(crate) fn new(alloc: Global) -> Result<NotedCalls, OutOfMemory>
         ensures notes { IfOk result (λ calls. calls.notes.items ≡ []) }
-        ensures room { IfOk result (λ calls. 1 ≤ calls.room) }
+        ensures room { IfOk result (λ calls. calls.room ≡ 1) }
     {
-        let notes = Vec::with_capacity(alloc, 4)?;
-        let mut blocks = Vec::new(alloc);
-        add_blocks(alloc, &mut blocks, 1)?;
         Ok(NotedCalls {
-            notes,
-            blocks,
+            notes: Vec::with_capacity(alloc, 4)?,
             room: 1,
         })
     }
 
-    /// Makes room for so many callbacks more, if there is less.
-    pub(crate) fn reserve(&mut self, more: usize) -> Result<(), OutOfMemory>
+    /// Makes room for so many callbacks.
+    pub(crate) fn reserve(&mut self, wanted: usize) -> Result<(), OutOfMemory>
         ensures notes { self.new.notes.items ≡ self.old.notes.items }
-        ensures ok { OnOk result (more ≤ self.new.room) }
+        ensures ok { OnOk result (self.new.room ≡ wanted) }
+        ensures err { OnErr result (self.new.room ≡ self.old.room) }
     {
-        if more <= self.room {
-            return Ok(());
-        }
-        self.notes.reserve(more)?;
-        add_blocks(*self.notes.allocator(), &mut self.blocks, more)?;
-        self.room = more;
+        self.notes.reserve(wanted)?;
+        self.room = wanted;
         Ok(())
     }
 
+    /// Gives all room up. The answer is for how many callbacks it was.
+    pub(crate) fn give_up(&mut self) -> usize
+        ensures notes { self.new.notes.items ≡ self.old.notes.items }
+        ensures room { self.new.room ≡ 0 }
+        ensures result { result ≡ self.old.room }
+    {
+        let room = self.room;
+        self.room = 0;
+        room
+    }
+
     /// Notes a callback with the orders that were given in it. It takes no memory.
-    pub(crate) fn push(&mut self, call: Callback, orders: &Orders)
+    pub(crate) fn push(&mut self, call: Callback, orders: GivenOrders)
         requires { 0 < self.old.room }
-        ensures notes { self.new.notes.items ≡ self.old.notes.items ++ record { call = call; orders = orders.now } ∷ [] }
+        ensures notes { self.new.notes.items ≡ self.old.notes.items ++ record { call = call; orders = orders } ∷ [] }
         ensures room { self.new.room ≡ self.old.room - 1 }
     {
-        let orders = keep_orders(&mut self.blocks, orders);
         self.notes.push_reserved(CallNote { call, orders });
         self.room -= 1;
     }
@@ -61,37 +60,7 @@ impl NotedCalls {
     pub(crate) fn into_notes(self) -> Vec<CallNote>
         ensures { result.items ≡ self.notes.items }
     {
-        let NotedCalls {
-            notes,
-            blocks: _,
-            room: _,
-        } = self;
+        let NotedCalls { notes, room: _ } = self;
         notes
-    }
-}
-
-/// Adds blocks until there are so many.
-fn add_blocks(alloc: Global, blocks: &mut Vec<OrdersRoom>, wanted: usize) -> Result<(), OutOfMemory>
-    ensures ok { OnOk result (wanted ≤ vec_len blocks.new) }
-    ensures others { vec_len blocks.old ≤ vec_len blocks.new }
-{
-    for _i in blocks.len()..wanted {
-        blocks.push(OrdersRoom::new(alloc)?)?;
-    }
-    Ok(())
-}
-
-/// A copy of these orders, in one of the blocks if there are some.
-fn keep_orders(blocks: &mut Vec<OrdersRoom>, orders: &Orders) -> GivenOrders
-    requires { 0 < vec_len blocks.old }
-    ensures orders { result ≡ orders.now }
-    ensures others { vec_len blocks.old ≤ vec_len blocks.new + 1 }
-{
-    if orders.is_empty() {
-        return GivenOrders::none();
-    }
-    match blocks.pop() {
-        Some(block) => GivenOrders::in_room(block, orders),
-        None => unreachable!(),
     }
 }

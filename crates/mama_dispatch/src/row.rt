@@ -9,6 +9,7 @@ ghost use Rattle.mama_dispatch.specs.Rows.{row_data, IsSmall};
 ghost use Rattle.mama_dispatch.specs.Images.{lent, image_at};
 ghost use Rattle.mama_dispatch.specs.Journals.{image_in};
 
+use crate::blocks::Blocks;
 use crate::calling::make;
 use crate::noted_calls::NotedCalls;
 use mama_dq::{Calls, DqContext};
@@ -41,15 +42,17 @@ pub(crate) fn hear<L: Listener>(listener: &mut Option<L>, call: &Callback) -> Or
     }
 }
 
-/// Makes a callback of a row, and notes it. The answer is what was ordered.
-pub(crate) fn make_at<L: Listener>(row: &mut Row<L>, call: Callback) -> Orders
+/// Makes a callback of a row, which was promised a block for its orders, and notes it. The answer is what was ordered.
+pub(crate) fn make_at<L: Listener>(row: &mut Row<L>, call: Callback, blocks: &mut Blocks) -> Orders
     requires here { is_some row.old.listener ≡ true }
     requires room { 0 < row.old.calls.room }
+    requires promised { 0 < blocks.old.promised }
     ensures heard { HeardIn call (option_map (told L.tagged L.calls L.heard L.given L.plan) row.old.listener) (option_map (told L.tagged L.calls L.heard L.given L.plan) row.new.listener) result }
     ensures row { row_data (told L.tagged L.calls L.heard L.given L.plan) row.new ≡ called_with call result (option_map (told L.tagged L.calls L.heard L.given L.plan) row.new.listener) (row_data (told L.tagged L.calls L.heard L.given L.plan) row.old) }
+    ensures promised { blocks.new.promised + 1 ≡ blocks.old.promised }
 {
     let orders = hear(&mut row.listener, &call);
-    row.calls.push(call, &orders);
+    row.calls.push(call, blocks.keep(&orders));
     orders
 }
 
@@ -85,12 +88,32 @@ pub(crate) fn step_at<L: Listener>(
     row.context.step(msg, pending)
 }
 
-/// Makes room for more callbacks at a row.
-pub(crate) fn reserve_at<L: Listener>(row: &mut Row<L>, more: usize) -> Result<(), OutOfMemory>
+/// Makes room for more callbacks at a row, each of which is promised a block for its orders.
+pub(crate) fn reserve_at<L: Listener>(
+    row: &mut Row<L>,
+    more: usize,
+    blocks: &mut Blocks,
+) -> Result<(), OutOfMemory>
     ensures row { row_data (told L.tagged L.calls L.heard L.given L.plan) row.new ≡ with_room row.new.calls.room (row_data (told L.tagged L.calls L.heard L.given L.plan) row.old) }
     ensures ok { OnOk result (more ≤ row.new.calls.room) }
+    ensures promised { blocks.new.promised + row.old.calls.room ≡ blocks.old.promised + row.new.calls.room }
 {
-    row.calls.reserve(more)
+    let room = row.calls.room;
+    if more <= room {
+        return Ok(());
+    }
+    blocks.stock(more - room)?;
+    row.calls.reserve(more)?;
+    blocks.promise(more - room);
+    Ok(())
+}
+
+/// Gives the room up that a row has for more callbacks. The answer is for how many it was.
+pub(crate) fn settle_at<L: Listener>(row: &mut Row<L>) -> usize
+    ensures row { row_data (told L.tagged L.calls L.heard L.given L.plan) row.new ≡ with_room 0 (row_data (told L.tagged L.calls L.heard L.given L.plan) row.old) }
+    ensures room { result ≡ row.old.calls.room }
+{
+    row.calls.give_up()
 }
 
 /// The context of a new object.

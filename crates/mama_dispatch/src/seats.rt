@@ -15,10 +15,11 @@ ghost use Rattle.mama_dispatch.specs.Served.{calls_at};
 ghost use Rattle.mama_dispatch.specs.Images.{lent, image_at};
 ghost use Rattle.mama_dispatch.specs.Rows.{row_data};
 
+use crate::blocks::Blocks;
 use crate::noted_calls::NotedCalls;
 use crate::row::{
     ImageRow, Row, image_of, live_image, make_at, most_calls, mute_at, new_row, reserve_at,
-    step_at, take_at,
+    settle_at, step_at, take_at,
 };
 use indexmap::IndexSet;
 use mama_dq::{Calls, DqContext};
@@ -38,6 +39,8 @@ pub(crate) struct Seats<L: Listener> {
     rows: Vec<Row<L>>,
     // Where an object was found last. It is looked for there first: an event asks for its object many times.
     last: usize,
+    // The blocks that the room of all rows is promised.
+    blocks: Blocks,
 }
 
 impl<L: Listener> Model for Seats<L> {
@@ -48,11 +51,11 @@ impl<L: Listener> Model for Seats<L> {
 
     ghost use Rattle.std.specs.Prelude.{map};
     ghost use Rattle.mama_event.specs.Listener.{told};
-    ghost use Rattle.mama_dispatch.specs.Rows.{row_data, AreKept};
+    ghost use Rattle.mama_dispatch.specs.Rows.{row_data, AreHeld};
 
     ghost view = { λ s. map (row_data (told L.tagged L.calls L.heard L.given L.plan)) s.rows.items };
 
-    ghost invariant = { λ s. AreKept s.places.keys (map (row_data (told L.tagged L.calls L.heard L.given L.plan)) s.rows.items) };
+    ghost invariant = { λ s. AreHeld s.places.keys (map (row_data (told L.tagged L.calls L.heard L.given L.plan)) s.rows.items) s.blocks.promised };
 }
 
 /// Whether a place is that of a row, and that row is of this object.
@@ -90,6 +93,7 @@ impl<L: Listener> Seats<L> {
             places: IndexSet::new(alloc),
             rows: Vec::new(alloc),
             last: 0,
+            blocks: Blocks::new(alloc),
         }
     }
 
@@ -141,6 +145,19 @@ impl<L: Listener> Seats<L> {
         let _ = &self.rows;
     }
 
+    /// Gives the room up that the object of an entry has left, so that its blocks are there for others.
+    pub(crate) fn settle(&mut self, note: &QueueNote)
+        ensures { map (with_room 0) self.new ≡ map (with_room 0) self.old }
+    {
+        let Some(object) = object_of(note) else {
+            return;
+        };
+        if let Some(place) = self.place(&object) {
+            let left = settle_at(&mut self.rows[place]);
+            self.blocks.release(left);
+        }
+    }
+
     /// How many objects were made here.
     pub(crate) fn len(&self) -> usize
         ensures len { result ≡ length self.now }
@@ -158,6 +175,7 @@ impl<L: Listener> Seats<L> {
             places,
             rows,
             last: _,
+            blocks: _,
         } = self;
         (places, rows)
     }
@@ -227,7 +245,7 @@ impl<L: Listener> Seats<L> {
         ensures seats { self.new ≡ map (at object.now (called_with call result (listener_in object.now self.new))) self.old }
     {
         let place = self.live_place(object);
-        make_at(&mut self.rows[place], call)
+        make_at(&mut self.rows[place], call, &mut self.blocks)
     }
 
     /// Mutes an object, if it is live here.
@@ -292,10 +310,14 @@ impl<L: Listener> Seats<L> {
         let Ok(calls) = NotedCalls::new(alloc) else {
             return Err(listener);
         };
-        if self.rows.reserve(1).is_err() || add_place(&mut self.places, object).is_err() {
+        if self.rows.reserve(1).is_err()
+            || self.blocks.stock(1).is_err()
+            || add_place(&mut self.places, object).is_err()
+        {
             return Err(listener);
         }
         self.last = self.rows.len();
+        self.blocks.promise(1);
         self.rows
             .push_reserved(new_row(alloc, object, make, listener, calls));
         Ok(())
@@ -308,7 +330,7 @@ impl<L: Listener> Seats<L> {
         ensures ok { OnOk result (more ≤ room_in object.now self.new) }
     {
         let place = self.live_place(object);
-        reserve_at(&mut self.rows[place], more)
+        reserve_at(&mut self.rows[place], more, &mut self.blocks)
     }
 
     /// Takes a message of a live subscription: its context changes, and the callbacks of the message are added. After want

@@ -14,7 +14,7 @@ use Rattle.mama_dispatch.proofs.RowLemmas.{row_small}
 use Rattle.mama_dispatch.proofs.seats.Seats.most_calls.Goals as goal
 
 pub most_calls-requires : goal.most_calls-requires
-most_calls-requires g c = row_small (told g.L.Tagged.tagged g.L.Listener.calls g.L.Listener.heard g.L.Listener.given g.L.Listener.plan) c.self.inside.rows.items c.self.inside.places.keys c.live_place-place.result c.index.result.now c.args.object.now c.args.self.now c.self.view_is c.self.invariant c.live_place-place.ensures c.index.ensures
+most_calls-requires g c = row_small (told g.L.Tagged.tagged g.L.Listener.calls g.L.Listener.heard g.L.Listener.given g.L.Listener.plan) c.self.inside.rows.items c.self.inside.places.keys c.live_place-place.result c.index.result.now c.args.object.now c.args.self.now c.self.view_is c.self.invariant.kept c.live_place-place.ensures c.index.ensures
 
 pub returns-clause-calls : goal.returns-clause-calls
 returns-clause-calls g c = subst (λ (x : ContextData). (msg : MarketMsg) → length (callbacks_of x msg) ≤ c.most_calls.result)

@@ -29,14 +29,14 @@ returns-then-is_row_of-clause-some g c =
     let seen = ap (map (row_data (told g.L.Tagged.tagged g.L.Listener.calls g.L.Listener.heard g.L.Listener.given g.L.Listener.plan))) c.as_slice.ensures.value ∙ c.self.view_is in
     place_guessed o c.self.inside.last c.args.self.now
     (subst (λ (ss : List SeatData). IsSeatOf o c.self.inside.last ss) seen (on_true c.is_row_of.result c.if-is_row_of.true c.is_row_of.ensures))
-    (subst AreApart c.self.view_is c.self.invariant.apart)
+    (subst AreApart c.self.view_is c.self.invariant.kept.apart)
 
 pub returns-clause-some : goal.returns-clause-some
 returns-clause-some g c =
     let o = c.args.object.now in
     place_some o c.get_index_of.result c.args.self.now
     (c.get_index_of.ensures.index ∙ position_same (eq-value.it o) (same_object o) _ (same o)
-    ∙ ap (position (same_object o)) c.self.invariant.keys
+    ∙ ap (position (same_object o)) c.self.invariant.kept.keys
     ∙ ap (λ (ss : List SeatData). position (same_object o) (map (λ (s : SeatData). s.object) ss)) c.self.view_is)
 
 pub returns-clause-none : goal.returns-clause-none
@@ -44,5 +44,5 @@ returns-clause-none g c =
     let o = c.args.object.now in
     place_none o c.get_index_of.result c.args.self.now
     (c.get_index_of.ensures.found ∙ list_any_same (eq-value.it o) (same_object o) _ (same o)
-    ∙ ap (list_any (same_object o)) c.self.invariant.keys
+    ∙ ap (list_any (same_object o)) c.self.invariant.kept.keys
     ∙ ap (λ (ss : List SeatData). list_any (same_object o) (map (λ (s : SeatData). s.object) ss)) c.self.view_is)

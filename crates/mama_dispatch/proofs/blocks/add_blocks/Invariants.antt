@@ -1,6 +1,6 @@
 use Rattle.std.specs.Vec.{vec_len}
 use Rattle.std.proofs.Common.{◌≤◌}
-use Rattle.mama_dispatch.proofs.noted_calls.add_blocks.Given as goal
+use Rattle.mama_dispatch.proofs.blocks.add_blocks.Given as goal
 
 abbrev pub invariant-loop-i : goal.invariant-loop-i
 invariant-loop-i l = record {
