@@ -293,7 +293,7 @@ live_gains link place before old new joined rows row adds same is live awaits se
     room : HasRoomOn old.topics link.topic link.sub
     room =
         ap (λ n. awaited_in (get nat_cmp old.topics n)) (topic ∙ sym (ap (λ (p : Place). p.topic) is))
-        ∙ awaits.room absent ∙ ap Some (sub ∙ sym (ap (λ (v : SubView). v.sub) seen))
+        ∙ awaits.room refl absent ∙ ap Some (sub ∙ sym (ap (λ (v : SubView). v.sub) seen))
 
     on : OnTopic link.topic (λ a b. b ≡ a ++ link ∷ []) old.topics new.topics
     on = adds room

@@ -3,7 +3,6 @@ pub mod FlagLemmas
 pub mod Moving
 pub mod Stepping
 pub mod TheOne
-pub mod Found
 pub mod HeldLemmas
 pub mod Adding
 pub mod Wishing

@@ -15,7 +15,7 @@ use Rattle.mama_bridge.specs.Placed.{present, entry_passes, IsAt, IsOnlyAt}
 use Rattle.mama_bridge.specs.declared.out.BridgeOut.{BridgeOut}
 use Rattle.mama_bridge.specs.declared.subs.SubLink.{SubLink}
 use Rattle.mama_bridge.proofs.Entries.{present_step, present_push, present_split}
-use Rattle.mama_bridge.proofs.Stepping.{pass_more, same_at, take-set-next, each_push}
+use Rattle.mama_bridge.proofs.Stepping.{pass_more, same_at, take-set-next}
 use Rattle.mama_bridge.proofs.TheOne.{none_taken, none_changed, none_without, any_of_taken}
 
 heads : {V : Type 0} {v w : V} {vs ws : List V} → v ∷ vs ≡ w ∷ ws → v ≡ w

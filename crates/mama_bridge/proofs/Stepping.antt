@@ -23,11 +23,6 @@ use Rattle.mama_bridge.specs.Links.{SubView, InboxView, sub_seen, sub_view, inbo
 
 -- ---- lists
 
-pub each_at : {X : Type 0} (P : X → Type 0) (xs : List X) (i : ℕ) (d : X) → i < length xs → Each P xs → P (get_or xs i d)
-each_at P [] i d lt h = absurd (omega arith)
-each_at P (x ∷ xs) zero d lt h = h.0
-each_at P (x ∷ xs) (suc i) d lt h = each_at P xs i d (omega arith) h.1
-
 each_front : {X : Type 0} (P : X → Type 0) (xs ys : List X) → Each P (xs ++ ys) → Each P xs
 each_front P [] ys h = tt
 each_front P (x ∷ xs) ys h = (h.0, each_front P xs ys h.1)
@@ -35,10 +30,6 @@ each_front P (x ∷ xs) ys h = (h.0, each_front P xs ys h.1)
 each_last : {X : Type 0} (P : X → Type 0) (xs : List X) (y : X) → Each P (xs ++ y ∷ []) → P y
 each_last P [] y h = h.0
 each_last P (x ∷ xs) y h = each_last P xs y h.1
-
-pub each_push : {X : Type 0} (P : X → Type 0) (xs : List X) (y : X) → Each P xs → P y → Each P (xs ++ y ∷ [])
-each_push P [] y h p = (p, tt)
-each_push P (x ∷ xs) y h p = (h.0, each_push P xs y h.1 p)
 
 pub same_at : {X : Type 0} (xs ys : List X) (i : ℕ) (d : X) → drop i xs ≡ drop i ys → get_or xs i d ≡ get_or ys i d
 same_at xs ys i d h =
@@ -236,52 +227,14 @@ inbox_ends_with {L} seen held m0 m1 m2 o0 o1 o2 count finished delivered left go
 
 -- ---- turns of loops by index
 
-next_front : {X : Type 0} (xs ys : List X) (i : ℕ) (x : X) → i < length xs → x ≡ get_or ys i x → drop i ys ≡ drop i xs → take (i + 1) xs ≡ take i xs ++ x ∷ []
-next_front xs ys i x lt value left =
-    let one : i + 1 ≡ suc i = omega arith in
-    ap (λ n. take n xs) one ∙ take-next xs i x lt ∙ ap (λ z. take i xs ++ z ∷ []) (sym (value ∙ same_at ys xs i x left))
-
-next_written : {X : Type 0} (ys : List X) (i : ℕ) (y : X) → i < length ys → take (i + 1) (set ys i y) ≡ take i ys ++ y ∷ []
-next_written ys i y lt = let one : i + 1 ≡ suc i = omega arith in ap (λ n. take n (set ys i y)) one ∙ take-set-next ys i y lt
-
 pub left_turn : {X : Type 0} (xs ys : List X) (i : ℕ) (y : X) → drop i ys ≡ drop i xs → drop (i + 1) (set ys i y) ≡ drop (i + 1) xs
 left_turn xs ys i y left = let one : i + 1 ≡ suc i = omega arith in ap (λ n. drop n (set ys i y)) one ∙ drop-set-next ys i y ∙ drop-next ys xs i left ∙ ap (λ n. drop n xs) (sym one)
-
-pub weights_turn : (topic : ℕ) (xs ys : List SubLink) (i : ℕ) (x : SubLink) → i < length xs → x ≡ get_or ys i x → drop i ys ≡ drop i xs → weights topic (drop i xs) ≡ weight topic x + weights topic (drop (i + 1) xs)
-weights_turn topic xs ys i x lt value left =
-    sum_by-drop_more (weight topic) xs i x lt ∙ ap (λ z. weight topic z + weights topic (drop (i + 1) xs)) (sym (value ∙ same_at ys xs i x left))
-
-pub pass_turn : {L : Type 0} (topic : ℕ) (xs ys : List SubLink) (i : ℕ) (x y : SubLink) (m0 m1 m2 : List PieceMsg) (o0 o1 o2 : List (BridgeOut L))
-    → i < length xs → length ys ≡ length xs → x ≡ get_or ys i x → drop i ys ≡ drop i xs
-    → PassSteps topic (take i xs) (take i ys) m0 m1 o0 o1 → PassStep topic x y m1 m2 o1 o2 → PassSteps topic (take (i + 1) xs) (take (i + 1) (set ys i y)) m0 m2 o0 o2
-pass_turn topic xs ys i x y m0 m1 m2 o0 o1 o2 lt len value left steps step =
-    rw (next_front xs ys i x lt value left, next_written ys i y (omega (arith, lt, len))) (pass_more topic (take i xs) (take i ys) x y m0 m1 m2 o0 o1 o2 steps step)
-
-pub pass_all : {L : Type 0} (topic : ℕ) (xs ys : List SubLink) (i : ℕ) (m0 m1 : List PieceMsg) (o0 o1 : List (BridgeOut L))
-    → length xs ≤ i → length ys ≡ length xs → PassSteps topic (take i xs) (take i ys) m0 m1 o0 o1 → PassSteps topic xs ys m0 m1 o0 o1
-pass_all {L} topic xs ys i m0 m1 o0 o1 most len steps =
-    let all_xs : take i xs ≡ xs = take_all i xs most in
-    let all_ys : take i ys ≡ ys = take_all i ys (omega (arith, most, len)) in
-    let front = subst (λ (zs : List SubLink). PassSteps {L = L} topic zs (take i ys) m0 m1 o0 o1) all_xs steps in
-    subst (λ (zs : List SubLink). PassSteps {L = L} topic xs zs m0 m1 o0 o1) all_ys front
-
--- what holds of the links up to one more
-pub each_turn : {X : Type 0} (P : X → Type 0) (ys : List X) (i : ℕ) (y : X) → i < length ys → Each P (take i ys) → P y → Each P (take (i + 1) (set ys i y))
-each_turn P ys i y lt h p = rw (next_written ys i y lt) (each_push P (take i ys) y h p)
-
-pub each_upto : {X : Type 0} (P : X → Type 0) (ys : List X) (i : ℕ) → length ys ≤ i → Each P (take i ys) → Each P ys
-each_upto {X} P ys i most h = subst (λ (zs : List X). Each P zs) (take_all i ys most) h
 
 -- a link that is seen as before
 pub seen_turn : {X V : Type 0} (f : X → V) (ys : List X) (i : ℕ) (x y : X) → i < length ys → x ≡ get_or ys i x → f y ≡ f x → map f (set ys i y) ≡ map f ys
 seen_turn f [] i x y lt value same = absurd (omega arith)
 seen_turn f (z ∷ zs) zero x y lt value same = ap (λ v. v ∷ map f zs) (same ∙ ap f value)
 seen_turn f (z ∷ zs) (suc i) x y lt value same = ap (λ vs. f z ∷ vs) (seen_turn f zs i x y (omega arith) value same)
-
-pub weights_upto : (topic : ℕ) (ys : List SubLink) (i : ℕ) (y : SubLink) → i < length ys → weights topic (take (i + 1) (set ys i y)) ≡ weights topic (take i ys) + weight topic y
-weights_upto topic ys i y lt =
-    ap (weights topic) (next_written ys i y lt) ∙ sum_by-append (weight topic) (take i ys) (y ∷ [])
-    ∙ ap (λ n. weights topic (take i ys) + n) (sum_by-cons (weight topic) y [] ∙ add-zero (weight topic y))
 
 -- one number more
 pub numbers_more : {B : Type 0} (f : ℕ → B) (n : ℕ) → map f (numbers_below (n + 1)) ≡ map f (numbers_below n) ++ f n ∷ []

@@ -93,7 +93,7 @@ LiveFrees s live old new = (joined : List SubId) (rows : List SubRow) → IsLive
 -- one subscription more joined, which did not before, and its link is still to come
 pub record Awaits (ended : Bool) (place : Place) (old new : Live) : Type 0 where
   pub fresh : is_sub_among old.places.joined place.sub ≡ false
-  pub room : list_any (is_link_of place.sub) (links_on old.topics place.topic) ≡ false → HasRoomOn new.topics place.topic place.sub
+  pub room : ended ≡ false → list_any (is_link_of place.sub) (links_on old.topics place.topic) ≡ false → HasRoomOn new.topics place.topic place.sub
   pub joined : (one : SubId) → is_sub_among new.places.joined one ≡ (is_sub_among old.places.joined one || same_sub place.sub one)
   pub places : new.places.live ≡ old.places.live ++ kept ended (place ∷ [])
   pub topics : (q : ℕ) → links_on new.topics q ≡ links_on old.topics q

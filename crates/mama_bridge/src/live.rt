@@ -131,6 +131,24 @@ fn reserve_on(
     Ok(())
 }
 
+/// Makes room for the link of a subscription on a topic, unless the ending has come.
+fn reserve_unless(
+    ended: bool,
+    alloc: Global,
+    topics: &mut ByTopic,
+    topic: u32,
+    sub: SubId,
+) -> Result<(), OutOfMemory>
+    ensures room { OnOk result (ended ≡ false → list_any (is_link_of sub) (links_on topics.old topic) ≡ false → HasRoomOn topics.new topic sub) }
+    ensures same { (q : ℕ) → links_on topics.new q ≡ links_on topics.old q }
+{
+    if ended {
+        Ok(())
+    } else {
+        reserve_on(alloc, topics, topic, sub)
+    }
+}
+
 /// Adds a link after those of its topic, if there is room for it.
 fn add_on(topics: &mut ByTopic, topic: u32, link: SubLink)
     ensures { HasRoomOn topics.old topic link.sub → OnTopic topic (λ old new. new ≡ old ++ link ∷ []) topics.old topics.new }
@@ -316,7 +334,7 @@ impl Live {
         }
     }
 
-    /// Notes that a subscription joined, and makes room for its link. Its place is noted unless the ending has come.
+    /// Notes that a subscription joined, and, unless the ending has come, its place, and makes room for its link.
     pub(crate) fn ready(
         &mut self,
         alloc: Global,
@@ -327,7 +345,7 @@ impl Live {
         ensures awaits { OnOk result (Awaits ended place self.old self.new) }
         ensures same { OnErr result (StaysLive self.old self.new) }
     {
-        reserve_on(alloc, &mut self.topics, place.topic, place.sub)?;
+        reserve_unless(ended, alloc, &mut self.topics, place.topic, place.sub)?;
         self.places.join(ended, place)
     }
 
