@@ -1,10 +1,9 @@
 -- The links of one topic, as they stand in entries and are found by the indexes that are noted.
 use Rattle.std.specs.Prelude.{is_some, nat_lt}
 use Rattle.std.specs.BTreeMap.{BTreeMap, get, is_at}
-use Rattle.std.specs.List.{list_any, flat_map}
-use Rattle.std.proofs.Common.{◌≡◌, ℕ, zero, suc, ◌+◌, ◌-◌, ◌<◌, ◌≤◌, Bool, true, false, not, ◌||◌, ◌==◌, cond, List, [], ◌∷◌, ◌++◌, length, map, filter, get_or, set, take, drop, Option, None, Some, refl, sym, ◌∙◌, ap, arith, subst, append-nil, ⊎_elim, length-set, length-append}
+use Rattle.std.specs.List.{list_any}
+use Rattle.std.proofs.Common.{◌≡◌, ℕ, zero, suc, ◌+◌, ◌-◌, ◌<◌, ◌≤◌, Bool, true, false, not, ◌||◌, ◌==◌, cond, List, [], ◌∷◌, ◌++◌, length, get_or, set, take, Option, None, Some, refl, sym, ◌∙◌, ap, arith, subst, ⊎_elim, length-set, length-append}
 use Rattle.std.proofs.lemmas.List.{length-map, get_or_default}
-use Rattle.std.proofs.lemmas.List.Sums.{sum_by-append}
 use Rattle.std.proofs.lemmas.Option.{same_Some}
 use Rattle.std.proofs.lemmas.Bool.{eqb-true, eqb-false}
 use Rattle.std.proofs.lemmas.Bool.Decides.{nat_tests}
@@ -13,11 +12,10 @@ use Rattle.mama_event.specs.Object.{same_sub}
 use Rattle.mama_event.specs.declared.ids.SubId.{SubId}
 use Rattle.mama_laws_bridge.specs.Table.{without}
 use Rattle.mama_bridge.specs.Ids.{sub_cmp}
-use Rattle.mama_bridge.specs.Links.{SubView, sub_seen, sub_held}
-use Rattle.mama_bridge.specs.Linked.{is_link_of, entry_sub, entry_seen, subs_in, AreIndexed, IsAbsent, IsGap, IsLast, IsAwaited, IsNoted}
+use Rattle.mama_bridge.specs.Linked.{is_link_of, entry_sub, subs_in, AreIndexed, IsAbsent, IsGap, IsNoted}
 use Rattle.mama_bridge.specs.Placed.{present, IsOnlyAt, IndexedBy}
 use Rattle.mama_bridge.specs.declared.subs.SubLink.{SubLink}
-use Rattle.mama_bridge.proofs.Entries.{present_step, pushed, emptied, replaced}
+use Rattle.mama_bridge.proofs.Entries.{pushed, emptied, replaced}
 use Rattle.mama_bridge.proofs.Known.{sub_ties}
 
 -- ---- entries, some of which are empty

@@ -1,7 +1,7 @@
 -- What is done to one entry's link, or to the links of all entries, is done for the rows that they stand for.
 use Rattle.std.specs.Prelude.{is_some, option_to_list, sum_by}
 use Rattle.std.specs.List.{list_any, flat_map}
-use Rattle.std.proofs.Common.{◌≡◌, ℕ, zero, suc, ◌+◌, ◌<◌, ◌≤◌, Bool, true, false, not, ◌||◌, cond, List, [], ◌∷◌, ◌++◌, length, map, filter, get_or, set, take, drop, Option, None, Some, refl, sym, ◌∙◌, ap, arith, subst, append-nil}
+use Rattle.std.proofs.Common.{◌≡◌, ℕ, zero, suc, ◌+◌, ◌<◌, ◌≤◌, Bool, true, false, not, cond, List, [], ◌∷◌, ◌++◌, length, map, filter, get_or, set, take, drop, Option, None, Some, refl, sym, ◌∙◌, ap, arith, subst, append-nil}
 use Rattle.std.proofs.lemmas.List.{take_all}
 use Rattle.std.proofs.lemmas.List.Sums.{sum_by-append}
 use Rattle.std.proofs.lemmas.Option.{same_Some}
@@ -14,7 +14,7 @@ use Rattle.mama_bridge.specs.Linked.{is_link_of, entry_sub, entry_seen, subs_in,
 use Rattle.mama_bridge.specs.Placed.{present, entry_passes, IsAt, IsOnlyAt}
 use Rattle.mama_bridge.specs.declared.out.BridgeOut.{BridgeOut}
 use Rattle.mama_bridge.specs.declared.subs.SubLink.{SubLink}
-use Rattle.mama_bridge.proofs.Entries.{present_step, present_push, present_split}
+use Rattle.mama_bridge.proofs.Entries.{present_step, present_push}
 use Rattle.mama_bridge.proofs.Stepping.{pass_more, same_at, take-set-next}
 use Rattle.mama_bridge.proofs.TheOne.{none_taken, none_changed, none_without, any_of_taken}
 

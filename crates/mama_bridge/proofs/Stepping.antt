@@ -1,11 +1,11 @@
 -- Steps over the links of a bridge, one after another.
 use Rattle.std.specs.Prelude.{sum_by, option_to_list}
 use Rattle.std.specs.List.{flat_map}
-use Rattle.std.proofs.Common.{◌≡◌, ℕ, zero, suc, ◌+◌, ◌<◌, ◌≤◌, Bool, true, false, cond, List, [], ◌∷◌, ◌++◌, length, map, filter, take, drop, get_or, set, Option, None, Some, refl, sym, ◌∙◌, ap, arith, append-nil, append_assoc, subst, add-zero}
+use Rattle.std.proofs.Common.{◌≡◌, ℕ, zero, suc, ◌+◌, ◌<◌, Bool, true, false, cond, List, [], ◌∷◌, ◌++◌, length, map, filter, take, drop, get_or, set, Option, None, Some, refl, sym, ◌∙◌, ap, arith, append-nil, append_assoc}
 use Rattle.std.proofs.lemmas.List.{map-append, take_all, get_or-drop, length-map}
 use Rattle.std.proofs.lemmas.List.Concat.{flat_map-append}
 use Rattle.std.proofs.lemmas.List.Elements.{filter-append}
-use Rattle.std.proofs.lemmas.List.Sums.{sum_by-drop_more, sum_by-append, sum_by-cons}
+use Rattle.std.proofs.lemmas.List.Sums.{sum_by-cons}
 use Rattle.mama_link.specs.Link.{rest}
 use Rattle.mama_link.specs.Standing.{standing_after, StandsFor}
 use Rattle.mama_journal.specs.Journal.{numbers_below}
@@ -19,7 +19,7 @@ use Rattle.mama_bridge.specs.declared.out.BridgeOut.{BridgeOut}
 use Rattle.mama_bridge.specs.declared.out.BridgeOut.TheVariants as out
 use Rattle.mama_bridge.specs.declared.subs.SubLink.{SubLink}
 use Rattle.mama_bridge.specs.declared.inboxes.InboxLink.{InboxLink}
-use Rattle.mama_bridge.specs.Links.{SubView, InboxView, sub_seen, sub_view, inbox_seen, inbox_view, Each, HoldsIf, weight, weights, row_is_on, sub_outs, emit_outs, end_outs, inbox_outs, inbox_end_outs, PassStep, PassSteps, EndStep, EndSteps, InboxEndStep, InboxEndSteps}
+use Rattle.mama_bridge.specs.Links.{SubView, InboxView, sub_seen, sub_view, inbox_seen, inbox_view, Each, HoldsIf, row_is_on, sub_outs, emit_outs, end_outs, inbox_outs, inbox_end_outs, PassStep, PassSteps, EndStep, EndSteps, InboxEndStep, InboxEndSteps}
 
 -- ---- lists
 

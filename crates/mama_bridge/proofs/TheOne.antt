@@ -1,11 +1,7 @@
 -- Rows of which none passes a test.
-use Rattle.std.specs.Prelude.{position, nat_lt, remove}
-use Rattle.std.specs.List.{list_any, position_or_len, flat_map}
-use Rattle.std.proofs.Common.{◌≡◌, ℕ, zero, suc, ◌+◌, ◌<◌, Bool, true, false, not, ◌||◌, cond, List, [], ◌∷◌, ◌++◌, length, map, filter, get_or, set, take, drop, None, Some, refl, sym, ◌∙◌, ap, arith, subst, append-nil}
-use Rattle.std.proofs.lemmas.List.Quantifiers.{position-Some}
-use Rattle.std.proofs.lemmas.Bool.Decides.{nat_tests}
+use Rattle.std.specs.List.{list_any}
+use Rattle.std.proofs.Common.{◌≡◌, Bool, true, false, ◌||◌, cond, List, [], ◌∷◌, filter, refl, ap}
 use Rattle.mama_laws_bridge.specs.Table.{changed, without}
-use Rattle.mama_laws_bridge.specs.Laws.{Alone}
 
 or_first : (a b : Bool) → (a || b) ≡ false → a ≡ false
 or_first true b h = h

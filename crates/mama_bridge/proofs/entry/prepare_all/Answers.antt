@@ -1,5 +1,4 @@
-use Rattle.std.proofs.Common.{◌<◌, ◌≤◌, ◌+◌, length, arith, ◌∙◌, ap, sym, take, length-set, subst}
-use Rattle.std.proofs.lemmas.List.{take_all}
+use Rattle.std.proofs.Common.{◌<◌, ◌+◌, length, arith, ◌∙◌, ap, sym, take, length-set}
 use Rattle.mama_bridge.specs.Links.{ReadyIf, HoldsIf, weights}
 use Rattle.mama_bridge.specs.Linked.{entry_seen}
 use Rattle.mama_bridge.specs.Placed.{present}

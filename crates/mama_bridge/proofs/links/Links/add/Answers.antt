@@ -1,4 +1,4 @@
-use Rattle.std.proofs.Common.{◌≡◌, ◌<◌, ◌-◌, ◌+◌, length, arith, rules, sym, ◌∙◌, ap, subst, ◌++◌, ◌∷◌, [], None, List}
+use Rattle.std.proofs.Common.{◌-◌, arith, rules, sym, ◌∙◌, ap, subst, ◌++◌, ◌∷◌, [], None, List}
 use Rattle.std.specs.declared.option.Option.{Option}
 use Rattle.mama_event.specs.declared.ids.SubId.{SubId}
 use Rattle.mama_bridge.specs.Placed.{present}

@@ -1,4 +1,4 @@
-use Rattle.std.proofs.Common.{ap, ◌∙◌, sym, subst, map, set, ◌++◌, None}
+use Rattle.std.proofs.Common.{ap, ◌∙◌, sym, subst, map, set}
 use Rattle.std.proofs.lemmas.Result.{on_ok_weaker}
 use Rattle.std.specs.declared.option.Option.{Option}
 use Rattle.mama_bridge.specs.Links.{SubLeaves, sub_seen, end_outs}

@@ -1,5 +1,4 @@
-use Rattle.std.proofs.Common.{◌≡◌, rules, ap, ◌∙◌, sym, subst, map, ◌++◌}
-use Rattle.mama_event.specs.Arrival.{piece_of}
+use Rattle.std.proofs.Common.{◌≡◌, rules, ap, ◌∙◌, subst, map}
 use Rattle.mama_event.specs.declared.wire.PieceMsg.{PieceMsg}
 use Rattle.mama_bridge.specs.Links.{sub_seen, Each, HoldsIf}
 use Rattle.mama_bridge.specs.Linked.{Linked, subs_in}

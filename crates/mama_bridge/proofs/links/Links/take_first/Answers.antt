@@ -1,5 +1,5 @@
 use Rattle.std.specs.Prelude.{option_to_list}
-use Rattle.std.proofs.Common.{◌≡◌, ◌+◌, ◌++◌, ◌∷◌, sym, ◌∙◌, ap, subst, set, get_or, None, Some}
+use Rattle.std.proofs.Common.{◌≡◌, ◌+◌, ◌++◌, ◌∷◌, sym, ◌∙◌, ap, subst, set, None, Some}
 use Rattle.std.specs.declared.option.Option.{Option}
 use Rattle.mama_bridge.specs.Placed.{present}
 use Rattle.mama_bridge.specs.Linked.{Linked, IsNoted, subs_in}

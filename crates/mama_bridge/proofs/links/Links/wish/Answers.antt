@@ -1,6 +1,5 @@
 use Rattle.std.proofs.Common.{ap, ◌∙◌, subst, map, set}
 use Rattle.std.proofs.lemmas.Result.{on_ok_weaker, on_err_weaker}
-use Rattle.mama_laws_bridge.specs.Table.{of_sub}
 use Rattle.mama_bridge.specs.Links.{SubWishes, sub_seen, wish_outs, wished_once}
 use Rattle.mama_bridge.specs.Linked.{Linked, entry_seen, entry_sub, subs_in}
 use Rattle.mama_bridge.specs.Placed.{present}
