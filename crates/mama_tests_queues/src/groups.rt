@@ -149,31 +149,40 @@ fn a_stale_member_that_ended_does_not_count(rt: HostRuntime) -> Result<(), Fail>
 }
 
 // A gap, which an update behind it leaves, and the recap that heals the image. Then a quality that goes and comes in one turn.
-#[test]
-fn a_state_follows_all_callbacks_of_its_turn(rt: HostRuntime) -> Result<(), Fail> {
-    let alloc = rt.alloc();
-    let mut table = two_groups(alloc)?;
-    hear(alloc, &mut table, THIRD, message(alloc, Quality::Ok))?;
+fn hear_turns(alloc: Global, table: &mut GroupTable<SilentGroup>) -> Result<(), Fail> {
+    hear(alloc, table, THIRD, message(alloc, Quality::Ok))?;
     let gap = Callback::Gap { first: 2, to: 2 };
     let request = Callback::RecapRequest { sender: 1 };
     let update = message(alloc, Quality::Stale);
     let missed = vec![in alloc; gap, quality(Quality::Stale), request, update]?;
-    hear_all(alloc, &mut table, THIRD, missed)?;
+    hear_all(alloc, table, THIRD, missed)?;
     let recap = message(alloc, Quality::Ok);
-    hear_all(
-        alloc,
-        &mut table,
-        THIRD,
-        vec![in alloc; recap, quality(Quality::Ok)]?,
-    )?;
+    let healed = vec![in alloc; recap, quality(Quality::Ok)]?;
+    hear_all(alloc, table, THIRD, healed)?;
     let both = vec![in alloc; quality(Quality::Stale), quality(Quality::Ok)]?;
-    hear_all(alloc, &mut table, THIRD, both)?;
-    hear_all(alloc, &mut table, THIRD, Vec::new(alloc))?;
-    assert_eq!(rt; table.heard(THIRD), 9);
+    hear_all(alloc, table, THIRD, both)?;
+    hear_all(alloc, table, THIRD, Vec::new(alloc))
+}
+
+// Whether the last group heard these notes, in order, and its listener so many callbacks.
+fn is_last_told(parts: &[(u32, Vec<GroupNote>, SilentGroup)], letters: &str, count: u64) -> bool {
+    match parts.last() {
+        Some((_, notes, listener)) => {
+            are_notes(notes.as_slice(), letters) && listener.count() == count
+        }
+        None => false,
+    }
+}
+
+#[test]
+fn a_state_follows_all_callbacks_of_its_turn(rt: HostRuntime) -> Result<(), Fail> {
+    let mut table = two_groups(rt.alloc())?;
+    let turns = hear_turns(rt.alloc(), &mut table);
+    let heard = table.heard(THIRD);
     let parts = table.into_parts();
-    let (_, notes, listener) = parts.last().expect(&rt, "a group");
-    assert!(rt; are_notes(notes.as_slice(), "2f2222s22f22"));
-    assert_eq!(rt; listener.count(), 12);
+    turns?;
+    assert_eq!(rt; heard, 9);
+    assert!(rt; is_last_told(parts.as_slice(), "2f2222s22f22", 12));
     Ok(())
 }
 
@@ -206,17 +215,23 @@ fn a_subscription_in_no_group_is_not_heard(rt: HostRuntime) -> Result<(), Fail> 
     Ok(())
 }
 
+// A turn of each member, and two more of which the last ends the third.
+fn hear_each(alloc: Global, table: &mut GroupTable<SilentGroup>) -> Result<(), Fail> {
+    hear(alloc, table, SECOND, message(alloc, Quality::Ok))?;
+    hear(alloc, table, THIRD, message(alloc, Quality::Ok))?;
+    hear(alloc, table, FIRST, message(alloc, Quality::Stale))?;
+    hear(alloc, table, SECOND, quality(Quality::Ok))?;
+    hear(alloc, table, THIRD, Callback::Destroy)
+}
+
 #[test]
 fn each_group_tells_its_own_listener(rt: HostRuntime) -> Result<(), Fail> {
-    let alloc = rt.alloc();
-    let mut table = two_groups(alloc)?;
-    hear(alloc, &mut table, SECOND, message(alloc, Quality::Ok))?;
-    hear(alloc, &mut table, THIRD, message(alloc, Quality::Ok))?;
-    hear(alloc, &mut table, FIRST, message(alloc, Quality::Stale))?;
-    hear(alloc, &mut table, SECOND, quality(Quality::Ok))?;
-    hear(alloc, &mut table, THIRD, Callback::Destroy)?;
-    assert_eq!(rt; table.heard(SECOND), 2);
+    let mut table = two_groups(rt.alloc())?;
+    let turns = hear_each(rt.alloc(), &mut table);
+    let heard = table.heard(SECOND);
     let parts = table.into_parts();
+    turns?;
+    assert_eq!(rt; heard, 2);
     let wanted = [(4, 4, "10s1"), (7, 4, "2f2e")];
     assert_eq!(rt; parts.len(), 2);
     for ((number, notes, listener), (group, count, letters)) in parts.iter().zip(wanted.iter()) {

@@ -26,6 +26,20 @@ const TIMER: TimerId = TimerId {
     number: 0,
 };
 
+/// A queue that is served, and what it puts.
+#[derive(Drop)]
+struct Served<L: Listener> {
+    serving: Serving<L>,
+    out: Outbox<ToService<ObjectId>>,
+}
+
+fn opened<L: Listener>(alloc: Global, number: u32) -> Served<L> {
+    Served {
+        serving: Serving::new(alloc, number),
+        out: Outbox::new(alloc),
+    }
+}
+
 // The subscription, with a listener that ends it in its callback of this number.
 fn create(
     rt: &impl Abort,
@@ -84,12 +98,11 @@ fn broken<L>(alloc: Global, seq: u32) -> Result<ToQueue<L>, Fail> {
 // Takes an event that may come. What the turn was comes as a letter and a number.
 fn took<L: Listener>(
     rt: &impl Abort,
-    serving: &mut Serving<L>,
+    queue: &mut Served<L>,
     event: ToQueue<L>,
-    out: &mut Outbox<ToService<ObjectId>>,
 ) -> Result<(char, u64), Fail> {
-    assert!(rt; serving.may_take(&event));
-    Ok(letter(take(serving, 0, event, out)?))
+    assert!(rt; queue.serving.may_take(&event));
+    Ok(letter(take(&mut queue.serving, 0, event, &mut queue.out)?))
 }
 
 fn letter<L: Listener>(turn: Turn<L>) -> (char, u64) {
@@ -116,71 +129,117 @@ fn put_letter(put: Option<ToService<ObjectId>>) -> char {
     }
 }
 
-#[test]
-fn a_muted_subscription_gets_its_notice_alone(rt: HostRuntime) -> Result<(), Fail> {
-    let alloc = rt.alloc();
-    let mut serving = Serving::new(alloc, 3);
-    let mut out = Outbox::new(alloc);
-    let event = create(&rt, alloc, SubKind::Basic, 2)?;
-    assert_eq!(rt; took(&rt, &mut serving, event, &mut out)?, ('c', 1));
-    let first = deliver(alloc, MsgKind::Initial, 0)?;
-    assert_eq!(rt; took(&rt, &mut serving, first, &mut out)?, ('c', 1));
-    let second = deliver(alloc, MsgKind::Update, 1)?;
-    assert_eq!(rt; took(&rt, &mut serving, second, &mut out)?, ('m', 0));
-    let third = broken(alloc, 2)?;
-    assert_eq!(rt; took(&rt, &mut serving, third, &mut out)?, ('m', 0));
-    let gone = ToQueue::Gone {
+// What was put first, which is taken out, by a letter.
+fn next_put<L: Listener>(queue: &mut Served<L>) -> char {
+    put_letter(queue.out.take_first())
+}
+
+// The subscription's Gone.
+fn gone<L>() -> ToQueue<L> {
+    ToQueue::Gone {
         slot: 0,
         object: OBJECT,
-    };
-    assert_eq!(rt; took(&rt, &mut serving, gone, &mut out)?, ('e', 3));
-    assert_eq!(rt; put_letter(out.take_first()), 'l');
-    assert!(rt; out.is_empty());
-    assert_eq!(rt; serving.calls_of(&OBJECT)?.len(), 3);
-    assert_eq!(rt; serving.into_journal().len(), 5);
+    }
+}
+
+// The callbacks that were made of the subscription.
+fn calls_made<L: Listener>(queue: &Served<L>) -> Result<usize, Fail> {
+    Ok(queue.serving.calls_of(&OBJECT)?.len())
+}
+
+// Serves a subscription that its listener ends in its second callback, to its Gone.
+fn mute(rt: &impl Abort, alloc: Global, queue: &mut Served<PlanListener>) -> Result<(), Fail> {
+    let event = create(rt, alloc, SubKind::Basic, 2)?;
+    assert_eq!(rt; took(rt, queue, event)?, ('c', 1));
+    let first = deliver(alloc, MsgKind::Initial, 0)?;
+    assert_eq!(rt; took(rt, queue, first)?, ('c', 1));
+    let second = deliver(alloc, MsgKind::Update, 1)?;
+    assert_eq!(rt; took(rt, queue, second)?, ('m', 0));
+    let third = broken(alloc, 2)?;
+    assert_eq!(rt; took(rt, queue, third)?, ('m', 0));
+    assert_eq!(rt; took(rt, queue, gone())?, ('e', 3));
+    assert_eq!(rt; next_put(queue), 'l');
+    assert!(rt; queue.out.is_empty());
+    assert_eq!(rt; calls_made(queue)?, 3);
+    Ok(())
+}
+
+// How much a queue took that serves no more.
+fn taken_by<L: Listener>(queue: Served<L>) -> usize {
+    let Served { serving, out: _ } = queue;
+    serving.into_journal().len()
+}
+
+#[test]
+fn a_muted_subscription_gets_its_notice_alone(rt: HostRuntime) -> Result<(), Fail> {
+    let mut queue = opened(rt.alloc(), 3);
+    let muted = mute(&rt, rt.alloc(), &mut queue);
+    let taken = taken_by(queue);
+    muted?;
+    assert_eq!(rt; taken, 5);
+    Ok(())
+}
+
+fn finish(rt: &impl Abort, queue: &mut Served<PlanListener>) -> Result<(), Fail> {
+    assert_eq!(rt; queue.serving.queue(), 3);
+    assert_eq!(rt; took(rt, queue, ToQueue::Fin)?, ('r', 0));
+    assert!(rt; queue.out.is_empty());
+    assert_eq!(rt; took(rt, queue, ToQueue::Fin)?, ('f', 0));
+    assert_eq!(rt; next_put(queue), 'b');
+    assert_eq!(rt; next_put(queue), 't');
+    assert_eq!(rt; next_put(queue), '-');
     Ok(())
 }
 
 #[test]
 fn the_second_fin_says_bye(rt: HostRuntime) -> Result<(), Fail> {
-    let alloc = rt.alloc();
-    let mut serving: Serving<PlanListener> = Serving::new(alloc, 3);
-    let mut out = Outbox::new(alloc);
-    assert_eq!(rt; serving.queue(), 3);
-    assert_eq!(rt; took(&rt, &mut serving, ToQueue::Fin, &mut out)?, ('r', 0));
-    assert!(rt; out.is_empty());
-    assert_eq!(rt; took(&rt, &mut serving, ToQueue::Fin, &mut out)?, ('f', 0));
-    assert_eq!(rt; put_letter(out.take_first()), 'b');
-    assert_eq!(rt; put_letter(out.take_first()), 't');
-    assert_eq!(rt; put_letter(out.take_first()), '-');
-    Ok(())
+    let mut queue = opened(rt.alloc(), 3);
+    finish(&rt, &mut queue)
 }
 
-#[test]
-fn a_live_market_subscription_has_an_image(rt: HostRuntime) -> Result<(), Fail> {
-    let alloc = rt.alloc();
-    let mut serving = Serving::new(alloc, 0);
-    let mut out = Outbox::new(alloc);
-    let event = create(&rt, alloc, SubKind::Market, 9)?;
-    let _made = took(&rt, &mut serving, event, &mut out)?;
-    assert!(rt; serving.row(SUB).is_none());
+// Whether the subscription has an image that begins so.
+fn has_image<L: Listener>(queue: &Served<L>, wanted: ImageHead) -> bool {
+    match queue.serving.row(SUB) {
+        Some(image) => image.head == wanted,
+        None => false,
+    }
+}
+
+fn has_no_image<L: Listener>(queue: &Served<L>) -> bool {
+    queue.serving.row(SUB).is_none()
+}
+
+// Whether the subscription left an image that begins so.
+fn has_left<L: Listener>(queue: &Served<L>, wanted: ImageHead) -> Result<bool, Fail> {
+    match queue.serving.image_of(SUB)? {
+        Some((head, _body)) => Ok(head == wanted),
+        None => Ok(false),
+    }
+}
+
+// Serves a market subscription to its Gone.
+fn show(rt: &impl Abort, alloc: Global, queue: &mut Served<PlanListener>) -> Result<(), Fail> {
+    let event = create(rt, alloc, SubKind::Market, 9)?;
+    let _made = took(rt, queue, event)?;
+    assert!(rt; has_no_image(queue));
     let first = deliver(alloc, MsgKind::Initial, 7)?;
-    let _first = took(&rt, &mut serving, first, &mut out)?;
+    let _first = took(rt, queue, first)?;
     let wanted = ImageHead {
         sender: 1,
         last: 7,
         quality: Quality::Ok,
     };
-    assert!(rt; serving.row(SUB).expect(&rt, "an image").head == wanted);
-    let gone = ToQueue::Gone {
-        slot: 0,
-        object: OBJECT,
-    };
-    let _gone = took(&rt, &mut serving, gone, &mut out)?;
-    assert!(rt; serving.row(SUB).is_none());
-    let (head, _body) = serving.image_of(SUB)?.expect(&rt, "an image");
-    assert!(rt; head == wanted);
+    assert!(rt; has_image(queue, wanted));
+    let _gone = took(rt, queue, gone())?;
+    assert!(rt; has_no_image(queue));
+    assert!(rt; has_left(queue, wanted)?);
     Ok(())
+}
+
+#[test]
+fn a_live_market_subscription_has_an_image(rt: HostRuntime) -> Result<(), Fail> {
+    let mut queue = opened(rt.alloc(), 0);
+    show(&rt, rt.alloc(), &mut queue)
 }
 
 // A timer, with a listener that gives an order so many times in its callback of this number.
@@ -226,51 +285,60 @@ fn tick() -> ToQueue<Orderer> {
     }
 }
 
-#[test]
-fn one_that_stops_itself_is_muted(rt: HostRuntime) -> Result<(), Fail> {
-    let mut serving = Serving::new(rt.alloc(), 0);
-    let mut out = Outbox::new(rt.alloc());
+fn stop_itself(rt: &impl Abort, queue: &mut Served<Orderer>) -> Result<(), Fail> {
     let armed = arm(Order::Disarm(TIMER), 1, 1);
-    assert_eq!(rt; took(&rt, &mut serving, armed, &mut out)?, ('c', 1));
-    assert_eq!(rt; took(&rt, &mut serving, tick(), &mut out)?, ('m', 0));
+    assert_eq!(rt; took(rt, queue, armed)?, ('c', 1));
+    assert_eq!(rt; took(rt, queue, tick())?, ('m', 0));
     let gone = ToQueue::Gone {
         slot: 1,
         object: ObjectId::Timer(TIMER),
     };
-    assert_eq!(rt; took(&rt, &mut serving, gone, &mut out)?, ('e', 2));
+    assert_eq!(rt; took(rt, queue, gone)?, ('e', 2));
+    Ok(())
+}
+
+#[test]
+fn one_that_stops_itself_is_muted(rt: HostRuntime) -> Result<(), Fail> {
+    let mut queue = opened(rt.alloc(), 0);
+    stop_itself(&rt, &mut queue)
+}
+
+// Serves the subscription beside a timer that ends it eight times in its first tick.
+fn stop_other(rt: &impl Abort, alloc: Global, queue: &mut Served<Orderer>) -> Result<(), Fail> {
+    let _live = took(rt, queue, quiet())?;
+    let _armed = took(rt, queue, arm(Order::Stop(SUB), 2, 8))?;
+    let first = deliver(alloc, MsgKind::Initial, 0)?;
+    assert_eq!(rt; took(rt, queue, first)?, ('c', 1));
+    assert!(rt; queue.out.is_empty());
+    assert_eq!(rt; took(rt, queue, tick())?, ('c', 1));
+    for _ in 0..8u32 {
+        assert_eq!(rt; next_put(queue), 'l');
+    }
+    assert!(rt; queue.out.is_empty());
+    let second = deliver(alloc, MsgKind::Update, 1)?;
+    assert_eq!(rt; took(rt, queue, second)?, ('m', 0));
     Ok(())
 }
 
 #[test]
 fn one_that_lives_is_stopped_by_another(rt: HostRuntime) -> Result<(), Fail> {
-    let alloc = rt.alloc();
-    let mut serving = Serving::new(alloc, 0);
-    let mut out = Outbox::new(alloc);
-    let _live = took(&rt, &mut serving, quiet(), &mut out)?;
-    let _armed = took(&rt, &mut serving, arm(Order::Stop(SUB), 2, 8), &mut out)?;
+    let mut queue = opened(rt.alloc(), 0);
+    stop_other(&rt, rt.alloc(), &mut queue)
+}
+
+// Serves the subscription, which comes behind a timer that ended it.
+fn stop_before(rt: &impl Abort, alloc: Global, queue: &mut Served<Orderer>) -> Result<(), Fail> {
+    let _armed = took(rt, queue, arm(Order::Stop(SUB), 1, 1))?;
+    let _live = took(rt, queue, quiet())?;
     let first = deliver(alloc, MsgKind::Initial, 0)?;
-    assert_eq!(rt; took(&rt, &mut serving, first, &mut out)?, ('c', 1));
-    assert!(rt; out.is_empty());
-    assert_eq!(rt; took(&rt, &mut serving, tick(), &mut out)?, ('c', 1));
-    for _ in 0..8u32 {
-        assert_eq!(rt; put_letter(out.take_first()), 'l');
-    }
-    assert!(rt; out.is_empty());
-    let second = deliver(alloc, MsgKind::Update, 1)?;
-    assert_eq!(rt; took(&rt, &mut serving, second, &mut out)?, ('m', 0));
+    assert_eq!(rt; took(rt, queue, first)?, ('c', 1));
     Ok(())
 }
 
 #[test]
 fn one_that_comes_later_is_not_stopped(rt: HostRuntime) -> Result<(), Fail> {
-    let alloc = rt.alloc();
-    let mut serving = Serving::new(alloc, 0);
-    let mut out = Outbox::new(alloc);
-    let _armed = took(&rt, &mut serving, arm(Order::Stop(SUB), 1, 1), &mut out)?;
-    let _live = took(&rt, &mut serving, quiet(), &mut out)?;
-    let first = deliver(alloc, MsgKind::Initial, 0)?;
-    assert_eq!(rt; took(&rt, &mut serving, first, &mut out)?, ('c', 1));
-    Ok(())
+    let mut queue = opened(rt.alloc(), 0);
+    stop_before(&rt, rt.alloc(), &mut queue)
 }
 
 // The callbacks that a listener of any type got.

@@ -520,34 +520,55 @@ fn the_second_strategy_keeps_early_updates(rt: HostRuntime) -> Result<(), Fail> 
     play(&rt, rt.alloc(), Strategy::Two, SECOND)
 }
 
+// A step with a message of sender 1 that has its number for a price.
+fn step_by(
+    alloc: Global,
+    context: &mut DqContext,
+    calls: &mut Calls,
+    kind: MsgKind,
+    seq: u32,
+) -> Result<(), Fail> {
+    let msg = MarketMsg {
+        kind,
+        sender: 1,
+        seq,
+        body: body(alloc, seq, 0)?,
+    };
+    context.step(&msg, calls)?;
+    Ok(())
+}
+
+// So many updates, which are cached, and then the image before them. How many callbacks it makes.
+fn step_all(
+    rt: &impl Abort,
+    alloc: Global,
+    context: &mut DqContext,
+    calls: &mut Calls,
+    most: u32,
+) -> Result<usize, Fail> {
+    for seq in 1..=most {
+        step_by(alloc, context, calls, MsgKind::Update, seq)?;
+    }
+    assert!(rt; calls.is_empty());
+    assert_eq!(rt; context.last(), 0);
+    assert_eq!(rt; context.sender(), 0);
+    step_by(alloc, context, calls, MsgKind::Initial, 0)?;
+    assert_eq!(rt; context.last(), most);
+    Ok(calls.len())
+}
+
+// How many callbacks are made by the image before so many updates, for which there is the largest cache.
+fn told_of(rt: &impl Abort, alloc: Global, most: u32) -> Result<usize, Fail> {
+    let mut context = DqContext::new(alloc, SubKind::Market, 4096, Strategy::One);
+    let mut calls = Calls::new(alloc);
+    step_all(rt, alloc, &mut context, &mut calls, most)
+}
+
 #[test]
 fn the_largest_cache_drops_the_lowest_number(rt: HostRuntime) -> Result<(), Fail> {
     for (most, lines) in [(4096, 4097), (4097, 4100)] {
-        let alloc = rt.alloc();
-        let mut context = DqContext::new(alloc, SubKind::Market, 4096, Strategy::One);
-        let mut calls = Calls::new(alloc);
-        for seq in 1..=most {
-            let msg = MarketMsg {
-                kind: MsgKind::Update,
-                sender: 1,
-                seq,
-                body: body(alloc, seq, 0)?,
-            };
-            context.step(&msg, &mut calls)?;
-        }
-        assert!(rt; calls.is_empty());
-        assert_eq!(rt; context.last(), 0);
-        assert_eq!(rt; context.sender(), 0);
-        let first = MarketMsg {
-            kind: MsgKind::Initial,
-            sender: 1,
-            seq: 0,
-            body: body(alloc, 0, 0)?,
-        };
-        context.step(&first, &mut calls)?;
         // each cached update, the first image, and of a gap three callbacks more
-        assert_eq!(rt; calls.len(), lines, "of {most}");
-        assert_eq!(rt; context.last(), most);
+        assert_eq!(rt; told_of(&rt, rt.alloc(), most)?, lines, "of {most}");
     }
     Ok(())
 }
