@@ -2,6 +2,7 @@ use mama_dq::{
     Action, Callback, Calls, DqContext, MarketMsg, Msg, MsgKind, Phase, Quality, Relation,
     Strategy, SubKind, decide,
 };
+use mama_memory::OutOfMemory;
 use mama_msg::{Field, Name, Value};
 use std::alloc::Global;
 use std::process::Abort;
@@ -520,6 +521,15 @@ fn the_second_strategy_keeps_early_updates(rt: HostRuntime) -> Result<(), Fail> 
     play(&rt, rt.alloc(), Strategy::Two, SECOND)
 }
 
+// A step that is told no clause.
+fn step_once(
+    context: &mut DqContext,
+    calls: &mut Calls,
+    msg: &MarketMsg,
+) -> Result<(), OutOfMemory> {
+    context.step(msg, calls)
+}
+
 // A step with a message of sender 1 that has its number for a price.
 fn step_by(
     alloc: Global,
@@ -534,8 +544,7 @@ fn step_by(
         seq,
         body: body(alloc, seq, 0)?,
     };
-    context.step(&msg, calls)?;
-    Ok(())
+    Ok(step_once(context, calls, &msg)?)
 }
 
 // So many updates, which are cached, and then the image before them. How many callbacks it makes.
