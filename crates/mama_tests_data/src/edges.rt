@@ -19,6 +19,25 @@ fn some_bytes(alloc: Global, count: usize) -> Result<Vec<u8>, AllocError> {
     Ok(bytes)
 }
 
+// A sink of this room that takes pieces of 100 bytes, and fails at the calls of these numbers.
+fn sink_of(alloc: Global, room: usize, failing: &[u64]) -> Result<MemorySink, Fail> {
+    Ok(MemorySink::new(alloc, room, 100, Vec::from_slice(alloc, failing)?)?)
+}
+
+// Writes a text; no clause is told.
+fn write_to(sink: &mut MemorySink, text: &[u8]) -> Result<(), WriteFault> {
+    write_all_counted(sink, text)
+}
+
+// Whether a sink takes a text, or so many bytes of it before the fault.
+fn takes(sink: &mut MemorySink, text: &[u8], fault: Option<u64>) -> bool {
+    let (wanted, front) = match fault {
+        Some(written) => (Err(WriteFault { written }), text.get(..written as usize)),
+        None => (Ok(()), Some(text)),
+    };
+    write_to(sink, text) == wanted && Some(sink.written()) == front
+}
+
 #[test]
 fn writes_up_to_a_fault(rt: HostRuntime) -> Result<(), Fail> {
     let alloc = rt.alloc();
@@ -34,32 +53,15 @@ fn writes_up_to_a_fault(rt: HostRuntime) -> Result<(), Fail> {
         (400, [4].as_slice(), Some(300)),
     ];
     for (room, failing, fault) in cases {
-        let failing = Vec::from_slice(alloc, failing)?;
-        let mut sink = MemorySink::new(alloc, room, 100, failing)?;
-        let answer = write_all_counted(&mut sink, &text);
-        let written = fault.unwrap_or(400);
-        match fault {
-            Some(_) => assert_eq!(rt; answer, Err(WriteFault { written }), "room {room}"),
-            None => assert_eq!(rt; answer, Ok(()), "room {room}"),
-        }
-        assert_eq!(rt;
-            Some(sink.written()),
-            text.get(..written as usize),
-            "room {room}"
-        );
+        let mut sink = sink_of(alloc, room, failing)?;
+        assert!(rt; takes(&mut sink, &text, fault), "room {room}");
     }
-    assert_eq!(rt;
-        copied(alloc, Vec::from_slice(alloc, &text)?)?.as_slice(),
-        text.as_slice()
-    );
+    assert!(rt; is_copied(alloc, &text)?);
     assert!(rt; written(alloc, &text)?.is_none());
     assert!(rt; written(alloc, b"mama")?.is_some());
     let mut full = MemorySink::new(alloc, 0, 1, Vec::new(alloc))?;
-    assert_eq!(rt; write_all_counted(&mut full, b""), Ok(()));
-    assert_eq!(rt;
-        write_all_counted(&mut full, b"a"),
-        Err(WriteFault { written: 0 })
-    );
+    assert_eq!(rt; write_to(&mut full, b""), Ok(()));
+    assert_eq!(rt; write_to(&mut full, b"a"), Err(WriteFault { written: 0 }));
     Ok(())
 }
 
@@ -134,6 +136,11 @@ fn copied(alloc: Global, bytes: Vec<u8>) -> Result<Vec<u8>, ReadAll>
     read_all(alloc, &mut source, limit)
 }
 
+// Whether a copy by way of a source has the same bytes.
+fn is_copied(alloc: Global, text: &[u8]) -> Result<bool, Fail> {
+    Ok(copied(alloc, Vec::from_slice(alloc, text)?)?.as_slice() == text)
+}
+
 // A sink over memory with the text, if that has 100 bytes at most.
 fn written(alloc: Global, text: &[u8]) -> Result<Option<MemorySink>, OutOfMemory>
     ensures { IfOk result (λ answer. IfSome answer (λ sink. sink.written ≡ text.now)) }
@@ -192,36 +199,47 @@ impl Write for Shaky {
     }
 }
 
-#[test]
-fn adapts_readers_and_writers(rt: HostRuntime) -> Result<(), Fail> {
-    let alloc = rt.alloc();
-    let text: &[u8] = b"mama script 1\n";
+// The bytes that come of a text by way of a reader.
+fn read_by(alloc: Global, text: &[u8]) -> Result<Vec<u8>, ReadAll> {
     let mut source = StdSource::new(text);
-    let read = read_all(alloc, &mut source, text.len())?;
-    assert_eq!(rt; read.as_slice(), text);
+    read_all(alloc, &mut source, text.len())
+}
 
+// The bytes that come of a text by way of a writer.
+fn written_by(alloc: Global, text: &[u8]) -> Result<Vec<u8>, WriteFault> {
     let mut out = Vec::new(alloc);
     let mut sink = StdSink::new(&mut out);
     write_all_counted(&mut sink, text)?;
-    assert_eq!(rt; out.as_slice(), text);
+    Ok(out)
+}
 
+// Why at most five bytes of a reader that fails at this call are not all.
+fn read_fault(alloc: Global, failing: u32) -> Option<ReadAll> {
+    let mut source = StdSource::new(Shaky::new(failing));
+    read_all(alloc, &mut source, 5).err()
+}
+
+fn write_fault(text: &[u8], failing: u32) -> Result<(), WriteFault> {
+    let mut sink = StdSink::new(Shaky::new(failing));
+    write_all_counted(&mut sink, text)
+}
+
+#[test]
+fn adapts_readers_and_writers(rt: HostRuntime) -> Result<(), Fail> {
+    let text: &[u8] = b"mama script 1\n";
+    assert_eq!(rt; read_by(rt.alloc(), text)?.as_slice(), text);
+    assert_eq!(rt; written_by(rt.alloc(), text)?.as_slice(), text);
     for (failing, error) in [
         (0, ReadAll::TooLong),
         (7, ReadAll::TooLong),
         (6, ReadAll::ReadFault),
         (1, ReadAll::ReadFault),
     ] {
-        let mut source = StdSource::new(Shaky::new(failing));
-        assert_eq!(rt;
-            read_all(alloc, &mut source, 5).err(),
-            Some(error),
-            "{failing}"
-        );
+        assert_eq!(rt; read_fault(rt.alloc(), failing), Some(error), "{failing}");
     }
     for (failing, written) in [(0, 3), (4, 3), (3, 2), (1, 0)] {
-        let mut sink = StdSink::new(Shaky::new(failing));
         assert_eq!(rt;
-            write_all_counted(&mut sink, text),
+            write_fault(text, failing),
             Err(WriteFault { written }),
             "{failing}"
         );

@@ -154,15 +154,25 @@ fn messages_pass_in_order_but_for_the_rows(rt: HostRuntime) -> Result<(), Fail> 
     Ok(())
 }
 
+// Passes an item that was prepared. How many items that puts, and whether it puts none.
+fn pass_one(
+    link: &mut Link<Item>,
+    out: &mut Outbox<Item>,
+    number: u32,
+) -> Result<(usize, bool), OutOfMemory> {
+    let prepared = link.prepare(&make_item(number))?;
+    let puts = (prepared.len(), prepared.is_empty());
+    out.reserve(prepared.len())?;
+    link.pass_prepared(prepared, out);
+    Ok(puts)
+}
+
 #[test]
 fn what_was_prepared_passes(rt: HostRuntime) -> Result<(), Fail> {
     let mut link = link_of(rt.alloc(), "hold 1 2,hold 2 1,dup 3")?;
     let mut out = Outbox::new(rt.alloc());
     for (number, len, held) in [(1, 0, 1), (2, 0, 2), (3, 4, 0), (4, 1, 0)] {
-        let prepared = link.prepare(&make_item(number))?;
-        assert_eq!(rt; (prepared.len(), prepared.is_empty()), (len, len == 0));
-        out.reserve(prepared.len())?;
-        link.pass_prepared(prepared, &mut out);
+        assert_eq!(rt; pass_one(&mut link, &mut out, number)?, (len, len == 0));
         assert_eq!(rt; link.held(), held);
     }
     assert_eq!(rt; drained(rt.alloc(), &mut out)?.as_str(), " 3 3 1 2 4");
