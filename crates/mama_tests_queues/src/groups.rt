@@ -1,8 +1,8 @@
 //! Groups of a queue, told by hand what turns called back.
 
 use mama_event::{
-    CallNote, Callback, GroupNote, GroupRow, GroupState, MarketMsg, Members, MsgKind, Quality,
-    SubId,
+    CallNote, Callback, GivenOrders, GroupNote, GroupRow, GroupState, MarketMsg, Members, MsgKind,
+    Quality, SubId,
 };
 use mama_group::{GroupListener, GroupTable, SilentGroup};
 use mama_msg::Msg;
