@@ -23,7 +23,7 @@ use Rattle.mama_plain.specs.declared.replay.NoReplay.{NoReplay}
 use Rattle.mama_plain.specs.declared.replay.NoReplay.TheVariants as n
 use Rattle.mama_plain.proofs.PartLemmas.{cut_makes_text}
 use Rattle.mama_plain.proofs.AnswerLemmas.{FaultsAreTold, no_verdict_at_line}
-use Rattle.mama_plain.proofs.VerdictLemmas.{tells_only, judged_text}
+use Rattle.mama_plain.proofs.VerdictLemmas.{tells_only, told_text, judged_text}
 
 -- ---- the parts are the text
 
@@ -91,7 +91,7 @@ pub no_replay_of_run : (script : ScriptData) (front log : List ℕ) (run : RunDa
 no_replay_of_run script front log run (n.Text cause) accepted spelled read h = subst (λ (c : NoVerdict). IsNoVerdict front (Some log) c) (sym h) tt
 no_replay_of_run script front log run (n.NotLegal rule actor) accepted spelled read h = (
   verdict_text (verdict.NotLegal rule actor),
-  judged_text script front log (verdict.NotLegal rule actor) accepted spelled (record { run = run; logged = read.logged; version = read.version; known = read.known; whole = read.whole; only = read.only; judged = h }),
+  judged_text (joined_at_log front log) script run (verdict.NotLegal rule actor) (told_text script front log run accepted spelled read) h,
 )
 no_replay_of_run script front log run (n.NotCausal actor entry) accepted spelled read h = record { read = legal_log script front log run accepted spelled read h.0; causal = h.1; stuck = h.2 }
 

@@ -12,12 +12,14 @@ use Rattle.mama_record.specs.RunData.{RunData}
 use Rattle.mama_record.specs.LogText.{line, log_text}
 use Rattle.mama_log_read.specs.Logged.{HasLog, IsLogged}
 use Rattle.mama_log_read.specs.Unfit.{IsFirstUnfit, Unfit}
+use Rattle.mama_check.specs.Verdict.{Judges}
 use Rattle.mama_check.specs.declared.verdict.Verdict.{Verdict}
 use Rattle.mama_check.specs.declared.verdict.Verdict.TheVariants as verdict
 use Rattle.mama_script.specs.Reading.{script_in}
 use Rattle.mama_plain.specs.Parts.{cut_at_log, before_cut, script_part, line_count}
 use Rattle.mama_plain.specs.Verdict.{IsChecked, TellsOnly, IsVerdictOf, IsBadLog, verdict_text}
-use Rattle.mama_plain.specs.Judging.{IsJudged}
+use Rattle.mama_plain.specs.Judging.{IsToldBy}
+use Rattle.mama_plain.specs.Unreplayed.{IsRead}
 use Rattle.mama_plain.specs.Causes.{answer_in}
 use Rattle.mama_plain.specs.declared.status.Status.TheVariants as status
 use Rattle.mama_plain.proofs.PartLemmas.{cut_makes_text, script_is_cut}
@@ -96,23 +98,34 @@ tells_only script text log run accepted whole only s v r is known logged told =
     let fits : Fits script log v r = same_fits s script log v r same known logged parts.1 in
     (script_is s script same, sym (only v r fits.known fits.logged fits.whole))
 
-pub judged_text : (script : ScriptData) (front log : List ℕ) (v : Verdict) → IsScript script → front ≡ script_text script → IsJudged script log v
-    → IsVerdictOf (front ++ (line (codes "log") ++ log)) v (verdict_text v)
-judged_text script front log v accepted spelled j =
+pub told_text : (script : ScriptData) (front log : List ℕ) (run : RunData) → IsScript script → front ≡ script_text script → IsRead script log run
+    → IsToldBy (front ++ (line (codes "log") ++ log)) script run
+told_text script front log run accepted spelled r =
     let text : List ℕ = front ++ (line (codes "log") ++ log) in
     let whole : text ≡ script_text script ++ (line (codes "log") ++ log) = ap (λ (t : List ℕ). t ++ (line (codes "log") ++ log)) spelled in
     record {
-      script = script;
       accepted = accepted;
-      run = j.run;
-      logged = j.logged;
-      version = j.version;
-      known = j.known;
-      whole = whole ∙ ap (λ (t : List ℕ). script_text script ++ (line (codes "log") ++ t)) j.whole;
-      only = tells_only script text log j.run accepted whole j.only;
-      judged = j.judged;
-      told = refl;
+      logged = r.logged;
+      version = r.version;
+      known = r.known;
+      whole = whole ∙ ap (λ (t : List ℕ). script_text script ++ (line (codes "log") ++ t)) r.whole;
+      only = tells_only script text log run accepted whole r.only;
     }
+
+-- the verdict on the record that a text tells is that on the text
+pub judged_text : (text : List ℕ) (script : ScriptData) (run : RunData) (v : Verdict) → IsToldBy text script run → Judges script run v → IsVerdictOf text v (verdict_text v)
+judged_text text script run v t judged = record {
+  script = script;
+  accepted = t.accepted;
+  run = run;
+  logged = t.logged;
+  version = t.version;
+  known = t.known;
+  whole = t.whole;
+  only = t.only;
+  judged = judged;
+  told = refl;
+}
 
 -- what was written, where the answer is Ok
 pub legal_answer : (text out : List ℕ) (old new : Option (List ℕ)) (v : Verdict) → answer_in v ≡ status.Ok → IsVerdictOf text v out → Appended old new out

@@ -17,7 +17,8 @@ ghost use Rattle.mama_check.specs.declared.verdict.Verdict.TheVariants as verdic
 ghost use Rattle.mama_plain.specs.Parts as parts;
 ghost use Rattle.mama_plain.specs.Verdict.{IsChecked, IsVerdictOf, IsBadLog};
 ghost use Rattle.mama_plain.specs.Verdict as said;
-ghost use Rattle.mama_plain.specs.Judging.{IsJudged, IsNoVerdict};
+ghost use Rattle.mama_plain.specs.Judging.{IsToldBy, IsNoVerdict};
+ghost use Rattle.mama_plain.specs.Unreplayed.{IsRead};
 ghost use Rattle.mama_plain.specs.Causes.{answer_in};
 ghost use Rattle.mama_plain.specs.Answers.{GaveAll, OnSilent};
 
@@ -28,6 +29,7 @@ use mama_check::{Actor, Verdict, check};
 use mama_edge::{ReadAll, Sink, Source, print_u64, read_all, write_all_counted};
 use mama_log_read::{LogFault, parse_log};
 use mama_memory::OutOfMemory;
+use mama_record::RunRecord;
 use mama_script::{Script, ScriptFault, first_fault_is_told, parse};
 use mama_words::print_object_id;
 use std::alloc::Global;
@@ -75,22 +77,22 @@ pub(crate) fn judge_input<S: Source, K: Sink>(alloc: Global, source: &mut S, sin
         Err(ReadAll::TooLong) => return Status::OverLimit { line: 0, limit: 1 },
         Err(ReadAll::OutOfMemory) => return Status::OutOfMemory,
     };
-    write_verdict(alloc, text.as_slice(), sink)
+    write_verdict(alloc, text, sink)
 }
 
 /// Writes the verdict on a text, which is a script, a line `log`, and a log.
-fn write_verdict<K: Sink>(alloc: Global, text: &[u8], sink: &mut K) -> Status
+fn write_verdict<K: Sink>(alloc: Global, text: Vec<u8>, sink: &mut K) -> Status
     ensures words { result ≢ Status.BadWords }
     ensures read { result ≢ Status.ReadFault }
     ensures write_fault { (written : ℕ) → result ≡ Status.WriteFault written → Rose (K.faults sink.old) (K.faults sink.new) }
-    ensures bad_script { (line fault : ℕ) → result ≡ Status.BadScript line fault → script_in (parts.script_part text.now) ≡ Err (script_fault.Bad line fault) }
-    ensures over_limit { (line limit : ℕ) → result ≡ Status.OverLimit line limit → (line ≢ 0) × (script_in (parts.script_part text.now) ≡ Err (script_fault.OverLimit line limit)) }
-    ensures bad_log { (line : ℕ) → result ≡ Status.BadLog line → IsBadLog (parts.script_part text.now) (parts.log_part text.now) line }
-    ensures fitting { IsChecked text.now → (line : ℕ) → result ≢ Status.BadLog line }
-    ensures legal { result ≡ Status.Ok → (causal : Bool) × (out : List ℕ) × IsVerdictOf text.now (verdicts.Legal causal) out × Appended (K.written sink.old) (K.written sink.new) out }
-    ensures not_legal { (rule : ℕ) (actor : Actor) → result ≡ Status.NotLegal rule actor → (out : List ℕ) × IsVerdictOf text.now (verdicts.NotLegal rule actor) out
+    ensures bad_script { (line fault : ℕ) → result ≡ Status.BadScript line fault → script_in (parts.script_part text.items) ≡ Err (script_fault.Bad line fault) }
+    ensures over_limit { (line limit : ℕ) → result ≡ Status.OverLimit line limit → (line ≢ 0) × (script_in (parts.script_part text.items) ≡ Err (script_fault.OverLimit line limit)) }
+    ensures bad_log { (line : ℕ) → result ≡ Status.BadLog line → IsBadLog (parts.script_part text.items) (parts.log_part text.items) line }
+    ensures fitting { IsChecked text.items → (line : ℕ) → result ≢ Status.BadLog line }
+    ensures legal { result ≡ Status.Ok → (causal : Bool) × (out : List ℕ) × IsVerdictOf text.items (verdicts.Legal causal) out × Appended (K.written sink.old) (K.written sink.new) out }
+    ensures not_legal { (rule : ℕ) (actor : Actor) → result ≡ Status.NotLegal rule actor → (out : List ℕ) × IsVerdictOf text.items (verdicts.NotLegal rule actor) out
         × Appended (K.written sink.old) (K.written sink.new) out }
-    ensures part { (written : ℕ) → result ≡ Status.WriteFault written → (verdict : Verdict) × (out : List ℕ) × IsVerdictOf text.now verdict out
+    ensures part { (written : ℕ) → result ≡ Status.WriteFault written → (verdict : Verdict) × (out : List ℕ) × IsVerdictOf text.items verdict out
         × (written < length out) × Appended (K.written sink.old) (K.written sink.new) (take written out) }
     ensures silent { OnSilent result (sink.new ≡ sink.old) }
     ensures causal { (actor : Actor) (entry : ℕ) → result ≢ Status.NotCausal actor entry }
@@ -144,14 +146,31 @@ fn answer_of(verdict: Verdict) -> Status
     }
 }
 
-/// The verdict on a text, or why there is none.
-fn verdict_of(alloc: Global, text: &[u8]) -> Result<Verdict, NoVerdict>
-    ensures verdict { IfOk result (λ verdict. IsVerdictOf text.now verdict (said.verdict_text verdict)) }
+/// The verdict on a text, or why there is none. The text is let go before the record is judged, which wants the most memory.
+fn verdict_of(alloc: Global, text: Vec<u8>) -> Result<Verdict, NoVerdict>
+    ensures verdict { IfOk result (λ verdict. IsVerdictOf text.items verdict (said.verdict_text verdict)) }
+    ensures cause { IfErr result (λ cause. IsNoVerdict (parts.script_part text.items) (parts.log_part text.items) cause) }
+    ensures fitting { IsChecked text.items → (line : ℕ) → result ≢ Err (NoVerdict.Log line) }
+{
+    let (script, run) = match read_text(alloc, text.as_slice()) {
+        Ok(read) => read,
+        Err(cause) => return Err(cause),
+    };
+    drop(text);
+    match check(alloc, &script, &run) {
+        Ok(verdict) => Ok(verdict),
+        Err(OutOfMemory) => Err(NoVerdict::Memory),
+    }
+}
+
+/// The script and the record that a text tells, or why it tells none.
+fn read_text(alloc: Global, text: &[u8]) -> Result<(Script, RunRecord), NoVerdict>
+    ensures read { IfOk result (λ read. IsToldBy text.now read.0 read.1) }
     ensures cause { IfErr result (λ cause. IsNoVerdict (parts.script_part text.now) (parts.log_part text.now) cause) }
     ensures fitting { IsChecked text.now → (line : ℕ) → result ≢ Err (NoVerdict.Log line) }
 {
     match cut_at_log(text) {
-        Some((front, log)) => verdict_on(alloc, front, log),
+        Some((front, log)) => read_parts(alloc, front, log),
         None => Err(without_log(alloc, text)),
     }
 }
@@ -168,10 +187,10 @@ pub(crate) fn without_log(alloc: Global, text: &[u8]) -> NoVerdict
     }
 }
 
-/// The verdict on a log behind the lines of a script, or why there is none.
-fn verdict_on(alloc: Global, front: &[u8], log: &[u8]) -> Result<Verdict, NoVerdict>
+/// The script and the record, where a log stands behind the lines of a script.
+fn read_parts(alloc: Global, front: &[u8], log: &[u8]) -> Result<(Script, RunRecord), NoVerdict>
     requires { length front.now + length log.now + 2 < 2 ^ 64 }
-    ensures verdict { IfOk result (λ verdict. IsVerdictOf (front.now ++ (texts.line (codes "log") ++ log.now)) verdict (said.verdict_text verdict)) }
+    ensures read { IfOk result (λ read. IsToldBy (front.now ++ (texts.line (codes "log") ++ log.now)) read.0 read.1) }
     ensures cause { IfErr result (λ cause. IsNoVerdict front.now (Some log.now) cause) }
     ensures fitting { (script : ScriptData) (run : RunData) → IsScript script → front.now ≡ script_text script → IsLogged script run
         → (v : Version) → HasLog script v → log.now ≡ texts.log_text v script.shape run → (line : ℕ) → result ≢ Err (NoVerdict.Log line) }
@@ -180,8 +199,8 @@ fn verdict_on(alloc: Global, front: &[u8], log: &[u8]) -> Result<Verdict, NoVerd
         Ok(script) => script,
         Err(fault) => return Err(NoVerdict::Script(fault)),
     };
-    match judge(alloc, &script, log) {
-        Ok(verdict) => Ok(verdict),
+    match told_by(alloc, &script, log) {
+        Ok(run) => Ok((script, run)),
         Err(LogFault::Bad { line }) => Err(NoVerdict::Log {
             line: line_count(front) + 1 + line,
         }),
@@ -189,19 +208,15 @@ fn verdict_on(alloc: Global, front: &[u8], log: &[u8]) -> Result<Verdict, NoVerd
     }
 }
 
-/// The verdict on a log of a script, or the first line of the log that does not fit.
-fn judge(alloc: Global, script: &Script, log: &[u8]) -> Result<Verdict, LogFault>
-    ensures verdict { IfOk result (IsJudged script.now log.now) }
+/// The record that a log of a script tells, or the first line of the log that does not fit.
+pub(crate) fn told_by(alloc: Global, script: &Script, log: &[u8]) -> Result<RunRecord, LogFault>
+    ensures read { IfOk result (IsRead script.now log.now) }
     ensures unfit { IfErr result (λ fault. IfBad fault (IsFirstUnfit script.now log.now)) }
     ensures fitting { (v : Version) (run : RunData) → HasLog script.now v → IsLogged script.now run → log.now ≡ texts.log_text v script.now.shape run → IfErr result OnlyMemory }
 {
-    let run = match parse_log(alloc, script, log) {
-        Ok(run) => run,
-        Err(fault) => return Err(fault),
-    };
-    match check(alloc, script, &run) {
-        Ok(verdict) => Ok(verdict),
-        Err(OutOfMemory) => Err(LogFault::OutOfMemory),
+    match parse_log(alloc, script, log) {
+        Ok(run) => Ok(run),
+        Err(fault) => Err(fault),
     }
 }
 

@@ -10,7 +10,6 @@ ghost use Rattle.mama_script.specs.declared.fault.ScriptFault.TheVariants as scr
 ghost use Rattle.mama_record.specs.RunData.{RunData};
 ghost use Rattle.mama_record.specs.LogText as texts;
 ghost use Rattle.mama_log_read.specs.Logged.{HasLog, IsLogged};
-ghost use Rattle.mama_log_read.specs.Unfit.{IsFirstUnfit, IfBad, OnlyMemory};
 ghost use Rattle.mama_rules_legal.specs.Form.{IsFormed};
 ghost use Rattle.mama_rules_legal.specs.Legal.{IsLegal};
 ghost use Rattle.mama_check.specs.declared.verdict.Actor.{Actor};
@@ -19,16 +18,16 @@ ghost use Rattle.mama_plain.specs.Parts as parts;
 ghost use Rattle.mama_plain.specs.Verdict.{IsChecked, IsVerdictOf, IsBadLog};
 ghost use Rattle.mama_plain.specs.Answers.{GaveAll, OnUnwritten};
 ghost use Rattle.mama_plain.specs.Replayed.{IsReplayed, IsUnfollowed, steps_text};
-ghost use Rattle.mama_plain.specs.Unreplayed.{begins_in_two, IsRead, IsFollowed, IsFollowedBy, IsNotFollowed, IsNoReplay};
+ghost use Rattle.mama_plain.specs.Unreplayed.{begins_in_two, IsFollowed, IsFollowedBy, IsNotFollowed, IsNoReplay};
 
-use crate::check::{NoVerdict, status_of, without_log};
+use crate::check::{NoVerdict, status_of, told_by, without_log};
 use crate::parts::{cut_at_log, line_count};
 use crate::run::MOST_INPUT;
 use crate::status::Status;
 use crate::steps::put_steps;
 use mama_check::{Actor, Verdict, check};
 use mama_edge::{ReadAll, Sink, Source, read_all, write_all_counted};
-use mama_log_read::{LogFault, parse_log};
+use mama_log_read::LogFault;
 use mama_memory::OutOfMemory;
 use mama_record::{RunRecord, print_log};
 use mama_replay::{ReplayFault, Step, replay};
@@ -168,18 +167,6 @@ fn log_replayed(alloc: Global, front: &[u8], log: &[u8]) -> Result<Vec<u8>, NoRe
             line: line_count(front) + 1 + line,
         })),
         Err(LogFault::OutOfMemory) => Err(NoReplay::Text(NoVerdict::Memory)),
-    }
-}
-
-/// The record that a log of a script tells, or the first line of the log that does not fit.
-fn told_by(alloc: Global, script: &Script, log: &[u8]) -> Result<RunRecord, LogFault>
-    ensures read { IfOk result (IsRead script.now log.now) }
-    ensures unfit { IfErr result (λ fault. IfBad fault (IsFirstUnfit script.now log.now)) }
-    ensures fitting { (v : Version) (run : RunData) → HasLog script.now v → IsLogged script.now run → log.now ≡ texts.log_text v script.now.shape run → IfErr result OnlyMemory }
-{
-    match parse_log(alloc, script, log) {
-        Ok(run) => Ok(run),
-        Err(fault) => Err(fault),
     }
 }
 

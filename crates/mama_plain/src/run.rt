@@ -247,27 +247,27 @@ fn play_input<S: Source, K: Sink, C: Clock>(
         Err(ReadAll::TooLong) => return Status::OverLimit { line: 0, limit: 1 },
         Err(ReadAll::OutOfMemory) => return Status::OutOfMemory,
     };
-    write_log(alloc, text.as_slice(), sink, clock)
+    write_log(alloc, text, sink, clock)
 }
 
 /// Plays the script that a text spells, and writes its log.
-fn write_log<K: Sink, C: Clock>(alloc: Global, text: &[u8], sink: &mut K, clock: &mut C) -> Status
-    requires { length text.now ≤ 67108864 }
+fn write_log<K: Sink, C: Clock>(alloc: Global, text: Vec<u8>, sink: &mut K, clock: &mut C) -> Status
+    requires { length text.items ≤ 67108864 }
     ensures words { result ≢ Status.BadWords }
     ensures read { result ≢ Status.ReadFault }
     ensures write_fault { (written : ℕ) → result ≡ Status.WriteFault written → Rose (K.faults sink.old) (K.faults sink.new) }
-    ensures bad_script { (line fault : ℕ) → result ≡ Status.BadScript line fault → script_in text.now ≡ Err (script.Bad line fault) }
-    ensures over_limit { (line limit : ℕ) → result ≡ Status.OverLimit line limit → (line ≢ 0) × (script_in text.now ≡ Err (script.OverLimit line limit)) }
+    ensures bad_script { (line fault : ℕ) → result ≡ Status.BadScript line fault → script_in text.items ≡ Err (script.Bad line fault) }
+    ensures over_limit { (line limit : ℕ) → result ≡ Status.OverLimit line limit → (line ≢ 0) × (script_in text.items ≡ Err (script.OverLimit line limit)) }
     ensures bad_log { (line : ℕ) → result ≢ Status.BadLog line }
     ensures not_legal { (rule : ℕ) (actor : Actor) → result ≢ Status.NotLegal rule actor }
     ensures causal { (actor : Actor) (entry : ℕ) → result ≢ Status.NotCausal actor entry }
-    ensures ok { result ≡ Status.Ok → (log : List ℕ) × IsLogOf (C.left clock.old) (C.left clock.new) text.now log
+    ensures ok { result ≡ Status.Ok → (log : List ℕ) × IsLogOf (C.left clock.old) (C.left clock.new) text.items log
         × Appended (K.written sink.old) (K.written sink.new) log }
-    ensures part { (written : ℕ) → result ≡ Status.WriteFault written → (log : List ℕ) × IsLogOf (C.left clock.old) (C.left clock.new) text.now log
+    ensures part { (written : ℕ) → result ≡ Status.WriteFault written → (log : List ℕ) × IsLogOf (C.left clock.old) (C.left clock.new) text.items log
         × (written < length log) × Appended (K.written sink.old) (K.written sink.new) (take written log) }
     ensures silent { OnSilent result (sink.new ≡ sink.old) }
     ensures unplayed { OnUnplayed result (clock.new ≡ clock.old) }
-    ensures called { (clock.new ≡ clock.old) ⊎ IsAccepted text.now }
+    ensures called { (clock.new ≡ clock.old) ⊎ IsAccepted text.items }
 {
     let log = match log_of(alloc, text, clock) {
         Ok(log) => log,
@@ -284,18 +284,19 @@ fn write_log<K: Sink, C: Clock>(alloc: Global, text: &[u8], sink: &mut K, clock:
     }
 }
 
-/// The log of the script that the text spells, or why there is none.
-fn log_of<C: Clock>(alloc: Global, text: &[u8], clock: &mut C) -> Result<Vec<u8>, NoLog>
-    requires { length text.now ≤ 67108864 }
-    ensures log { IfOk result (λ log. IsLogOf (C.left clock.old) (C.left clock.new) text.now log.items) }
-    ensures cause { IfErr result (λ cause. IsCause text.now cause) }
+/// The log of the script that the text spells, or why there is none. The text is let go before the script is played.
+fn log_of<C: Clock>(alloc: Global, text: Vec<u8>, clock: &mut C) -> Result<Vec<u8>, NoLog>
+    requires { length text.items ≤ 67108864 }
+    ensures log { IfOk result (λ log. IsLogOf (C.left clock.old) (C.left clock.new) text.items log.items) }
+    ensures cause { IfErr result (λ cause. IsCause text.items cause) }
     ensures unplayed { (fault : ScriptFault) → result ≡ Err (NoLog.Script fault) → clock.new ≡ clock.old }
-    ensures called { (clock.new ≡ clock.old) ⊎ IsAccepted text.now }
+    ensures called { (clock.new ≡ clock.old) ⊎ IsAccepted text.items }
 {
-    let script = match parse(alloc, text) {
+    let script = match parse(alloc, text.as_slice()) {
         Ok(script) => script,
         Err(fault) => return Err(NoLog::Script(fault)),
     };
+    drop(text);
     let run = match play(alloc, &script, clock) {
         Ok(run) => run,
         Err(OutOfMemory) => return Err(NoLog::Memory),

@@ -1,20 +1,12 @@
-use Rattle.std.proofs.Common.{ℕ, List, IfOk, sym, subst, arith}
-use Rattle.mama_plain.specs.Verdict.{IsVerdictOf, verdict_text}
-use Rattle.mama_plain.proofs.PartLemmas.{cut_makes_text}
-use Rattle.mama_plain.proofs.VerdictLemmas.{parts_within, checked_parts, checked_has_log}
+use Rattle.std.proofs.Common.{List, ℕ, subst}
+use Rattle.mama_plain.specs.Judging.{IsToldBy}
+use Rattle.mama_plain.proofs.VerdictLemmas.{judged_text}
 use Rattle.mama_plain.proofs.check.verdict_of.Goals as goal
 
-pub verdict_on-requires : goal.verdict_on-requires
-verdict_on-requires c = omega (arith, parts_within c.args.text.now c.in-Some.front.now c.in-Some.log.now c.in-Some.ensures)
+pub check-requires : goal.check-requires
+check-requires c = c.in-Ok.ensures.read.logged.formed
 
-pub returns-in-Some-clause-verdict : goal.returns-in-Some-clause-verdict
-returns-in-Some-clause-verdict c =
-    subst (λ (text : List ℕ). IfOk c.verdict_on.result (λ verdict. IsVerdictOf text verdict (verdict_text verdict))) (sym (cut_makes_text c.args.text.now c.in-Some.front.now c.in-Some.log.now (sym c.in-Some.ensures)))
-    c.verdict_on.ensures.verdict
-
-pub returns-in-Some-clause-fitting : goal.returns-in-Some-clause-fitting
-returns-in-Some-clause-fitting c = λ checked.
-    let p = checked_parts c.args.text.now c.in-Some.front.now c.in-Some.log.now c.in-Some.ensures checked in c.verdict_on.ensures.fitting p.script p.run p.accepted p.spelled p.logged p.version p.known p.whole
-
-pub returns-in-None-clause-fitting : goal.returns-in-None-clause-fitting
-returns-in-None-clause-fitting c = λ checked. absurd (checked_has_log c.args.text.now c.in-None.ensures checked)
+pub returns-in-Ok-check-clause-verdict : goal.returns-in-Ok-check-clause-verdict
+returns-in-Ok-check-clause-verdict c =
+    judged_text c.args.text.items c.in-Ok.read.0 c.in-Ok.read.1 c.in-Ok-check.verdict
+    (subst (λ (text : List ℕ). IsToldBy text c.in-Ok.read.0 c.in-Ok.read.1) c.as_slice.ensures.value c.in-Ok.ensures.read) c.in-Ok-check.ensures.exact
